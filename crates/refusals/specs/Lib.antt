@@ -1,0 +1,2 @@
+-- The definitions of the crate `refusals`.
+pub mod Numbers
