@@ -13,7 +13,9 @@ use Rattle.refusals.specs.declared.Refusal.{Refusal}
 use Rattle.refusals.specs.declared.Refusal.the-variants.{Short as NoMore}
 use Rattle.fields.specs.Bits.{number}
 use Rattle.fields.specs.Got.{Got, got, refused, must}
-use Rattle.fields.specs.Field.{field, holds}
+use Rattle.fields.specs.Field.{field, holds, gotOf}
+use Rattle.fields.specs.declared.Field.{Field}
+use Rattle.fields.specs.declared.Field.the-variants.{Value, Short}
 use Rattle.fields.proofs.BitsLaws.{bitsOf-length, number-lt}
 
 pub holds-of-le : (s : List ℕ) (k w : ℕ) → k + w ≤ 8 * length s → holds s k w ≡ true
@@ -67,6 +69,13 @@ read-by s k w v q false h e =
     let n : ⊥ = omega arith in
     absurd n
 
-pub field-read : (s : List ℕ) (k w : ℕ) {v q : ℕ} → got v q ≡ field s k w → Field-read s k w v q
+pub field-read : (s : List ℕ) (k w : ℕ) {v q : ℕ} → field s k w ≡ got v q → Field-read s k w v q
 unfolding field
-field-read s k w {v} {q} e = read-by s k w v q (holds s k w) refl e
+field-read s k w {v} {q} e = read-by s k w v q (holds s k w) refl (sym e)
+
+-- The code's answer told by its case.
+pub field-value : {g : Got ℕ} {r : Field} {v q : ℕ} → gotOf r ≡ g → r ≡ Value v q → g ≡ got v q
+field-value e d = sym e ∙ ap gotOf d
+
+pub field-short : {g : Got ℕ} {r : Field} → gotOf r ≡ g → r ≡ Short → g ≡ refused NoMore
+field-short e d = sym e ∙ ap gotOf d

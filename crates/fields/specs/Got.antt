@@ -1,6 +1,7 @@
 -- What reading from a position gives, and how readings join: document 01, 'The table file', "Fields are read in order,
 -- .. each checked once whole, and the first fault decides." Assumes nothing: definitions.
-use Prim.Native.Nat.{ℕ}
+use Prim.Native.Nat.{ℕ, zero, suc}
+use mathlib.Core.List.{List, [], _∷_, _++_}
 use mathlib.Core.Bool.{Bool, true, false}
 use Rattle.refusals.specs.declared.Refusal.{Refusal}
 
@@ -23,3 +24,8 @@ must false r g = refused r
 unfoldable pub pick : {A : Type 0} → Bool → A → A → A
 pick true a b = a
 pick false a b = b
+
+-- n things more, one after the other, after those of xs. How one is read may depend on those before it.
+unfoldable pub many : {A : Type 0} → (List A → ℕ → Got A) → ℕ → ℕ → List A → Got (List A)
+many f zero at xs = got xs at
+many f (suc n) at xs = then (f xs at) (λ x p. many f n p (xs ++ (x ∷ [])))
