@@ -1,6 +1,8 @@
 -- Laws of two's complement: what the code's steps from 64 bits to a signed number give. Assumes nothing.
+use Prim.{Dec, yes, no}
 use Prim.Native.Nat.{ℕ, zero, suc, _-_, _^_, _<_, _≤_}
 use mathlib.Core.Path.{_≡_, refl, ap, _∙_}
+use native.Mathlib.Decide.{decLt}
 use native.Mathlib.Omega.{arith}
 use lib.IntN.{ℤ, pos, negsuc, negℤ, _-ℤ_, +ℤ-idl, -ℤ-one}
 use lib.Signed.{mag}
@@ -43,3 +45,17 @@ module _ (m : ℕ) (h : m < 2 ^ 63) where
 
   pub lowered : toZ w64 (ofZ w64 (toZ w64 (ofZ w64 (pos 0 -ℤ toZ w64 m)) -ℤ pos 1)) ≡ negsuc m
   lowered = toZ-ofZ w64 _ lowered-fits ∙ lower
+
+fits-by : (v : ℕ) → v < 2 ^ 64 → Dec (v < 2 ^ 63) → SFits w64 (signed v)
+fits-by v h (yes l) = record { sfits = rw (signed-when-small v l) l }
+fits-by v h (no n) =
+    let l : 2 ^ 63 ≤ v = omega arith in
+    let m : 2 ^ 64 - 1 - v < 2 ^ 63 = omega arith in
+    record { sfits = rw (signed-when-large v l) m }
+
+pub signed-fits : (v : ℕ) → v < 2 ^ 64 → SFits w64 (signed v)
+signed-fits v h = fits-by v h (decLt v (2 ^ 63))
+
+-- What an array of signed numbers keeps of one.
+pub signed-kept : (v : ℕ) → v < 2 ^ 64 → toZ w64 (ofZ w64 (signed v)) ≡ signed v
+signed-kept v h = toZ-ofZ w64 (signed v) (signed-fits v h)
