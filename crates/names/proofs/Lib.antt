@@ -1,0 +1,3 @@
+-- The laws of the crate `names`.
+pub mod NameLaws
+pub mod EntryLaws

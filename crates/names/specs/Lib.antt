@@ -1,0 +1,3 @@
+-- The definitions of the crate `names`.
+pub mod Name
+pub mod Entries
