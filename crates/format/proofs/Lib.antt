@@ -1,0 +1,4 @@
+-- The laws of the crate `format`.
+pub mod SignedLaws
+pub mod ArraysLaws
+pub mod ReadingLaws
