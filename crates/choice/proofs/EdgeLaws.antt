@@ -65,7 +65,7 @@ module _ (M : ℕ) (s : State) (c : ℕ) (r : Row) where
   abbrev all-below : Bool
   all-below = allOf (below (getD (s .ranks) c 0) (s .ranks)) (r .children)
 
-  pub edge-true : isEdge M s c r ≡ true → EdgeRow
+  pub edge-true : isEdge M (s .costs) (s .ranks) c r ≡ true → EdgeRow
   unfolding isEdge
   edge-true e =
       let b = getD (s .ranks) c 0 in
@@ -80,7 +80,7 @@ module _ (M : ℕ) (s : State) (c : ℕ) (r : Row) where
             (λ k h. ltb-true (childRank (s .ranks) k) b h) (r .children) (all-each (below b (s .ranks)) (r .children) (t .1));
       }
 
-  pub true-edge : EdgeRow → isEdge M s c r ≡ true
+  pub true-edge : EdgeRow → isEdge M (s .costs) (s .ranks) c r ≡ true
   unfolding isEdge
   true-edge e =
       let b = getD (s .ranks) c 0 in
@@ -110,10 +110,10 @@ module _ (M : ℕ) (s : State) (c : ℕ) (r : Row) where
 
 module _ (M : ℕ) (rows : List Row) (s : State) (fixed : Fixed M rows s) (g : Sourced M rows s) (c : ℕ)
     (k : 0 < getD (s .ranks) c 0) (h : getD (s .costs) c 0 < M) where
-  edge-found : Found (isEdge M s c) rows (edgeOf M s rows c)
+  edge-found : Found (isEdge M (s .costs) (s .ranks) c) rows (edgeOf M s rows c)
   edge-found =
       let e = exact M rows s fixed g c k h in
-      first-row-holds (isEdge M s c) rows (e .row) (e .has)
+      first-row-holds (isEdge M (s .costs) (s .ranks) c) rows (e .row) (e .has)
       (true-edge M s c (e .row) (record { output = e .output; all-priced = e .all-priced; cost = e .cost; lower = e .lower }))
 
   pub edge-row : EdgeRow M s c (rowAt rows (edgeOf M s rows c))

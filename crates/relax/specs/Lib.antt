@@ -1,0 +1,2 @@
+-- The definitions of the crate `relax`: rows out of flat lists.
+pub mod Flat
