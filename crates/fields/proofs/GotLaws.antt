@@ -45,6 +45,19 @@ many-all f P keep zero at xs h = all-got h
 many-all f P keep (suc n) at xs h =
     all-then (f xs at) _ (λ x p e. many-all f P keep n p (xs ++ (x ∷ [])) (all-at (rw e at (keep xs at h))))
 
+count-by : {A : Type 0} (f : List A → ℕ → Got A) (n m at : ℕ) (xs : List A) → length xs + n ≡ m
+    → All (λ ys k. length ys ≡ m) (many f n at xs)
+unfolding many
+count-by f zero m at xs e =
+    let h : length xs ≡ m = omega arith in
+    all-got h
+count-by f (suc n) m at xs e =
+    all-then (f xs at) _ (λ x p _. count-by f n m p (xs ++ (x ∷ [])) (simp length-append (omega arith)))
+
+-- As many things as were asked for.
+pub many-length : {A : Type 0} (f : List A → ℕ → Got A) (n at : ℕ) {xs : List A} {k : ℕ} → many f n at [] ≡ got xs k → length xs ≡ n
+many-length f n at e = all-at (rw e at (count-by f n n at [] (omega arith)))
+
 -- The loop over n things from position at: i of them, those of xs, are read up to p, and the rest gives what the whole gives.
 pub record Loop {A : Type 0} (f : List A → ℕ → Got A) (n at p i : ℕ) (xs : List A) : Type 0 where
   pub some : length xs ≡ i
