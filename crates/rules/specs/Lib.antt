@@ -3,3 +3,5 @@ pub mod Classes
 pub mod Rows
 pub mod Order
 pub mod Terms
+pub mod Facts
+pub mod Choosing
