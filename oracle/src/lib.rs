@@ -7,12 +7,16 @@
 extern crate self as egglog_ast;
 
 mod ast;
+pub mod bare;
 mod core;
 pub mod egglog_bridge;
 mod egraph;
 pub mod faults;
+pub mod modes;
 pub mod program;
 pub mod reader;
+pub mod record;
+pub mod smallest;
 mod sort;
 pub mod tally;
 pub mod terms;

@@ -65,6 +65,12 @@ pub fn checked(input: &[u8]) -> Result<Outcome, String> {
 
 /// The answer as the Rust gives it, a fault of its own included.
 pub fn by_the_rust(input: &[u8]) -> Result<Vec<u8>, Stop> {
+    let out = output(input)?;
+    if out.len() > OUTPUT_ROOM { Err(Refusal::NoRoom.into()) } else { Ok(out) }
+}
+
+/// The same, of any length.
+pub fn output(input: &[u8]) -> Result<Vec<u8>, Stop> {
     let mut bits = Bits::new(input);
     let mode = bits.take(2)?;
     if mode == 3 {
@@ -78,14 +84,10 @@ pub fn by_the_rust(input: &[u8]) -> Result<Vec<u8>, Stop> {
         return Err(Refusal::BadRoot.into());
     }
     let root = Root { sort, value: Value(value as u32) };
-    let out = match mode {
-        1 => variants(input, &file, &root, n)?,
-        _ => best(input, &file, &root, mode == 0)?,
-    };
-    if out.len() > OUTPUT_ROOM {
-        return Err(Refusal::NoRoom.into());
+    match mode {
+        1 => variants(input, &file, &root, n),
+        _ => best(input, &file, &root, mode == 0),
     }
-    Ok(out)
 }
 
 struct Root {

@@ -50,9 +50,11 @@ fn script(title: &'static str, text: &str, answer: &str) -> Edge {
 }
 
 pub fn all() -> Vec<Edge> {
+    let example = worked_example();
+    assert!(example.len() == 3 + 47 && example[3..7] == [0x11, 0x40, 0x30, 0x04], "not document 01's 47 bytes");
     let mut edges = vec![Edge {
         title: "the worked example",
-        asked: Asked::Input(worked_example()),
+        asked: Asked::Input(example),
         answer: "best 14 4 2\n(let t0 (Add (Num 5) (Num 5)))\n\n(Add t0 t0)\n".into(),
     }];
     edges.extend(loops());

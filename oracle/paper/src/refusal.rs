@@ -51,6 +51,12 @@ impl Refusal {
         !matches!(self, Refusal::BadTerm | Refusal::Absent | Refusal::BadStore)
     }
 
+    /// Whether a call on a term store can give it.
+    pub fn of_store(self) -> bool {
+        use Refusal::*;
+        matches!(self, BadSize | BadName | NoRoom | BadTerm | Absent | BadStore)
+    }
+
     /// The program's whole output for it.
     pub fn line(self) -> Vec<u8> {
         format!("refused {}\n", self.number()).into_bytes()
