@@ -6,4 +6,3 @@ pub mod RowLaws
 pub mod PassLaws
 pub mod RepeatLaws
 pub mod EdgeLaws
-pub mod FillLaws

@@ -21,31 +21,31 @@ loop-holds c =
     pass-begins (rowsOf (a .outputs .now) (a .heads .now) (a .starts .now) (a .children .now)) (stateOf (a .costs .now) (a .ranks .now) (a .last))
 
 mul-output : tie.Need-mul-output Inv-loop μ-loop
-mul-output c = search needs
+mul-output c = omega arith
 
 shared-slice-read-output : tie.Need-shared-slice-read-output Inv-loop μ-loop
-shared-slice-read-output c = search needs
+shared-slice-read-output c = omega arith
 
 mul-head : tie.Need-mul-head Inv-loop μ-loop
-mul-head c = search needs
+mul-head c = omega arith
 
 shared-slice-read-head : tie.Need-shared-slice-read-head Inv-loop μ-loop
-shared-slice-read-head c = search needs
+shared-slice-read-head c = omega arith
 
 mul-a : tie.Need-mul-a Inv-loop μ-loop
-mul-a c = search needs
+mul-a c = omega arith
 
 shared-slice-read-a : tie.Need-shared-slice-read-a Inv-loop μ-loop
-shared-slice-read-a c = search needs
+shared-slice-read-a c = omega arith
 
 add-e : tie.Need-add-e Inv-loop μ-loop
-add-e c = search needs
+add-e c = omega arith
 
 mul-e : tie.Need-mul-e Inv-loop μ-loop
-mul-e c = search needs
+mul-e c = omega arith
 
 shared-slice-read-e : tie.Need-shared-slice-read-e Inv-loop μ-loop
-shared-slice-read-e c = search needs
+shared-slice-read-e c = omega arith
 
 mul-relax-row : tie.Need-mul-relax-row Inv-loop μ-loop
 mul-relax-row c =
@@ -71,10 +71,10 @@ relax-row-requires c κs =
     (stateOf (l .costs) (l .ranks) (l .l)) (l .i) (omega arith) (l .inv) (q .0) (q .1 .0) (q .1 .1)
 
 add-i : tie.Need-add-i Inv-loop μ-loop
-add-i c = search needs
+add-i c = omega arith
 
 loop-less : tie.Need-loop-less Inv-loop μ-loop
-loop-less c = search needs
+loop-less c = omega arith
 
 loop-again : tie.Need-loop-again Inv-loop μ-loop
 loop-again c =

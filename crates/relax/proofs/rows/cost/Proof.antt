@@ -24,10 +24,10 @@ loop-holds : tie.Need-loop-holds Inv-loop μ-loop
 loop-holds c = search needs
 
 mul-cost : tie.Need-mul-cost Inv-loop μ-loop
-mul-cost c = search needs
+mul-cost c = omega arith
 
 shared-slice-read-cost : tie.Need-shared-slice-read-cost Inv-loop μ-loop
-shared-slice-read-cost c = search needs
+shared-slice-read-cost c = omega arith
 
 cost-requires : tie.Need-cost-requires Inv-loop μ-loop
 cost-requires c κs = c .before .before .before .before .before .pre (c .before .before .loop .i) (omega arith)
@@ -36,10 +36,10 @@ sat-add-requires : tie.Need-sat-add-requires Inv-loop μ-loop
 sat-add-requires c κs = search needs
 
 add-i : tie.Need-add-i Inv-loop μ-loop
-add-i c = search needs
+add-i c = omega arith
 
 loop-less : tie.Need-loop-less Inv-loop μ-loop
-loop-less c = search needs
+loop-less c = omega arith
 
 loop-again : tie.Need-loop-again Inv-loop μ-loop
 loop-again c =
