@@ -1,0 +1,3 @@
+-- The laws of the crate `writer`.
+pub mod PieceLaws
+pub mod WritingLaws
