@@ -2,3 +2,4 @@
 pub mod SignedLaws
 pub mod ArraysLaws
 pub mod ReadingLaws
+pub mod BlockLaws

@@ -5,5 +5,6 @@ pub mod Literals
 pub mod Functions
 pub mod Rows
 pub mod File
+pub mod Every
 pub mod Arrays
 pub mod Reading
