@@ -3,3 +3,4 @@ pub mod SignedLaws
 pub mod ArraysLaws
 pub mod ReadingLaws
 pub mod BlockLaws
+pub mod FunctionLaws
