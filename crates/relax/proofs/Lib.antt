@@ -6,3 +6,4 @@ pub mod RowLaws
 pub mod PassLaws
 pub mod RepeatLaws
 pub mod EdgeLaws
+pub mod EndLaws

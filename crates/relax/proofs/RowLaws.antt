@@ -22,7 +22,8 @@ module _ (costs ranks kids : List ℕ) (last output head : ℕ) where
 
   module _ (w : ℕ) (k : allOf (priced ranks) (map childOf kids) ≡ true)
       (we : w ≡ min top (head + sumOf (childCost costs) (map childOf kids))) where
-    pub relax-when-first : getD ranks output 0 ≡ 0 → stateOf (set costs output w) (set ranks output (last + 1)) (last + 1) ≡ after
+    pub relax-when-first : getD ranks output 0 ≡ 0
+        → stateOf (set costs output w) (set ranks output (last + 1)) (last + 1) ≡ after
     unfolding relax improves rowCost
     relax-when-first z = rw (k, eq-eqb (getD ranks output 0) 0 z, we, add-one)
 
@@ -31,11 +32,13 @@ module _ (costs ranks kids : List ℕ) (last output head : ℕ) where
     unfolding relax improves rowCost
     relax-when-lower z = go (eqb (getD ranks output 0) 0) refl
       where
-        go : (b : Bool) → eqb (getD ranks output 0) 0 ≡ b → stateOf (set costs output w) (set ranks output (last + 1)) (last + 1) ≡ after
+        go : (b : Bool) → eqb (getD ranks output 0) 0 ≡ b
+            → stateOf (set costs output w) (set ranks output (last + 1)) (last + 1) ≡ after
         go true e = relax-when-first (eqb-true (getD ranks output 0) 0 e)
         go false e = rw (k, e, ← we, z, add-one)
 
-    pub relax-when-kept : (getD ranks output 0 ≡ 0 → ⊥) → ltb w (getD costs output 0) ≡ false → stateOf costs ranks last ≡ after
+    pub relax-when-kept : (getD ranks output 0 ≡ 0 → ⊥) → ltb w (getD costs output 0) ≡ false
+        → stateOf costs ranks last ≡ after
     unfolding relax improves rowCost
     relax-when-kept n z = rw (k, ne-eqb (getD ranks output 0) 0 n, ← we, z)
 

@@ -16,7 +16,8 @@ drop-step xs i h = rw (add-one, drop-cons xs i 0)
 
 module _ (xs : List ℕ) (i : ℕ) where
   module _ (p : Child → Bool) where
-    pub all-goes-on : i < length xs → p (childOf (getD xs i 0)) ≡ true → allOf p (map childOf (drop (i + 1) xs)) ≡ allOf p (map childOf (drop i xs))
+    pub all-goes-on : i < length xs → p (childOf (getD xs i 0)) ≡ true
+        → allOf p (map childOf (drop (i + 1) xs)) ≡ allOf p (map childOf (drop i xs))
     unfolding allOf
     all-goes-on h e = rw (drop-step xs i h, e)
 
@@ -29,7 +30,8 @@ module _ (xs : List ℕ) (i : ℕ) where
     all-ends h l = let e : i ≡ length xs = omega arith in rw (e, drop-length)
 
   module _ (f : Child → ℕ) where
-    pub sum-goes-on : i < length xs → sumOf f (map childOf (drop i xs)) ≡ f (childOf (getD xs i 0)) + sumOf f (map childOf (drop (i + 1) xs))
+    pub sum-goes-on : i < length xs → sumOf f (map childOf (drop i xs)) ≡ f (childOf (getD xs i 0))
+        + sumOf f (map childOf (drop (i + 1) xs))
     unfolding sumOf
     sum-goes-on h = rw (drop-step xs i h)
 

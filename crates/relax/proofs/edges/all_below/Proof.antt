@@ -51,8 +51,11 @@ loop-again c =
     let a = c .before .before .before .before .before .before .before .args in
     let l = c .before .before .before .before .loop in
     let r = childRank (a .ranks .now) (childOf (getD (a .kids .now) (l .i) 0)) in
-    let h : r < a .b = omega (arith, c .before .rank .ensures, c .if1 .left) in
-    (omega arith, all-goes-on (a .kids .now) (l .i) (below (a .b) (a .ranks .now)) (omega arith) (lt-ltb r (a .b) h) ∙ l .inv .1)
+    let h : r < a .b = omega (arith, c .before .rank .ensures, c .if1 .left) in (
+      omega arith,
+      all-goes-on (a .kids .now) (l .i) (below (a .b) (a .ranks .now)) (omega arith) (lt-ltb r (a .b) h)
+          ∙ l .inv .1,
+    )
 
 returns-2 : tie.Need-returns-2 Inv-loop μ-loop
 returns-2 c =

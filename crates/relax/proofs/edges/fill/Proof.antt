@@ -1,4 +1,5 @@
--- `relax::edges::fill` meets its contract: every class has been looked for among the rows before the i-th. Assumes nothing.
+-- `relax::edges::fill` meets its contract: every class has been looked for among the rows before the i-th. Assumes
+-- nothing.
 use Prim.Native.Nat.{_+_, _-_}
 use mathlib.Core.Path.{_≡_, refl}
 use lib.ListN.{length, getD}
@@ -13,7 +14,8 @@ use Rattle.relax.proofs.edges.fill.Tie as tie
 
 abbrev Inv-loop : tie.InvT-loop
 Inv-loop edges₀ costs ranks outputs heads starts children none i₀ edges i =
-    (none ≡ length outputs) × Walked (isEdge top costs ranks) (rowsOf outputs heads starts children) (length ranks) edges i
+    (none ≡ length outputs) × Walked (isEdge top costs ranks) (rowsOf outputs heads starts children) (length ranks)
+    edges i
 
 abbrev μ-loop : tie.MeasureT-loop
 μ-loop edges₀ costs ranks outputs heads starts children none i₀ edges i = length outputs - i
@@ -26,8 +28,10 @@ loop-holds c =
     let a = c .before .before .before .before .before .before .before .before .before .before .before .args in
     let e = c .before .before .clear in (
       refl,
-      flat-walk-begins (a .costs .now) (a .ranks .now) (a .outputs .now) (a .heads .now) (a .starts .now) (a .children .now)
-          (e .last .0) (length (a .edges .now)) (length (a .outputs .now)) refl (c .before .before .before .before .before .before .before .before .before .before .before .pre .0) (e .ensures),
+      flat-walk-begins (a .costs .now) (a .ranks .now) (a .outputs .now) (a .heads .now) (a .starts .now)
+          (a .children .now) (e .last .0) (length (a .edges .now)) (length (a .outputs .now)) refl
+          (c .before .before .before .before .before .before .before .before .before .before .before .pre .0)
+          (e .ensures),
     )
 
 mul-output : tie.Need-mul-output Inv-loop μ-loop
@@ -59,31 +63,43 @@ shared-slice-read-e c = omega arith
 
 mul-mark : tie.Need-mul-mark Inv-loop μ-loop
 mul-mark c =
-    let ok = c .before .before .before .before .before .before .before .before .before .before .before .before .before .before .before .before .before .before .pre .1 .1 in
-    let i = c .before .before .before .before .before .before .loop .i in
-    omega (arith, ok .starts-rise i (omega arith), ok .starts-in i (omega arith))
+    let t = c .before .before .before .before .before .before in
+    let ok = t .before .before .before .before .before .before .before .before .before .before .before .before .pre .1
+    .1 in
+    omega (arith, ok .starts-rise (t .loop .i) (omega arith), ok .starts-in (t .loop .i) (omega arith))
 
 sub-mark : tie.Need-sub-mark Inv-loop μ-loop
-sub-mark c = c .before .before .before .before .before .before .before .before .before .before .before .before .before .before .before .before .before .before .pre .1 .1 .starts-rise (c .before .before .before .before .before .before .loop .i) (omega arith)
+sub-mark c =
+    let t = c .before .before .before .before .before .before in
+    t .before .before .before .before .before .before .before .before .before .before .before .before .pre .1 .1
+    .starts-rise (t .loop .i) (omega arith)
 
 part-mark-start : tie.Need-part-mark-start Inv-loop μ-loop
-part-mark-start c = c .before .before .before .before .before .before .before .before .before .before .before .before .before .before .before .before .before .before .pre .1 .1 .starts-rise (c .before .before .before .before .before .before .loop .i) (omega arith)
+part-mark-start c =
+    let t = c .before .before .before .before .before .before in
+    t .before .before .before .before .before .before .before .before .before .before .before .before .pre .1 .1
+    .starts-rise (t .loop .i) (omega arith)
 
 part-mark-end : tie.Need-part-mark-end Inv-loop μ-loop
-part-mark-end c = c .before .before .before .before .before .before .before .before .before .before .before .before .before .before .before .before .before .before .pre .1 .1 .starts-in (c .before .before .before .before .before .before .loop .i) (omega arith)
+part-mark-end c =
+    let t = c .before .before .before .before .before .before in
+    t .before .before .before .before .before .before .before .before .before .before .before .before .pre .1 .1
+    .starts-in (t .loop .i) (omega arith)
 
 mark-requires : tie.Need-mark-requires Inv-loop μ-loop
 mark-requires c κs =
-    let a = c .before .before .before .before .before .before .before .before .before .before .before .before .before .before .before .before .before .before .before .args in
-    let q = c .before .before .before .before .before .before .before .before .before .before .before .before .before .before .before .before .before .before .before .pre in
-    let l = c .before .before .before .before .before .before .before .loop in (
+    let t = c .before .before .before .before .before .before .before in
+    let a = t .before .before .before .before .before .before .before .before .before .before .before .before .args in
+    let q = t .before .before .before .before .before .before .before .before .before .before .before .before .pre in
+    let l = t .loop in
+    let from = getD (a .starts .now) (l .i) 0 in (
       l .inv .1 .long,
       (
         q .1 .0,
         (
           q .1 .1 .outputs-in (l .i) (omega arith),
-          part-in (length (a .ranks .now)) (getD (a .starts .now) (l .i + 1) 0 - getD (a .starts .now) (l .i) 0)
-              (getD (a .starts .now) (l .i) 0) (a .children .now) (q .1 .1 .children-in),
+          part-in (length (a .ranks .now)) (getD (a .starts .now) (l .i + 1) 0 - from) from (a .children .now)
+              (q .1 .1 .children-in),
         ),
       ),
     )
@@ -96,23 +112,33 @@ loop-less c = omega arith
 
 loop-again : tie.Need-loop-again Inv-loop μ-loop
 loop-again c =
-    let a = c .before .before .before .before .before .before .before .before .before .before .before .before .before .before .before .before .before .before .before .before .before .before .args in
-    let l = c .before .before .before .before .before .before .before .before .before .before .loop in
+    let t = c .before .before .before .before .before .before .before .before .before .before in
+    let a = t .before .before .before .before .before .before .before .before .before .before .before .before .args in
+    let l = t .loop in
     let r = c .before .before .mark in (
       l .inv .0,
-      flat-walk-goes-on (a .costs .now) (a .ranks .now) (a .outputs .now) (a .heads .now) (a .starts .now) (a .children .now)
-          (l .edges) (l .i) (l .inv .1) (length (a .outputs .now)) refl (omega arith) (c .before .before .before .before .before .before .before .before .before .before .before .before .before .before .before .before .before .before .before .before .before .before .pre .1 .1) (r .last .0) (r .ensures),
+      flat-walk-goes-on (a .costs .now) (a .ranks .now) (a .outputs .now) (a .heads .now) (a .starts .now)
+          (a .children .now) (l .edges) (l .i) (l .inv .1) (length (a .outputs .now)) refl (omega arith)
+          (t .before .before .before .before .before .before .before .before .before .before .before .before .pre .1 .1)
+          (r .last .0) (r .ensures),
     )
 
 same-length : tie.Need-same-length Inv-loop μ-loop
 same-length c =
-    let v = c .before .loop .inv .1 in
-    omega (arith, v .long, c .before .before .before .before .before .before .before .before .before .before .before .before .before .pre .0)
+    let t = c .before in
+    let v = t .loop .inv .1 in
+    omega (
+      arith,
+      v .long,
+      t .before .before .before .before .before .before .before .before .before .before .before
+          .before .pre .0,
+    )
 
 returns : tie.Need-returns Inv-loop μ-loop
 returns c =
-    let a = c .before .before .before .before .before .before .before .before .before .before .before .before .before .args in
-    let l = c .before .loop in
+    let t = c .before in
+    let a = t .before .before .before .before .before .before .before .before .before .before .before .before .args in
+    let l = t .loop in
     flat-walk-ends (a .costs .now) (a .ranks .now) (a .outputs .now) (a .heads .now) (a .starts .now) (a .children .now)
     (l .edges) (l .i) (l .inv .1) (omega arith)
 

@@ -52,7 +52,8 @@ returns-3 c =
     let w = c .before .before .before .before .cost in
     c .all-below .ensures
     ∙ edge-when-exact (a .costs .now) (a .ranks .now) (a .kids .now) (a .output) (a .head) (w .result)
-    (sym (p .ensures) ∙ not-false (p .result) (c .before .before .before .before .before .if1 .left)) (w .ensures) (c .before .before .if2 .left)
+    (sym (p .ensures) ∙ not-false (p .result) (c .before .before .before .before .before .if1 .left)) (w .ensures)
+    (c .before .before .if2 .left)
 
 pub is-edge-spec : {M : Type 1} → statement M
 is-edge-spec =

@@ -16,7 +16,8 @@ slice-read-if1 c = omega arith
 returns : tie.Need-returns
 returns c =
     let a = c .before .before .before .before .before .before .args in
-    marked-when-had (isEdge top (a .costs .now) (a .ranks .now)) (a .none) (a .i) (rowOf (a .output) (a .head) (a .kids .now)) (a .edges .now)
+    marked-when-had (isEdge top (a .costs .now) (a .ranks .now)) (a .none) (a .i)
+    (rowOf (a .output) (a .head) (a .kids .now)) (a .edges .now)
     (c .if1 .taken)
 
 is-edge-requires : tie.Need-is-edge-requires
@@ -35,14 +36,16 @@ returns-2 : tie.Need-returns-2
 returns-2 c =
     let a = c .before .before .before .before .before .before .before .before .args in
     let r = c .before .is-edge in
-    marked-when-edge (isEdge top (a .costs .now) (a .ranks .now)) (a .none) (a .i) (rowOf (a .output) (a .head) (a .kids .now)) (a .edges .now)
+    marked-when-edge (isEdge top (a .costs .now) (a .ranks .now)) (a .none) (a .i)
+    (rowOf (a .output) (a .head) (a .kids .now)) (a .edges .now)
     (c .before .before .if1 .left) (r .result) (r .ensures) (c .if2 .taken)
 
 returns-3 : tie.Need-returns-3
 returns-3 c =
     let a = c .before .before .before .before .before .before .before .before .args in
     let r = c .before .is-edge in
-    marked-when-none (isEdge top (a .costs .now) (a .ranks .now)) (a .none) (a .i) (rowOf (a .output) (a .head) (a .kids .now)) (a .edges .now)
+    marked-when-none (isEdge top (a .costs .now) (a .ranks .now)) (a .none) (a .i)
+    (rowOf (a .output) (a .head) (a .kids .now)) (a .edges .now)
     (c .before .before .if1 .left) (r .result) (r .ensures) (c .if2 .left)
 
 pub mark-spec : {M : Type 1} → statement M
