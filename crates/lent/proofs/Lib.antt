@@ -4,3 +4,4 @@ pub mod CopyLaws
 pub mod Values
 pub mod Lending
 pub mod Calling
+pub mod StoreLaws

@@ -25,10 +25,10 @@ use Rattle.lent.specs.Records.{noTerm, Eight, flat, literalsOf, recordsI
 use Rattle.lent.specs.Copies.{AllEight}
 
 -- a record by its fields
-abbrev term : ℕ → ℕ → ℕ → ℤ → List ℕ → Term
+abbrev pub term : ℕ → ℕ → ℕ → ℤ → List ℕ → Term
 term k s c z ks = record { kind = k; symbol = s; count = c; literal = z; children = ks }
 
-same-fields :
+pub same-fields :
     {k k′ s s′ c c′ : ℕ} {ks ks′ : List ℕ} (z : ℤ) → k ≡ k′ → s ≡ s′ → c ≡ c′ → ks ≡ ks′ → term k s c z ks ≡ term k′ s′ c′ z ks′
 same-fields z p q r t = λ i. term (p i) (q i) (r i) z (t i)
 

@@ -3,7 +3,9 @@ use Prim.Native.Nat.{ℕ, _*_, _≤_, _<_, min}
 use mathlib.Core.Path.{_≡_}
 use mathlib.Core.List.{List}
 use lib.ListN.{length, getD, take}
+use Rattle.entries.specs.Entries.{entriesOf}
 use Rattle.store.specs.declared.Term.{Term}
+use Rattle.store.specs.Lent.{Store, store}
 use Rattle.lent.specs.Records.{noTerm, Eight, flat, literalsOf}
 use Rattle.lent.specs.declared.Flat.{Flat}
 
@@ -24,3 +26,8 @@ pub record Loaded (ts : List Term) (f : Flat) : Type 0 where
   pub numbers : take (f .room * 11) (f .records) ≡ flat (take 1024 ts)
   pub literals : take (f .room) (f .literals) ≡ literalsOf (take 1024 ts)
   pub eight : AllEight (take 1024 ts)
+
+-- the store that the arrays hold, beside lent name entries
+unfoldable pub storeIn : Flat → List (List ℕ) → ℕ → ℕ → Store
+storeIn f ns n m =
+    store (take (f .room * 11) (f .records)) (take (f .room) (f .literals)) (entriesOf (take 128 ns)) n m

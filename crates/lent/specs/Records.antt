@@ -1,9 +1,10 @@
 -- The store as a lent list of term records and a lent list of name entries: document 01, 'Terms'. Assumes nothing: these are definitions.
-use Prim.Native.Nat.{ℕ, zero, suc, _+_, _*_, min}
+use Prim.Native.Nat.{ℕ, zero, suc, min}
 use mathlib.Core.Path.{_≡_}
 use mathlib.Core.List.{List, [], _∷_, _++_}
 use lib.ListN.{length, getD, take, drop}
 use lib.IntN.{ℤ, pos}
+use Rattle.entries.specs.Entries.{entriesOf}
 use Rattle.store.specs.declared.Term.{Term}
 use Rattle.store.specs.Lent.{Store, store, recordIn, numbers}
 
@@ -25,11 +26,6 @@ unfoldable pub literalsOf : List Term → List ℤ
 literalsOf [] = []
 literalsOf (t ∷ ts) = t .literal ∷ literalsOf ts
 
--- the name entries, 32 bytes each
-unfoldable pub entriesOf : List (List ℕ) → List ℕ
-entriesOf [] = []
-entriesOf (e ∷ es) = e ++ entriesOf es
-
 -- "the term store is a lent list of term records, at most 1,024, .. with a lent symbol table of up to 128 names": of a longer
 -- list the records past 1,024 and the entries past 128 are no part of the store
 unfoldable pub lentStore : List Term → List (List ℕ) → ℕ → ℕ → Store
@@ -40,15 +36,6 @@ unfoldable pub recordsIn : List ℕ → List ℤ → ℕ → List Term
 recordsIn rs ls zero = []
 recordsIn rs ls (suc n) = recordsIn rs ls n ++ (recordIn rs ls n ∷ [])
 
--- the first n name entries of a flat store
-unfoldable pub entriesIn : List ℕ → ℕ → List (List ℕ)
-entriesIn bs zero = []
-entriesIn bs (suc n) = entriesIn bs n ++ (take 32 (drop (n * 32) bs) ∷ [])
-
 -- the lent records, once the store is as given
 unfoldable pub recordsAfter : List Term → Store → List Term
 recordsAfter ts s = recordsIn (s .records) (s .literals) (min 1024 (length ts)) ++ drop 1024 ts
-
--- the lent name entries, once the store is as given
-unfoldable pub entriesAfter : List (List ℕ) → Store → List (List ℕ)
-entriesAfter ns s = entriesIn (s .names) (min 128 (length ns)) ++ drop 128 ns

@@ -10,9 +10,6 @@ ghost use Rattle.lent.specs.Records.{noTerm, Eight, recordsIn};
 ghost use Rattle.lent.specs.Copies.{Loaded};
 use store::Term;
 
-// A name's entry: its length, its bytes, and zeros.
-pub type Name = [u8; 32];
-
 // Record `i`.
 pub fn record_at(ts: &[Term], i: usize) -> Term
     requires { ⌜ i < length (now ts) ⌝ }
