@@ -168,11 +168,41 @@ pub fn unreached(rng: &mut Rng) -> Vec<u8> {
 
 /// A chain whose rows stand in reverse, so that each pass prices one class more; extra rows lower costs late.
 pub fn passes(rng: &mut Rng) -> Vec<u8> {
+    if rng.often(35) {
+        return crossing(rng);
+    }
     let length = rng.within(2, 40);
     let table = reversed_chain(rng, length);
     let value = if rng.often(70) { length - 1 } else { rng.below(length) };
     let query = Query { mode: rng.pick(&[BEST_LET, VARIANTS, BEST_PLAIN]), sort: 0, value, n: rng.below(4) as u64 };
     input(&query, &table)
+}
+
+/// Sorts built from one another, so that the order of the sorts' queue shows in the passes and in the choice.
+fn crossing(rng: &mut Rng) -> Vec<u8> {
+    let count = rng.within(3, 6);
+    let mut table = Table { sorts: vec![Sort::Eq(2); count], ..Table::default() };
+    let cost = |rng: &mut Rng| rng.pick(&[None, None, Some(0), Some(1), Some(2)]);
+    for sort in 0..count {
+        for _ in 0..rng.within(1, 2) {
+            let mut inputs: Vec<usize> = (0..count).filter(|s| *s != sort).collect();
+            rng.shuffle(&mut inputs);
+            inputs.truncate(rng.within(1, 3));
+            let name = make::fresh_name(rng, &table);
+            table.functions.push(function(&name, cost(rng), &inputs, sort));
+        }
+    }
+    for _ in 0..rng.within(1, 3) {
+        let leaf = make::fresh_name(rng, &table);
+        table.functions.push(function(&leaf, cost(rng), &[], rng.below(count)));
+    }
+    rng.shuffle(&mut table.functions);
+    for f in 0..table.functions.len() {
+        for _ in 0..rng.within(1, 2) {
+            table.rows.extend(random_row(rng, &table, f));
+        }
+    }
+    case(rng, &table)
 }
 
 pub fn reversed_chain(rng: &mut Rng, length: usize) -> Table {
