@@ -2,6 +2,7 @@
 
 use super::make::{self, DEAR, Profile, SMALL, eq_sorts, function, query, random_row, row};
 use super::rng::Rng;
+use super::width::OneTerm;
 use crate::table::{BEST_LET, BEST_PLAIN, Query, Sort, Table, VARIANTS, input};
 
 fn case(rng: &mut Rng, table: &Table) -> Vec<u8> {
@@ -228,6 +229,9 @@ pub fn reversed_chain(rng: &mut Rng, length: usize) -> Table {
 
 /// Terms that share deeply: chains that name the level below several times, and random ones.
 pub fn sharing(rng: &mut Rng) -> Vec<u8> {
+    if rng.often(8) {
+        return wrapped(rng);
+    }
     let levels = if rng.often(20) { rng.within(60, 80) } else { rng.within(2, 30) };
     let table = if rng.often(50) { tower(rng, levels) } else { random_dag(rng, levels) };
     let value = if rng.often(80) { levels - 1 } else { rng.below(levels) };
@@ -263,6 +267,22 @@ pub fn tower(rng: &mut Rng, levels: usize) -> Table {
         table.rows.insert(0, row(2, &[rng.below(levels), rng.below(levels)]));
     }
     table
+}
+
+/// A shared term whose size is 2^64 and a little: in 64 bits it would count as too small to be bound.
+fn wrapped(rng: &mut Rng) -> Vec<u8> {
+    let (arity, levels, tops) = rng.pick(&[(2, 63, 1), (4, 31, 3)]);
+    let leaves = rng.below(arity - tops + 1);
+    let mut terms = OneTerm::default();
+    let leaf = terms.app(b"L", &[]);
+    let mut class = leaf;
+    for _ in 0..levels {
+        class = terms.app(b"F", &vec![class; arity]);
+    }
+    let kids = [vec![class; tops], vec![leaf; leaves]].concat();
+    let small = terms.app(b"S", &kids);
+    let root = terms.app(b"R", &[small, small]);
+    terms.ask(rng.pick(&[BEST_LET, BEST_LET, BEST_PLAIN]), root)
 }
 
 /// One row per class over lower classes and literals.
