@@ -50,6 +50,13 @@ pub struct EGraph {
     pub proof_state: ProofState,
 }
 
+impl EGraph {
+    /// The sort of a table file by its number; its name holds its number, so two sorts never share one.
+    pub fn sort(&self, number: usize) -> &ArcSort {
+        &self.sorts[number]
+    }
+}
+
 /// A row as a cost model sees it.
 pub struct Enode<'a> {
     pub children: &'a [Value],

@@ -67,7 +67,9 @@ pub fn caught<T>(piece: impl FnOnce() -> T) -> Result<T, String> {
                 let file = l.file().rsplit('/').next().unwrap_or_default();
                 format!("{file}:{}", l.line())
             });
-            let text = info.payload_as_str().unwrap_or("a panic without text");
+            let payload = info.payload();
+            let plain = payload.downcast_ref::<&str>().copied();
+            let text = plain.or(payload.downcast_ref::<String>().map(String::as_str)).unwrap_or("a panic without text");
             SAID.with(|said| *said.borrow_mut() = format!("{}: {text}", place.unwrap_or_default()));
         }));
     });

@@ -23,19 +23,22 @@ pub mod terms;
 
 #[path = "../../../shared/docs/src/src/extract.rs"]
 #[allow(clippy::all)]
+#[rustfmt::skip]
 pub mod extract;
 #[path = "../../../shared/docs/src/src/termdag.rs"]
 #[allow(clippy::all)]
+#[rustfmt::skip]
 pub mod termdag;
 #[path = "../../../shared/docs/src/src/util.rs"]
 #[allow(clippy::all)]
+#[rustfmt::skip]
 pub mod util;
 
 pub use ast::{Expr, GenericExpr, Literal, Span, generic_ast_helpers};
 pub use egraph::{EGraph, Enode, Error, Function, FunctionDecl, FunctionType, ProofState, TypeError};
 pub use sort::{ArcSort, BaseSort, BaseValues, ContainerValues, EqSort, Sort, Value};
-pub use termdag::{Term, TermDag, TermId};
 use std::fmt::Debug;
+pub use termdag::{Term, TermDag, TermId};
 use util::{HEntry, IndexSet};
 
 /// The crate's macro for a place in the source; nothing here looks at it.

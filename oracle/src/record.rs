@@ -97,12 +97,15 @@ fn scripts(tally: &mut Tally) -> Result<Vec<Pair>, String> {
     let made = (0..).map(|index| generate::script(SEED, index).write().into_bytes());
     let enough = SCRIPTS - texts.len();
     texts.extend(made.filter(|text| text.len() <= 2 * COMPACT).take(enough));
-    texts.into_iter().map(|text| {
-        let (answers, faults) = terms::answers(&script::read(&text)?)?;
-        answers.iter().for_each(|a| tally.count_call(a));
-        faults.iter().for_each(|f| tally.count_fault(f));
-        Ok((text, script::write_answers(&answers)))
-    }).collect()
+    texts
+        .into_iter()
+        .map(|text| {
+            let (answers, faults) = terms::answers(&script::read(&text)?)?;
+            answers.iter().for_each(|a| tally.count_call(a));
+            faults.iter().for_each(|f| tally.count_fault(f));
+            Ok((text, script::write_answers(&answers)))
+        })
+        .collect()
 }
 
 /// The pairs in numbered parts.
@@ -127,7 +130,8 @@ fn page(files: &[(String, Vec<u8>)], cases: usize, tally: &Tally, scripts: usize
     format!(
         "# Recorded answers\n\n\
          Made by `oracle/record` from the crate's own Rust (seed {SEED}), each checked against document 01's own path; \
-         `oracle/record check` makes them again and compares. They let the program be replayed with no Rust at hand.\n\n\
+         `oracle/record check` makes them again and compares. They let the program be replayed with no Rust at \
+         hand.\n\n\
          {listed}\n\
          `replay-*.bin`: {cases} cases, one after the other: u32 little-endian length and the program's whole standard \
          input, then u32 little-endian length and the expected output. A part is below {PART} bytes and no case is \

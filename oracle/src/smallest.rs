@@ -85,9 +85,10 @@ fn grow(shape: &Shape, most: usize, found: &mut Vec<Shape>) {
         longer.rows.push(next - 1);
         more.push(longer);
     }
-    let inputs = |arity: usize| (0..1usize << if shape.base { arity } else { 0 }).map(move |sorts| {
-        (0..arity).map(|place| sorts >> place & 1).collect::<Vec<usize>>()
-    });
+    let inputs = |arity: usize| {
+        (0..1usize << if shape.base { arity } else { 0 })
+            .map(move |sorts| (0..arity).map(|place| sorts >> place & 1).collect::<Vec<usize>>())
+    };
     for inputs in (0..=2).flat_map(inputs) {
         for declared in [false, true] {
             let mut wider = shape.clone();
@@ -196,7 +197,12 @@ fn rust_says(input: &[u8]) -> String {
 fn told(title: &str, input: &[u8]) -> String {
     let paper = paper::program::answer(input);
     let paper = String::from_utf8_lossy(&paper);
-    format!("{title}\n  input ({} bytes): {}\n  the Rust {}\n  document 01 {paper:?}\n", input.len(), hex(input), rust_says(input))
+    format!(
+        "{title}\n  input ({} bytes): {}\n  the Rust {}\n  document 01 {paper:?}\n",
+        input.len(),
+        hex(input),
+        rust_says(input)
+    )
 }
 
 fn described(table: &Table, class: usize) -> String {
@@ -218,14 +224,17 @@ fn costs() -> Vec<String> {
     let dear = |priced: &Priced, class| priced.cost(0, class) == Some(u64::MAX);
     let edgeless = |priced: &Priced, class| dear(priced, class) && priced.edge(0, class).is_none();
     let mut out = Vec::new();
-    for (title, most, found) in [
-        ("a cost of 2^64-1", 200, first(200, dear)),
-        ("a class without an edge", 290, first(290, edgeless)),
-    ] {
+    for (title, most, found) in
+        [("a cost of 2^64-1", 200, first(200, dear)), ("a class without an edge", 290, first(290, edgeless))]
+    {
         out.push(match found {
             Some((tried, table, class)) => {
                 let query = Query { mode: BEST_LET, sort: 0, value: class, n: 0 };
-                let what = format!("{title}: {} ({} bits; shape {tried} in order of bits)", described(&table, class), table.bits());
+                let what = format!(
+                    "{title}: {} ({} bits; shape {tried} in order of bits)",
+                    described(&table, class),
+                    table.bits()
+                );
                 told(&what, &input(&query, &table))
             }
             None => format!("{title}: no table of at most {most} bits has one\n"),
@@ -235,7 +244,11 @@ fn costs() -> Vec<String> {
 }
 
 /// The smallest tower whose input the Rust treats as `wanted`.
-fn smallest_tower(towers: impl Iterator<Item = Tower>, mode: u64, wanted: impl Fn(&Tower, &[u8]) -> bool) -> Option<Tower> {
+fn smallest_tower(
+    towers: impl Iterator<Item = Tower>,
+    mode: u64,
+    wanted: impl Fn(&Tower, &[u8]) -> bool,
+) -> Option<Tower> {
     let mut best: Option<(usize, Tower)> = None;
     for tower in towers {
         let input = tower.input(mode);
@@ -258,7 +271,9 @@ fn free_towers(roof: bool) -> impl Iterator<Item = Tower> {
 /// A tree size past 64 bits, in a build that checks its sums.
 fn overflow() -> String {
     let panics = |_: &Tower, input: &[u8]| matches!(by_the_rust(input), Err(Stop::Fault(Fault::SizeOverflow(_))));
-    let Some(tower) = smallest_tower(free_towers(false), BEST_LET, panics) else { return "no tower overflows\n".into() };
+    let Some(tower) = smallest_tower(free_towers(false), BEST_LET, panics) else {
+        return "no tower overflows\n".into();
+    };
     let title = format!("a tree size past 64 bits: arity {}, {} levels above the leaf", tower.arity, tower.levels);
     told(&title, &tower.input(BEST_LET))
 }
@@ -266,7 +281,9 @@ fn overflow() -> String {
 /// A wrong binding, in a build whose sums wrap.
 fn wrong_binding() -> String {
     let wrong = |_: &Tower, input: &[u8]| by_the_rust(input).is_ok_and(|text| text != paper::program::answer(input));
-    let Some(tower) = smallest_tower(free_towers(true), BEST_LET, wrong) else { return "no tower is bound wrongly\n".into() };
+    let Some(tower) = smallest_tower(free_towers(true), BEST_LET, wrong) else {
+        return "no tower is bound wrongly\n".into();
+    };
     let title = format!(
         "a size that wraps: arity {}, {} levels above the leaf, {} places of the last name the leaf, then a root",
         tower.arity, tower.levels, tower.low
@@ -287,7 +304,8 @@ fn long_text() -> String {
     let input = tower.input(BEST_PLAIN);
     let made = output(&input).map_or(0, |text| text.len());
     let title = format!(
-        "an output past 16,384 bytes: arity {}, {} levels above the leaf, names of {} and {} bytes; the Rust makes {made}",
+        "an output past 16,384 bytes: arity {}, {} levels above the leaf, names of {} and {} bytes; \
+         the Rust makes {made}",
         tower.arity, tower.levels, tower.leaf, tower.head
     );
     told(&title, &input)

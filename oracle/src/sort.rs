@@ -1,7 +1,7 @@
 //! Sorts and values: the split into eq and base sorts that src/sort/mod.rs makes, and no containers.
 
+use crate::Literal;
 use crate::termdag::{TermDag, TermId};
-use crate::{EGraph, Literal};
 use std::fmt::Debug;
 use std::sync::Arc;
 
@@ -74,12 +74,5 @@ impl Sort for BaseSort {
 
     fn reconstruct_termdag_base(&self, values: &BaseValues, value: Value, termdag: &mut TermDag) -> TermId {
         termdag.lit(Literal::Int(values.0[value.0 as usize]))
-    }
-}
-
-impl EGraph {
-    /// The sort of a table file by its number; its name is its number, so two sorts never share one.
-    pub fn sort(&self, number: usize) -> &ArcSort {
-        &self.sorts[number]
     }
 }

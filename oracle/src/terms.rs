@@ -224,7 +224,14 @@ impl Side {
         Ok(counted)
     }
 
-    fn let_text_by_hint(&self, id: TermId, prefix: &str, hint: &str, start: u64, bare: bool) -> Result<(u64, String), Stop> {
+    fn let_text_by_hint(
+        &self,
+        id: TermId,
+        prefix: &str,
+        hint: &str,
+        start: u64,
+        bare: bool,
+    ) -> Result<(u64, String), Stop> {
         let mut fresh = SymbolGen::new(prefix.to_string());
         let next = Cell::new(start);
         let mut bindings = String::new();

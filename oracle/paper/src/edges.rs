@@ -75,7 +75,14 @@ fn loops() -> Vec<Edge> {
     let only = table(1, &[], vec![wrap], vec![row(0, &[0, 0])]);
     let two = "variants 2 2\nvariant 1 1 2\n(Leaf)\nvariant 2 1 2\n(Wrap (Leaf))\n";
     vec![
-        ask("Wrap(0)->0 cost 0, then Leaf()->0: best is (Leaf), cost 1", BEST_LET, 0, 0, &both, "best 1 1 2\n\n(Leaf)\n"),
+        ask(
+            "Wrap(0)->0 cost 0, then Leaf()->0: best is (Leaf), cost 1",
+            BEST_LET,
+            0,
+            0,
+            &both,
+            "best 1 1 2\n\n(Leaf)\n",
+        ),
         ask("Wrap(0)->0 cost 0, then Leaf()->0: its variants", VARIANTS, 0, 255, &both, two),
         ask("only Wrap(0)->0: NoTerm", BEST_LET, 0, 0, &only, "refused 11\n"),
         ask("only Wrap(0)->0: no variants", VARIANTS, 0, 255, &only, "variants 0 1\n"),
@@ -115,7 +122,12 @@ fn base_roots() -> Vec<Edge> {
     let root = |mode, value| Query { mode, sort: 1, value, n: 0 };
     let minimum = "best 1 1 1\n-9223372036854775808\n";
     vec![
-        ask_of("a base root with n = 0: one variant, cost 1", root(VARIANTS, 0), &least, "variants 1 1\nvariant 1 1 1\n5\n"),
+        ask_of(
+            "a base root with n = 0: one variant, cost 1",
+            root(VARIANTS, 0),
+            &least,
+            "variants 1 1\nvariant 1 1 1\n5\n",
+        ),
         ask_of("a base root: best costs 1", root(BEST_LET, 0), &least, "best 1 1 1\n\n5\n"),
         ask_of("literal -9223372036854775808 prints all its digits", root(BEST_PLAIN, 1), &least, minimum),
         ask_of("a base root past the literals: BadRoot", root(BEST_PLAIN, 2), &least, "refused 10\n"),
@@ -125,7 +137,7 @@ fn base_roots() -> Vec<Edge> {
 /// F of three childless applications with names of 31, 31 and some bytes.
 fn three(last: usize) -> (OneTerm, usize, [String; 3]) {
     let names = ["a".repeat(31), "b".repeat(31), "c".repeat(last)];
-    let mut terms = OneTerm::new();
+    let mut terms = OneTerm::default();
     let kids: Vec<usize> = names.iter().map(|n| terms.app(n.as_bytes(), &[])).collect();
     let root = terms.app(b"F", &kids);
     (terms, root, names)
@@ -143,7 +155,7 @@ fn widths() -> Vec<Edge> {
 }
 
 fn bindings() -> Vec<Edge> {
-    let mut terms = OneTerm::new();
+    let mut terms = OneTerm::default();
     let (x, y) = (terms.app(b"x", &[]), terms.app(b"y", &[]));
     let three = terms.app(b"two", &[x, y]);
     let four = terms.app(b"one", &[three]);
@@ -185,9 +197,8 @@ fn limits() -> Vec<Edge> {
 /// What only the calls on a store can show.
 fn scripts() -> Vec<Edge> {
     let (a, b) = ("a".repeat(31), "b".repeat(31));
-    let three = |c: &str| {
-        format!("lent 4 4\nvariable {a}\nvariable {b}\nvariable {c}\napp F 0 1 2\nlet 200 % t 0 0 3\n")
-    };
+    let three =
+        |c: &str| format!("lent 4 4\nvariable {a}\nvariable {b}\nvariable {c}\napp F 0 1 2\nlet 200 % t 0 0 3\n");
     let (c12, c13) = ("c".repeat(12), "c".repeat(13));
     let added = "term 0\nterm 1\nterm 2\nterm 3\n";
     let line = format!("{added}let 0 81 %0A(F {a} {b} {c12})\n");
@@ -198,9 +209,10 @@ fn scripts() -> Vec<Edge> {
                  let 1 29 (let t0 (P x x x))%0A%0A(R t0 t0)\nlet 8 32 (let pt7 (P x x x))%0A%0A(R pt7 pt7)\n\
                  let 4294966272 56 (let t4294966271 (P x x x))%0A%0A(R t4294966271 t4294966271)\nrefused 3\n\
                  let 1 26 (let t (P x x x))%0A%0A(R t t)\nrefused 13\n";
-    let order = "lent 9 9\nliteral 5\nliteral -5\nvariable b\nvariable B\napp b\napp b 0\napp b 1\nsort 6 5 4 3 2 1 0 6\n\
-                 compare 4 2\ncompare 3 3\ncompare 9 9\n";
-    let ordered = "term 0\nterm 1\nterm 2\nterm 3\nterm 4\nterm 5\nterm 6\nsorted 1 0 3 2 4 6 6 5\ngreater\nequal\nrefused 14\n";
+    let order = "lent 9 9\nliteral 5\nliteral -5\nvariable b\nvariable B\napp b\napp b 0\napp b 1\n\
+                 sort 6 5 4 3 2 1 0 6\ncompare 4 2\ncompare 3 3\ncompare 9 9\n";
+    let ordered =
+        "term 0\nterm 1\nterm 2\nterm 3\nterm 4\nterm 5\nterm 6\nsorted 1 0 3 2 4 6 6 5\ngreater\nequal\nrefused 14\n";
     let room = "lent 1 0\nliteral 1\nliteral 1\nliteral 2\nvariable x\nfind literal 2\nfind variable x\nsize\n";
     let roomy = "term 0\nterm 0\nrefused 13\nrefused 13\nrefused 15\nrefused 15\nsize 1\n";
     vec![
@@ -210,6 +222,10 @@ fn scripts() -> Vec<Edge> {
         script("the order of terms, with repeats; an unknown number", order, ordered),
         script("what is there needs no room; Absent", room, roomy),
         script("an unknown child, the term's own number too", "lent 2 1\napp F 0\nsize\n", "refused 14\nsize 0\n"),
-        script("a store that is not well formed", "lent 1 1\nrecord 3 0 0 0 0 0 0 0 0 0 0 0\ncounts 1 0\nsize\n", "refused 17\n"),
+        script(
+            "a store that is not well formed",
+            "lent 1 1\nrecord 3 0 0 0 0 0 0 0 0 0 0 0\ncounts 1 0\nsize\n",
+            "refused 17\n",
+        ),
     ]
 }

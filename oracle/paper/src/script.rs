@@ -56,7 +56,7 @@ fn write_text(text: &[u8]) -> String {
 }
 
 fn read_name(word: &str) -> Result<Vec<u8>, String> {
-    let wrong = || format!("the name {word} has a '%' without two hex digits after it");
+    let wrong = || format!("the name {word} has a '%' without two hex digits; write a byte as %XX");
     if word == "%" {
         return Ok(vec![]);
     }
@@ -103,8 +103,11 @@ fn term(words: &[&str]) -> Option<Result<Term, String>> {
 }
 
 fn op(words: &[&str]) -> Result<Op, String> {
+    let find = words.first() == Some(&"find");
+    if let Some(wanted) = term(&words[usize::from(find)..]) {
+        return Ok(if find { Op::Find(wanted?) } else { Op::Add(wanted?) });
+    }
     Ok(match words {
-        ["find", wanted @ ..] if term(wanted).is_some() => Op::Find(term(wanted).unwrap_or(Err(String::new()))?),
         ["size"] => Op::Size,
         ["get", t] => Op::Get(term_number(t)?),
         ["compare", a, b] => Op::Compare(term_number(a)?, term_number(b)?),
@@ -118,10 +121,7 @@ fn op(words: &[&str]) -> Result<Op, String> {
             bare_zero: *zero == "1",
             term: term_number(t)?,
         },
-        _ => match term(words) {
-            Some(added) => Op::Add(added?),
-            None => return Err(format!("'{}' is none of the calls that oracle/README.md lists", words.join(" "))),
-        },
+        _ => return Err(format!("'{}' is none of the calls that oracle/README.md lists", words.join(" "))),
     })
 }
 
@@ -172,7 +172,7 @@ pub fn read(script: &[u8]) -> Result<Script, String> {
     };
     let lent = |word| match number(word, "a lent length")? {
         length if length <= MOST_LENT => Ok(length),
-        length => Err(format!("a lent length of {length} is over {MOST_LENT}")),
+        length => Err(format!("a lent length must be at most {MOST_LENT}, not {length}")),
     };
     let mut script = Script { store: Store::new(lent(terms)?, lent(names)?), ops: Vec::new() };
     let mut at = (0, 0);

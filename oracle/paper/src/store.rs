@@ -198,9 +198,7 @@ impl Store {
             Term::Variable(name) | Term::App(name, _) => Some(name).filter(|n| self.symbol_of(n).is_none()),
         };
         let full = |count: u64, room: usize| count >= room as u64;
-        if full(self.term_count, self.term_room())
-            || new_name.is_some() && full(self.name_count, self.name_room())
-        {
+        if full(self.term_count, self.term_room()) || new_name.is_some() && full(self.name_count, self.name_room()) {
             return Err(Refusal::NoRoom);
         }
         if let Some(name) = new_name {

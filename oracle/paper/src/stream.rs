@@ -12,7 +12,12 @@ pub fn items(bytes: &[u8]) -> Result<Vec<&[u8]>, String> {
     let mut rest = bytes;
     let mut found = Vec::new();
     while !rest.is_empty() {
-        let cut = |what| format!("item {} of the stream is cut off in its {what}", found.len());
+        let cut = |what| {
+            let item = found.len();
+            format!(
+                "item {item} of the stream is cut off in its {what}: an item is a u32 little-endian length and as many bytes"
+            )
+        };
         let (length, after) = rest.split_at_checked(4).ok_or_else(|| cut("length"))?;
         let length = u32::from_le_bytes(length.try_into().unwrap_or_default()) as usize;
         let (item, after) = after.split_at_checked(length).ok_or_else(|| cut("bytes"))?;

@@ -51,9 +51,9 @@ fn plain_lengths(store: &Store, root: u64) -> Vec<u64> {
         let length = match store.term(number) {
             Term::Literal(value) => value.to_string().len() as u64,
             Term::Variable(name) => name.len() as u64,
-            Term::App(name, kids) => kids.iter().fold(name.len() as u64 + 2, |sum, kid| {
-                sum.saturating_add(1).saturating_add(lengths[*kid as usize])
-            }),
+            Term::App(name, kids) => kids
+                .iter()
+                .fold(name.len() as u64 + 2, |sum, kid| sum.saturating_add(1).saturating_add(lengths[*kid as usize])),
         };
         lengths.push(length);
     }
@@ -127,10 +127,10 @@ impl<'a> Layout<'a> {
         let mut sizes = vec![1u64; length];
         counts[root as usize] = 1;
         for number in (0..=root).rev() {
-            if let Term::App(_, kids) = store.term(number) {
-                if counts[number as usize] > 0 {
-                    kids.iter().for_each(|k| counts[*k as usize] += 1);
-                }
+            if let Term::App(_, kids) = store.term(number)
+                && counts[number as usize] > 0
+            {
+                kids.iter().for_each(|k| counts[*k as usize] += 1);
             }
         }
         for number in 0..=root {

@@ -180,7 +180,7 @@ fn store_room(terms: usize) -> Vec<u8> {
 /// Wrappers of one letter stand above a core; where the core is broken or plain, a longer name adds just its letters.
 fn text_room(mode: u64, length: usize) -> Vec<u8> {
     let made = |wraps: usize, wide: usize, last: usize| {
-        let mut terms = OneTerm::new();
+        let mut terms = OneTerm::default();
         let mut class = terms.app(b"L", &[]);
         for _ in 0..10 {
             class = terms.app(b"D", &[class, class]);

@@ -10,12 +10,12 @@ pub const DEAR: [u64; 8] =
 const LITERALS: [i64; 12] = [0, 1, -1, 5, 7, 10, -10, 99, 100, i64::MAX, i64::MIN, i64::MIN + 1];
 
 /// Names that could be taken for something else.
-const ODD: [&[u8]; 12] =
-    [b"t0", b"t1", b"t", b"let", b"-5", b"0", b"+", b"%", b"~", b"!", b"'", b"refused"];
+const ODD: [&[u8]; 12] = [b"t0", b"t1", b"t", b"let", b"-5", b"0", b"+", b"%", b"~", b"!", b"'", b"refused"];
 
 /// A valid name of the given length.
 pub fn name(rng: &mut Rng, length: usize) -> Vec<u8> {
-    let letters: Vec<u8> = if rng.often(70) { (b'A'..=b'Z').collect() } else { (0..=255).filter(|b| name_byte(*b)).collect() };
+    let letters: Vec<u8> =
+        if rng.often(70) { (b'A'..=b'Z').collect() } else { (0..=255).filter(|b| name_byte(*b)).collect() };
     (0..length).map(|_| rng.pick(&letters)).collect()
 }
 

@@ -25,8 +25,7 @@ pub fn script(seed: u64, index: usize) -> Script {
 }
 
 const NAMES: [&[u8]; 9] = [b"f", b"g", b"x", b"y", b"Add", b"t0", b"t1", b"let", b"-7"];
-const STARTS: [u64; 10] =
-    [0, 0, 0, 1, 8, 98, 999_999, 4_294_966_271, 4_294_966_272, u64::MAX];
+const STARTS: [u64; 10] = [0, 0, 0, 1, 8, 98, 999_999, 4_294_966_271, 4_294_966_272, u64::MAX];
 
 /// A script in the making, with the store as the calls so far leave it.
 struct Making {

@@ -2,6 +2,7 @@
 
 use super::make::{self, DEAR, Profile, SMALL, eq_sorts, function, query, random_row, row};
 use super::rng::Rng;
+use super::width::OneTerm;
 use crate::table::{BEST_LET, BEST_PLAIN, Query, Sort, Table, VARIANTS, input};
 
 fn case(rng: &mut Rng, table: &Table) -> Vec<u8> {
@@ -168,11 +169,41 @@ pub fn unreached(rng: &mut Rng) -> Vec<u8> {
 
 /// A chain whose rows stand in reverse, so that each pass prices one class more; extra rows lower costs late.
 pub fn passes(rng: &mut Rng) -> Vec<u8> {
+    if rng.often(35) {
+        return crossing(rng);
+    }
     let length = rng.within(2, 40);
     let table = reversed_chain(rng, length);
     let value = if rng.often(70) { length - 1 } else { rng.below(length) };
     let query = Query { mode: rng.pick(&[BEST_LET, VARIANTS, BEST_PLAIN]), sort: 0, value, n: rng.below(4) as u64 };
     input(&query, &table)
+}
+
+/// Sorts built from one another, so that the order of the sorts' queue shows in the passes and in the choice.
+fn crossing(rng: &mut Rng) -> Vec<u8> {
+    let count = rng.within(3, 6);
+    let mut table = Table { sorts: vec![Sort::Eq(2); count], ..Table::default() };
+    let cost = |rng: &mut Rng| rng.pick(&[None, None, Some(0), Some(1), Some(2)]);
+    for sort in 0..count {
+        for _ in 0..rng.within(1, 2) {
+            let mut inputs: Vec<usize> = (0..count).filter(|s| *s != sort).collect();
+            rng.shuffle(&mut inputs);
+            inputs.truncate(rng.within(1, 3));
+            let name = make::fresh_name(rng, &table);
+            table.functions.push(function(&name, cost(rng), &inputs, sort));
+        }
+    }
+    for _ in 0..rng.within(1, 3) {
+        let leaf = make::fresh_name(rng, &table);
+        table.functions.push(function(&leaf, cost(rng), &[], rng.below(count)));
+    }
+    rng.shuffle(&mut table.functions);
+    for f in 0..table.functions.len() {
+        for _ in 0..rng.within(1, 2) {
+            table.rows.extend(random_row(rng, &table, f));
+        }
+    }
+    case(rng, &table)
 }
 
 pub fn reversed_chain(rng: &mut Rng, length: usize) -> Table {
@@ -198,6 +229,9 @@ pub fn reversed_chain(rng: &mut Rng, length: usize) -> Table {
 
 /// Terms that share deeply: chains that name the level below several times, and random ones.
 pub fn sharing(rng: &mut Rng) -> Vec<u8> {
+    if rng.often(8) {
+        return wrapped(rng);
+    }
     let levels = if rng.often(20) { rng.within(60, 80) } else { rng.within(2, 30) };
     let table = if rng.often(50) { tower(rng, levels) } else { random_dag(rng, levels) };
     let value = if rng.often(80) { levels - 1 } else { rng.below(levels) };
@@ -233,6 +267,22 @@ pub fn tower(rng: &mut Rng, levels: usize) -> Table {
         table.rows.insert(0, row(2, &[rng.below(levels), rng.below(levels)]));
     }
     table
+}
+
+/// A shared term whose size is 2^64 and a little: in 64 bits it would count as too small to be bound.
+fn wrapped(rng: &mut Rng) -> Vec<u8> {
+    let (arity, levels, tops) = rng.pick(&[(2, 63, 1), (4, 31, 3)]);
+    let leaves = rng.below(arity - tops + 1);
+    let mut terms = OneTerm::default();
+    let leaf = terms.app(b"L", &[]);
+    let mut class = leaf;
+    for _ in 0..levels {
+        class = terms.app(b"F", &vec![class; arity]);
+    }
+    let kids = [vec![class; tops], vec![leaf; leaves]].concat();
+    let small = terms.app(b"S", &kids);
+    let root = terms.app(b"R", &[small, small]);
+    terms.ask(rng.pick(&[BEST_LET, BEST_LET, BEST_PLAIN]), root)
 }
 
 /// One row per class over lower classes and literals.

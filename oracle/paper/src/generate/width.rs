@@ -9,11 +9,13 @@ pub struct OneTerm {
     pub table: Table,
 }
 
-impl OneTerm {
-    pub fn new() -> Self {
+impl Default for OneTerm {
+    fn default() -> Self {
         OneTerm { table: Table { sorts: vec![Sort::Eq(0), Sort::Base], ..Table::default() } }
     }
+}
 
+impl OneTerm {
     /// A new class with one row of the named function; children are classes.
     pub fn app(&mut self, name: &[u8], children: &[usize]) -> usize {
         let inputs = vec![0; children.len()];
@@ -95,7 +97,7 @@ pub fn width(rng: &mut Rng) -> Vec<u8> {
     if rng.often(25) {
         return soup(rng);
     }
-    let mut terms = OneTerm::new();
+    let mut terms = OneTerm::default();
     let target = rng.within(78, 82);
     let shared = rng.often(50);
     let depth = if rng.often(50) { rng.below(5) } else { rng.below(28) };
@@ -115,7 +117,7 @@ pub fn width(rng: &mut Rng) -> Vec<u8> {
 
 /// A random shared term with names long enough that lines break everywhere.
 fn soup(rng: &mut Rng) -> Vec<u8> {
-    let mut terms = OneTerm::new();
+    let mut terms = OneTerm::default();
     let names: Vec<Vec<u8>> = (0..6)
         .map(|arity| {
             let length = rng.within(3, 30);
@@ -126,8 +128,7 @@ fn soup(rng: &mut Rng) -> Vec<u8> {
     for _ in 0..rng.within(3, 16) {
         let arity = rng.within(1, 5);
         let near = classes.len().min(4);
-        let children: Vec<usize> =
-            (0..arity).map(|_| classes[classes.len() - 1 - rng.below(near)]).collect();
+        let children: Vec<usize> = (0..arity).map(|_| classes[classes.len() - 1 - rng.below(near)]).collect();
         classes.push(if rng.often(15) {
             terms.number(b"number", make::literal(rng))
         } else {
