@@ -22,7 +22,8 @@ fn quota(category: Category) -> usize {
     match category {
         Category::Small => 330,
         Category::Width => 220,
-        Category::Dear | Category::Ties | Category::Faults | Category::Damaged => 150,
+        Category::Dear | Category::Ties | Category::Damaged => 150,
+        Category::Faults => 240,
         Category::Short => 257,
         Category::Limits => LIMIT_KINDS,
         Category::Sharing => 130,

@@ -20,28 +20,37 @@ const BAD_BYTES: [u8; 10] = [0, 0x20, b'(', b')', b'"', b';', 0x7f, 0x80, 0xff, 
 
 const FAULTS: usize = 20;
 
-/// One field wrong, now and then a second one behind it: the first fault decides.
-pub fn faults(rng: &mut Rng, kind: usize) -> Vec<u8> {
-    let mut table = sound(rng);
-    let mut query = query(rng, &table);
-    let mut version = 1;
-    let mut more = Vec::new();
-    spoil(rng, kind % FAULTS, &mut table, &mut query, &mut version, &mut more);
-    if rng.often(20) {
-        let second = rng.below(FAULTS);
-        spoil(rng, second, &mut table, &mut query, &mut version, &mut more);
-    }
-    let mut out = Writer::default();
-    query.write(&mut out);
-    table.write(version, &mut out);
-    let pad = (8 - out.bits() % 8) % 8;
-    if kind % FAULTS == 16 && pad > 0 {
-        out.put(1 << rng.below(pad), pad);
-    }
-    [out.bytes(), more].concat()
+/// What an input is written from, wrong fields included.
+struct Draft {
+    version: u64,
+    query: Query,
+    table: Table,
+    /// Bytes behind the file.
+    more: Vec<u8>,
 }
 
-fn spoil(rng: &mut Rng, kind: usize, table: &mut Table, query: &mut Query, version: &mut u64, more: &mut Vec<u8>) {
+/// One field wrong, now and then a second one: the first fault decides. The kinds come round in turn.
+pub fn faults(rng: &mut Rng, nth: usize) -> Vec<u8> {
+    let table = sound(rng);
+    let mut draft = Draft { version: 1, query: query(rng, &table), table, more: Vec::new() };
+    let kind = nth % FAULTS;
+    spoil(rng, kind, nth / FAULTS, &mut draft);
+    if rng.often(20) {
+        let second = rng.below(FAULTS);
+        spoil(rng, second, nth, &mut draft);
+    }
+    let mut out = Writer::default();
+    draft.query.write(&mut out);
+    draft.table.write(draft.version, &mut out);
+    let pad = (8 - out.bits() % 8) % 8;
+    if kind == 16 && pad > 0 {
+        out.put(1 << rng.below(pad), pad);
+    }
+    [out.bytes(), draft.more].concat()
+}
+
+fn spoil(rng: &mut Rng, kind: usize, round: usize, draft: &mut Draft) {
+    let Draft { version, query, table, more } = draft;
     let last = table.sorts.len();
     let f = rng.below(table.functions.len());
     let r = rng.below(table.rows.len());
@@ -53,7 +62,7 @@ fn spoil(rng: &mut Rng, kind: usize, table: &mut Table, query: &mut Query, versi
         4 => {
             let at = rng.below(table.functions[f].name.len().max(1));
             if let Some(byte) = table.functions[f].name.get_mut(at) {
-                *byte = rng.pick(&BAD_BYTES);
+                *byte = BAD_BYTES[round % BAD_BYTES.len()];
             }
         }
         5 => {

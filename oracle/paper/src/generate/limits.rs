@@ -1,8 +1,8 @@
 //! Cases at each limit of document 01, on both sides.
 
+use super::chains::reversed_chain;
 use super::make::{self, Profile, SMALL, function, query, random_row, row};
 use super::rng::Rng;
-use super::shapes::reversed_chain;
 use super::width::OneTerm;
 use crate::program::answer;
 use crate::refusal::Refusal;

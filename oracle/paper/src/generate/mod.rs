@@ -1,5 +1,6 @@
 //! Cases, deterministic in a seed: which category the case of an index has, and the case itself.
 
+mod chains;
 mod faulty;
 mod limits;
 pub mod make;
@@ -97,8 +98,8 @@ pub fn of(category: Category, seed: u64, index: usize, nth: usize) -> Vec<u8> {
         Subsumed => shapes::subsumed(rng),
         Barred => shapes::barred(rng),
         Unreached => shapes::unreached(rng),
-        Passes => shapes::passes(rng),
-        Sharing => shapes::sharing(rng),
+        Passes => chains::passes(rng),
+        Sharing => chains::sharing(rng),
         Width => width::width(rng),
         Ties => shapes::ties(rng),
         Faults => faulty::faults(rng, nth),
