@@ -1,4 +1,4 @@
--- `relax::edges::all_below` meets its contract: the children from the i-th on decide. Assumes nothing.
+-- `edges::all_below` meets its contract: the children from the i-th on decide. Assumes nothing.
 use Prim.Native.Nat.{_≤_, _<_, _-_}
 use mathlib.Core.Path.{_≡_, sym, _∙_}
 use mathlib.Core.List.{map}
@@ -6,12 +6,12 @@ use borrow.Author.Tests.{lt-ltb, le-ltb}
 use lib.ListN.{length, getD, drop}
 use Rattle.choice.specs.Rows.{allOf}
 use Rattle.choice.specs.Edges.{childRank, below}
 use Rattle.relax.specs.Flat.{childOf}
 use Rattle.relax.proofs.WalkLaws.{all-goes-on, all-stops, all-ends}
 use borrow.Author.Needs.{needs}
 use native.Mathlib.Omega.{arith}
-use Rattle.relax.proofs.edges.all_below.Statement.{statement}
-use Rattle.relax.proofs.edges.all_below.Tie as tie
+use Rattle.edges.proofs.all_below.Statement.{statement}
+use Rattle.edges.proofs.all_below.Tie as tie
 
 abbrev Inv-loop : tie.InvT-loop
 Inv-loop ranks b kids i₀ i =

@@ -1,11 +1,11 @@
--- `relax::edges::is_edge` meets its contract, by its three ways. Assumes nothing.
+-- `edges::is_edge` meets its contract, by its three ways. Assumes nothing.
 use mathlib.Core.Path.{sym, _∙_}
 use borrow.Author.Tests.{not-true, not-false}
-use Rattle.relax.proofs.RowLaws.{edge-when-unpriced, edge-when-dearer, edge-when-exact}
+use Rattle.edges.proofs.RowLaws.{edge-when-unpriced, edge-when-dearer, edge-when-exact}
 use native.Mathlib.Omega.{arith}
 use borrow.Author.Needs.{needs}
-use Rattle.relax.proofs.edges.is_edge.Statement.{statement}
-use Rattle.relax.proofs.edges.is_edge.Tie as tie
+use Rattle.edges.proofs.is_edge.Statement.{statement}
+use Rattle.edges.proofs.is_edge.Tie as tie
 
 has-cost-requires : tie.Need-has-cost-requires
 has-cost-requires c κs = search needs

@@ -1,16 +1,16 @@
--- `relax::edges::fill` meets its contract: every class has been looked for among the rows before the i-th. Assumes
+-- `edges::fill` meets its contract: every class has been looked for among the rows before the i-th. Assumes
 -- nothing.
 use Prim.Native.Nat.{_+_, _-_}
 use mathlib.Core.Path.{_≡_, refl}
 use lib.ListN.{length, getD}
 use Rattle.choice.specs.Edges.{isEdge}
 use Rattle.relax.specs.Flat.{top, rowsOf}
 use Rattle.relax.proofs.FlatLaws.{part-in}
-use Rattle.relax.proofs.EdgeLaws.{Walked, flat-walk-begins, flat-walk-goes-on, flat-walk-ends}
+use Rattle.edges.proofs.WalkLaws.{Walked, flat-walk-begins, flat-walk-goes-on, flat-walk-ends}
 use borrow.Author.Needs.{needs}
 use native.Mathlib.Omega.{arith}
-use Rattle.relax.proofs.edges.fill.Statement.{statement}
-use Rattle.relax.proofs.edges.fill.Tie as tie
+use Rattle.edges.proofs.fill.Statement.{statement}
+use Rattle.edges.proofs.fill.Tie as tie
 
 abbrev Inv-loop : tie.InvT-loop
 Inv-loop edges₀ costs ranks outputs heads starts children none i₀ edges i =

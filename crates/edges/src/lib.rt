@@ -5,10 +5,10 @@ ghost use Prim.Native.Nat.{_<_};
 ghost use lib.ListN.{length, replicate};
 ghost use Rattle.choice.specs.Rows.{allOf};
 ghost use Rattle.choice.specs.Edges.{below, isEdge, edgesOf};
 ghost use Rattle.relax.specs.Flat.{top, childOf, rowOf, rowsOf, ChildrenIn, FlatOk, stateOf};
-ghost use Rattle.relax.specs.Marks.{marked};
-use super::children;
-use super::rows;
+ghost use Rattle.edges.specs.Marks.{marked};
+use relax::children;
+use relax::rows;
 
 // Whether every child's rank is strictly below b (src/extract.rs: compute_topo_rnk_hyperedge, compared).
 fn all_below(ranks: &[u64], b: u64, kids: &[u64]) -> bool

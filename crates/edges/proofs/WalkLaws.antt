@@ -14,10 +14,10 @@ use Rattle.choice.specs.Rows.{Row, rowAt, tabulate}
 use Rattle.choice.specs.Edges.{firstRow, isEdge}
 use Rattle.choice.proofs.ListLaws.{tabulate-length, tabulate-get}
 use Rattle.choice.proofs.EdgeLaws.{first-row-head, first-row-tail}
 use Rattle.relax.specs.Flat.{top, rowOf, partOf, rowsOf, FlatOk}
-use Rattle.relax.specs.Marks.{marked}
+use Rattle.edges.specs.Marks.{marked}
 use Rattle.relax.proofs.FlatLaws.{rows-length, rows-get}
 use Rattle.relax.proofs.PassLaws.{rows-drop}
 
 -- a row is an edge of no class but its own
 pub edge-of-other : (costs ranks : List ℕ) (c : ℕ) (r : Row) → c ≢ r .output → isEdge top costs ranks c r ≡ false

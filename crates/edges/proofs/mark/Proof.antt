@@ -1,11 +1,11 @@
--- `relax::edges::mark` meets its contract, by its three ways. Assumes nothing.
+-- `edges::mark` meets its contract, by its three ways. Assumes nothing.
 use Rattle.choice.specs.Edges.{isEdge}
 use Rattle.relax.specs.Flat.{top, rowOf}
-use Rattle.relax.proofs.EdgeLaws.{marked-when-had, marked-when-edge, marked-when-none}
+use Rattle.edges.proofs.WalkLaws.{marked-when-had, marked-when-edge, marked-when-none}
 use native.Mathlib.Omega.{arith}
 use borrow.Author.Needs.{needs}
-use Rattle.relax.proofs.edges.mark.Statement.{statement}
-use Rattle.relax.proofs.edges.mark.Tie as tie
+use Rattle.edges.proofs.mark.Statement.{statement}
+use Rattle.edges.proofs.mark.Tie as tie
 
 mul-if1 : tie.Need-mul-if1
 mul-if1 c = omega arith
