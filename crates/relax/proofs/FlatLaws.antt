@@ -11,11 +11,14 @@ use Rattle.relax.specs.Flat.{rowOf, partOf, rowsOf, ChildrenIn, FlatOk}
 
 module _ (outputs heads starts children : List ℕ) where
   pub rows-length : length (rowsOf outputs heads starts children) ≡ length outputs
-  rows-length = tabulate-length (λ i. rowOf (getD outputs i 0) (getD heads i 0) (partOf starts children i)) (length outputs)
+  rows-length = tabulate-length (λ i. rowOf (getD outputs i 0) (getD heads i 0) (partOf starts children i))
+      (length outputs)
 
   pub rows-get : (i : ℕ) → i < length outputs
-      → rowAt (rowsOf outputs heads starts children) i ≡ rowOf (getD outputs i 0) (getD heads i 0) (partOf starts children i)
-  rows-get i h = tabulate-get (λ i. rowOf (getD outputs i 0) (getD heads i 0) (partOf starts children i)) (length outputs) i noRow h
+      → rowAt (rowsOf outputs heads starts children) i ≡ rowOf (getD outputs i 0) (getD heads i 0)
+      (partOf starts children i)
+  rows-get i h = tabulate-get (λ i. rowOf (getD outputs i 0) (getD heads i 0) (partOf starts children i))
+      (length outputs) i noRow h
 
   pub rows-within : (n : ℕ) → FlatOk n outputs heads starts children → Within n (rowsOf outputs heads starts children)
   rows-within n ok i h =

@@ -5,4 +5,4 @@ pub mod FlatLaws
 pub mod RowLaws
 pub mod PassLaws
 pub mod RepeatLaws
-pub mod EdgeLaws
+pub mod EndLaws

@@ -14,7 +14,8 @@ shared-slice-read-result : tie.Need-shared-slice-read-result
 shared-slice-read-result c = c .before .before .pre (c .before .if1 .left)
 
 returns-2 : tie.Need-returns-2
-returns-2 c = priced-of-class (c .before .before .args .child) (c .before .before .args .ranks .now) (c .before .if1 .left)
+returns-2 c = priced-of-class (c .before .before .args .child) (c .before .before .args .ranks .now)
+    (c .before .if1 .left)
 
 pub has-cost-spec : {M : Type 1} → statement M
 has-cost-spec = tie.close (tie.spec returns mul-result shared-slice-read-result returns-2)

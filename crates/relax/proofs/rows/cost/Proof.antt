@@ -1,4 +1,5 @@
--- `relax::rows::cost` meets its contract: the sum so far and the children from the i-th on make the row's cost. Assumes nothing.
+-- `relax::rows::cost` meets its contract: the sum so far and the children from the i-th on make the row's cost.
+-- Assumes nothing.
 use Prim.Native.Nat.{_≤_, _<_, _+_, _-_, _^_, min}
 use mathlib.Core.Path.{_≡_}
 use mathlib.Core.List.{map}
@@ -15,7 +16,8 @@ use Rattle.relax.proofs.rows.cost.Tie as tie
 abbrev Inv-loop : tie.InvT-loop
 Inv-loop costs head kids sum₀ i₀ sum i =
     (i ≤ length kids) × (sum < 2 ^ 64)
-    × (min top (sum + sumOf (childCost costs) (map childOf (drop i kids))) ≡ min top (head + sumOf (childCost costs) (map childOf kids)))
+    × (min top (sum + sumOf (childCost costs) (map childOf (drop i kids)))
+    ≡ min top (head + sumOf (childCost costs) (map childOf kids)))
 
 abbrev μ-loop : tie.MeasureT-loop
 μ-loop costs head kids sum₀ i₀ sum i = length kids - i

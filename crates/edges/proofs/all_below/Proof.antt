@@ -1,4 +1,4 @@
--- `relax::edges::all_below` meets its contract: the children from the i-th on decide. Assumes nothing.
+-- `edges::all_below` meets its contract: the children from the i-th on decide. Assumes nothing.
 use Prim.Native.Nat.{_≤_, _<_, _-_}
 use mathlib.Core.Path.{_≡_, sym, _∙_}
 use mathlib.Core.List.{map}
@@ -6,12 +6,12 @@ use borrow.Author.Tests.{lt-ltb, le-ltb}
 use lib.ListN.{length, getD, drop}
 use Rattle.choice.specs.Rows.{allOf}
 use Rattle.choice.specs.Edges.{childRank, below}
 use Rattle.relax.specs.Flat.{childOf}
 use Rattle.relax.proofs.WalkLaws.{all-goes-on, all-stops, all-ends}
 use borrow.Author.Needs.{needs}
 use native.Mathlib.Omega.{arith}
-use Rattle.relax.proofs.edges.all_below.Statement.{statement}
-use Rattle.relax.proofs.edges.all_below.Tie as tie
+use Rattle.edges.proofs.all_below.Statement.{statement}
+use Rattle.edges.proofs.all_below.Tie as tie
 
 abbrev Inv-loop : tie.InvT-loop
 Inv-loop ranks b kids i₀ i =
@@ -51,8 +51,11 @@ loop-again c =
     let a = c .before .before .before .before .before .before .before .args in
     let l = c .before .before .before .before .loop in
     let r = childRank (a .ranks .now) (childOf (getD (a .kids .now) (l .i) 0)) in
-    let h : r < a .b = omega (arith, c .before .rank .ensures, c .if1 .left) in
-    (omega arith, all-goes-on (a .kids .now) (l .i) (below (a .b) (a .ranks .now)) (omega arith) (lt-ltb r (a .b) h) ∙ l .inv .1)
+    let h : r < a .b = omega (arith, c .before .rank .ensures, c .if1 .left) in (
+      omega arith,
+      all-goes-on (a .kids .now) (l .i) (below (a .b) (a .ranks .now)) (omega arith) (lt-ltb r (a .b) h)
+          ∙ l .inv .1,
+    )
 
 returns-2 : tie.Need-returns-2 Inv-loop μ-loop
 returns-2 c =

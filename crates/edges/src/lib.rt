@@ -1,16 +1,16 @@
-// The edge of each class, in one walk over the rows (src/extract.rs: the parent edges).
+// The edge of each class, in one walk over the rows (src/extract.rs: save_best_parent_edge of bellman_ford).
 ghost use mathlib.Core.Path.{_≡_};
 ghost use mathlib.Core.List.{map};
 ghost use Prim.Native.Nat.{_<_};
 ghost use lib.ListN.{length, replicate};
 ghost use Rattle.choice.specs.Rows.{allOf};
 ghost use Rattle.choice.specs.Edges.{below, isEdge, edgesOf};
 ghost use Rattle.relax.specs.Flat.{top, childOf, rowOf, rowsOf, ChildrenIn, FlatOk, stateOf};
-ghost use Rattle.relax.specs.Marks.{marked};
-use super::children;
-use super::rows;
+ghost use Rattle.edges.specs.Marks.{marked};
+use relax::children;
+use relax::rows;
 
-// Whether every child's rank is strictly below b.
+// Whether every child's rank is strictly below b (src/extract.rs: compute_topo_rnk_hyperedge, compared).
 fn all_below(ranks: &[u64], b: u64, kids: &[u64]) -> bool
     requires { ⌜ ChildrenIn (length (now ranks)) (now kids) ⌝ }
     ensures { λ r. ⌜ r ≡ allOf (below b (now (ranks .entry))) (map childOf (now (kids .entry))) ⌝ }
@@ -31,7 +31,8 @@ fn is_edge(costs: &[u64], ranks: &[u64], output: usize, head: u64, kids: &[u64])
     requires { ⌜ length (now costs) ≡ length (now ranks) ⌝ }
     requires { ⌜ output < length (now ranks) ⌝ }
     requires { ⌜ ChildrenIn (length (now ranks)) (now kids) ⌝ }
-    ensures { λ r. ⌜ r ≡ isEdge top (now (costs .entry)) (now (ranks .entry)) output (rowOf output head (now (kids .entry))) ⌝ }
+    ensures { λ r.
+        ⌜ r ≡ isEdge top (now (costs .entry)) (now (ranks .entry)) output (rowOf output head (now (kids .entry))) ⌝ }
 {
     if !rows::has_cost(ranks, kids) {
         return false;
@@ -60,7 +61,8 @@ fn mark(
     requires { ⌜ output < length (now ranks) ⌝ }
     requires { ⌜ ChildrenIn (length (now ranks)) (now kids) ⌝ }
     ensures { λ _. ⌜ now (edges .exit)
-        ≡ marked (isEdge top (now (costs .entry)) (now (ranks .entry))) none i (rowOf output head (now (kids .entry))) (now (edges .entry)) ⌝ }
+        ≡ marked (isEdge top (now (costs .entry)) (now (ranks .entry))) none i (rowOf output head (now (kids .entry)))
+        (now (edges .entry)) ⌝ }
 {
     if edges[output] != none {
         return;

@@ -1,11 +1,11 @@
--- `relax::edges::clear` meets its contract: below c every place is `none`. Assumes nothing.
+-- `edges::clear` meets its contract: below c every place is `none`. Assumes nothing.
 use native.Mathlib.Omega.{arith}
 use Prim.Native.Nat.{_-_}
 use lib.ListN.{length}
-use Rattle.relax.proofs.WalkLaws.{Filled, fill-begins, fill-goes-on, fill-ends}
+use Rattle.edges.proofs.ClearLaws.{Filled, fill-begins, fill-goes-on, fill-ends}
 use borrow.Author.Needs.{needs}
-use Rattle.relax.proofs.edges.clear.Statement.{statement}
-use Rattle.relax.proofs.edges.clear.Tie as tie
+use Rattle.edges.proofs.clear.Statement.{statement}
+use Rattle.edges.proofs.clear.Tie as tie
 
 abbrev Inv-loop : tie.InvT-loop
 Inv-loop edges₀ none c₀ edges c = Filled none edges₀ edges c

@@ -14,10 +14,10 @@ use Rattle.choice.specs.Rows.{Row, rowAt, tabulate}
 use Rattle.choice.specs.Edges.{firstRow, isEdge}
 use Rattle.choice.proofs.ListLaws.{tabulate-length, tabulate-get}
 use Rattle.choice.proofs.EdgeLaws.{first-row-head, first-row-tail}
 use Rattle.relax.specs.Flat.{top, rowOf, partOf, rowsOf, FlatOk}
-use Rattle.relax.specs.Marks.{marked}
+use Rattle.edges.specs.Marks.{marked}
 use Rattle.relax.proofs.FlatLaws.{rows-length, rows-get}
 use Rattle.relax.proofs.PassLaws.{rows-drop}
 
 -- a row is an edge of no class but its own
 pub edge-of-other : (costs ranks : List ℕ) (c : ℕ) (r : Row) → c ≢ r .output → isEdge top costs ranks c r ≡ false
@@ -43,7 +43,8 @@ module _ (p : Row → Bool) (rows : List Row) where
   first-when-here : (i : ℕ) → i < length rows → p (rowAt rows i) ≡ true → firstRow p (drop i rows) ≡ 0
   first-when-here i h e = ap (firstRow p) (rows-drop rows i h) ∙ first-row-head p (rowAt rows i) (drop (i + 1) rows) e
 
-  first-when-later : (i : ℕ) → i < length rows → p (rowAt rows i) ≡ false → firstRow p (drop i rows) ≡ suc (firstRow p (drop (i + 1) rows))
+  first-when-later : (i : ℕ) → i < length rows → p (rowAt rows i) ≡ false
+      → firstRow p (drop i rows) ≡ suc (firstRow p (drop (i + 1) rows))
   first-when-later i h e = ap (firstRow p) (rows-drop rows i h) ∙ first-row-tail p (rowAt rows i) (drop (i + 1) rows) e
 
   first-at-end : (i : ℕ) → i ≡ length rows → firstRow p (drop i rows) ≡ 0
@@ -70,7 +71,8 @@ module _ (p : ℕ → Row → Bool) (rows : List Row) where
       let q = first-when-later (p c) rows i h e in
       inr (record { nothing = s .nothing; rest = omega (arith, s .rest) })
 
-  looked-here : (i c x : ℕ) → i < length rows → p c (rowAt rows i) ≡ true → x ≡ length rows → Looked i c x → Looked (i + 1) c i
+  looked-here : (i c x : ℕ) → i < length rows → p c (rowAt rows i) ≡ true → x ≡ length rows → Looked i c x
+      → Looked (i + 1) c i
   looked-here i c x h e n (inl f) = absurd (omega (arith, f .known))
   looked-here i c x h e n (inr s) =
       let q = first-when-here (p c) rows i h e in
@@ -97,14 +99,18 @@ module _ (p : ℕ → Row → Bool) (rows : List Row) where
     each = λ c h. inr (record { nothing = getD-replicate n c (length rows) 0 h; rest = omega arith });
   }
 
-  pub walk-ends : (n : ℕ) (edges : List ℕ) (i : ℕ) → length rows ≤ i → Walked n edges i → edges ≡ tabulate (λ c. firstRow (p c) rows) n
+  pub walk-ends : (n : ℕ) (edges : List ℕ) (i : ℕ) → length rows ≤ i → Walked n edges i
+      → edges ≡ tabulate (λ c. firstRow (p c) rows) n
   walk-ends n edges i h v =
-      ext-getD 0 edges (tabulate (λ c. firstRow (p c) rows) n) (v .long ∙ sym (tabulate-length (λ c. firstRow (p c) rows) n))
+      ext-getD 0 edges (tabulate (λ c. firstRow (p c) rows) n)
+      (v .long ∙ sym (tabulate-length (λ c. firstRow (p c) rows) n))
       (λ c k.
       let l : c < n = omega (arith, v .long) in
-      looked-at-end i c (getD edges c 0) (omega (arith, v .at)) (v .each c l) ∙ sym (tabulate-get (λ c. firstRow (p c) rows) n c 0 l))
+      looked-at-end i c (getD edges c 0) (omega (arith, v .at)) (v .each c l)
+      ∙ sym (tabulate-get (λ c. firstRow (p c) rows) n c 0 l))
 
-  module _ (other : (c : ℕ) (r : Row) → c ≢ r .output → p c r ≡ false) (n : ℕ) (edges : List ℕ) (i : ℕ) (h : i < length rows)
+  module _ (other : (c : ℕ) (r : Row) → c ≢ r .output → p c r ≡ false) (n : ℕ) (edges : List ℕ) (i : ℕ)
+      (h : i < length rows)
       (v : Walked n edges i) (inside : rowAt rows i .output < n) where
     abbrev row : Row
     row = rowAt rows i
@@ -117,7 +123,8 @@ module _ (p : ℕ → Row → Bool) (rows : List Row) where
     walk-had d = walk-same (λ c l. go c l (ℕ-discrete c (row .output)))
       where
         go : (c : ℕ) → c < n → Dec (c ≡ row .output) → Looked (i + 1) c (getD edges c 0)
-        go c l (yes e) = looked-kept i c (getD edges c 0) (λ q. d (ap (λ (y : ℕ). getD edges y 0) (sym e) ∙ q)) (v .each c l)
+        go c l (yes e) = looked-kept i c (getD edges c 0) (λ q. d (ap (λ (y : ℕ). getD edges y 0) (sym e) ∙ q))
+            (v .each c l)
         go c l (no e) = looked-later i c (getD edges c 0) h (other c row e) (v .each c l)
 
     walk-passes : p (row .output) row ≡ false → Walked n edges (i + 1)
@@ -127,7 +134,8 @@ module _ (p : ℕ → Row → Bool) (rows : List Row) where
         go c l (yes e) = looked-later i c (getD edges c 0) h (ap (λ (y : ℕ). p y row) e ∙ b) (v .each c l)
         go c l (no e) = looked-later i c (getD edges c 0) h (other c row e) (v .each c l)
 
-    walk-takes : getD edges (row .output) 0 ≡ length rows → p (row .output) row ≡ true → Walked n (set edges (row .output) i) (i + 1)
+    walk-takes : getD edges (row .output) 0 ≡ length rows → p (row .output) row ≡ true
+        → Walked n (set edges (row .output) i) (i + 1)
     walk-takes z b = record {
       at = omega arith;
       long = length-set edges (row .output) i ∙ v .long;
@@ -138,7 +146,8 @@ module _ (p : ℕ → Row → Bool) (rows : List Row) where
         go c l (yes e) =
             rw (e, getD-set-same edges (row .output) i 0 (omega (arith, v .long)))
             (looked-here i (row .output) (getD edges (row .output) 0) h b z (v .each (row .output) inside))
-        go c l (no e) = rw (getD-set-other edges (row .output) c i 0 e) (looked-later i c (getD edges c 0) h (other c row e) (v .each c l))
+        go c l (no e) = rw (getD-set-other edges (row .output) c i 0 e)
+            (looked-later i c (getD edges c 0) h (other c row e) (v .each c l))
 
     pub walk-goes-on : Walked n (marked p (length rows) i row edges) (i + 1)
     unfolding marked
@@ -158,23 +167,28 @@ module _ (costs ranks outputs heads starts children : List ℕ) where
   abbrev is : ℕ → Row → Bool
   is = isEdge top costs ranks
 
-  pub flat-walk-begins : (edges : List ℕ) (n none : ℕ) → none ≡ length outputs → n ≡ length ranks → edges ≡ replicate n none
+  pub flat-walk-begins : (edges : List ℕ) (n none : ℕ) → none ≡ length outputs → n ≡ length ranks
+      → edges ≡ replicate n none
       → Walked is flat (length ranks) edges 0
   flat-walk-begins edges n none a b e =
       let c : none ≡ length flat = a ∙ sym (rows-length outputs heads starts children) in
       rw (e, b, c) (walk-begins is flat (length ranks))
 
   module _ (edges : List ℕ) (i : ℕ) (v : Walked is flat (length ranks) edges i) where
-    pub flat-walk-goes-on : (none : ℕ) → none ≡ length outputs → i < length outputs → FlatOk (length ranks) outputs heads starts children
-        → (after : List ℕ) → after ≡ marked is none i (rowOf (getD outputs i 0) (getD heads i 0) (partOf starts children i)) edges
+    pub flat-walk-goes-on : (none : ℕ) → none ≡ length outputs → i < length outputs
+        → FlatOk (length ranks) outputs heads starts children
+        → (after : List ℕ)
+        → after ≡ marked is none i (rowOf (getD outputs i 0) (getD heads i 0) (partOf starts children i)) edges
         → Walked is flat (length ranks) after (i + 1)
     flat-walk-goes-on none a h ok after e =
         let l = rows-length outputs heads starts children in
         let g = rows-get outputs heads starts children i h in
         let c : none ≡ length flat = a ∙ sym l in
         let o = ap (λ (r : Row). r .output) g in
-        let w = walk-goes-on is flat (edge-of-other costs ranks) (length ranks) edges i (omega arith) v (omega (arith, ok .outputs-in i h)) in
+        let w = walk-goes-on is flat (edge-of-other costs ranks) (length ranks) edges i (omega arith) v
+        (omega (arith, ok .outputs-in i h)) in
         rw (e, c, ← g) w
 
     pub flat-walk-ends : length outputs ≤ i → edges ≡ tabulate (λ c. firstRow (is c) flat) (length ranks)
-    flat-walk-ends h = walk-ends is flat (length ranks) edges i (omega (arith, rows-length outputs heads starts children)) v
+    flat-walk-ends h = walk-ends is flat (length ranks) edges i
+        (omega (arith, rows-length outputs heads starts children)) v
