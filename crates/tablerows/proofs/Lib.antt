@@ -1,0 +1,3 @@
+-- The laws of the crate `tablerows`.
+pub mod ClassLaws
+pub mod ViewLaws
