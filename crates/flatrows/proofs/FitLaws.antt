@@ -135,7 +135,7 @@ module _ (sorts functions rows n : ℕ)
       base-small = λ j l. v .base-small (getD (argumentsIn arities arguments f) j 0) (argument-below j l);
       cell-small = λ j l.
           let t : j < getD arities f 0 = omega (arith, arguments-length arities arguments cells f r arguments-room) in
-          rw (cells-get arities arguments cells f r j t) (v .cell-small (r * 9 + j) (omega (arith, arity-most)));
+          rw (cells-get arities arguments cells f r j t) (v .cell-small r j h t);
     }
 
     children-fit : ChildrenFit kinds bases arities arguments rowFunctions cells r

@@ -1,3 +1,0 @@
--- The laws of the crate `tablerows`.
-pub mod ClassLaws
-pub mod ViewLaws
