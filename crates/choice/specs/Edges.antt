@@ -1,4 +1,5 @@
--- A class's edge, and the tree that edges choose: document 01, 'Costs and choice', third paragraph. Assumes nothing: definitions.
+-- A class's edge, and the tree that edges choose: document 01, 'Costs and choice', third paragraph.
+-- Assumes nothing: definitions.
 use mathlib.Core.Path.{_≡_}
 use mathlib.Core.Bool.{Bool, true, false, _&&_}
 use mathlib.Core.List.{List, [], _∷_}

@@ -6,4 +6,4 @@ pub mod RowLaws
 pub mod PassLaws
 pub mod RepeatLaws
 pub mod EdgeLaws
-pub mod FillLaws
+pub mod EndLaws

@@ -19,7 +19,7 @@ zeros (x ∷ l) f = rw (f 0) (ap (λ (m : List ℕ). 0 ∷ m) (zeros l (λ c. f 
 
 fresh-is-blank : (costs ranks : List ℕ) → Fresh costs ranks → stateOf costs ranks 0 ≡ blank (length ranks)
 fresh-is-blank costs ranks z =
-    let e : costs ≡ replicate (length ranks) 0 = zeros costs (z .costs-zero) ∙ ap (λ (k : ℕ). replicate k 0) (z .long) in
+    let e = zeros costs (z .costs-zero) ∙ ap (λ (k : ℕ). replicate k 0) (z .long) in
     let f = zeros ranks (z .ranks-zero) in
     λ i. record { costs = e i; ranks = f i; last = 0 }
 
@@ -31,7 +31,8 @@ pub record Repeated (rows : List Row) (n : ℕ) (s : State) (p : ℕ) : Type 0 w
   pub is : s ≡ passes top rows p (blank n)
   pub busy : Busy top rows (blank n) p
 
-pub repeat-begins : (rows : List Row) (costs ranks : List ℕ) → Fresh costs ranks → Repeated rows (length ranks) (stateOf costs ranks 0) 0
+pub repeat-begins : (rows : List Row) (costs ranks : List ℕ) → Fresh costs ranks
+    → Repeated rows (length ranks) (stateOf costs ranks 0) 0
 unfolding passes
 repeat-begins rows costs ranks z = record {
   costs-length = z .long;
@@ -50,7 +51,8 @@ module _ (n : ℕ) (outputs heads starts children : List ℕ) (ok : FlatOk n out
 
   -- what the next pass asks
   pub repeat-asks : (s : State) (p : ℕ) → Repeated flat n s p
-      → (s .last + length outputs < top) × ((length (s .costs) ≡ length (s .ranks)) × FlatOk (length (s .ranks)) outputs heads starts children)
+      → (s .last + length outputs < top)
+      × ((length (s .costs) ≡ length (s .ranks)) × FlatOk (length (s .ranks)) outputs heads starts children)
   repeat-asks s p v = (
     omega (arith, v .low, repeat-few s p v, ok .few-classes, ok .few-rows),
     (omega (arith, v .costs-length, v .ranks-length), rw (v .ranks-length) ok),
@@ -58,7 +60,8 @@ module _ (n : ℕ) (outputs heads starts children : List ℕ) (ok : FlatOk n out
 
   module _ (s t : State) (p : ℕ) (v : Repeated flat n s p) (e : t ≡ pass top flat s) where
     -- a pass that gave a rank
-    pub repeat-goes-on : length (t .costs) ≡ length (s .costs) → length (t .ranks) ≡ length (s .ranks) → (t .last ≡ s .last → ⊥)
+    pub repeat-goes-on : length (t .costs) ≡ length (s .costs) → length (t .ranks) ≡ length (s .ranks)
+        → (t .last ≡ s .last → ⊥)
         → Repeated flat n t (p + 1)
     unfolding passes
     repeat-goes-on lc lr d = record {
@@ -81,7 +84,8 @@ module _ (n : ℕ) (outputs heads starts children : List ℕ) (ok : FlatOk n out
     pub repeat-ends : t .last ≡ s .last → ranTo (t .costs) (t .ranks) (t .last) (p + 1) ≡ run top flat n
     repeat-ends d =
         let k = pass-still top flat s (omega (arith, ap (λ (u : State). u .last) e)) .1 in
-        run-unique top n flat (rows-within outputs heads starts children n ok) (ranTo (t .costs) (t .ranks) (t .last) (p + 1))
+        run-unique top n flat (rows-within outputs heads starts children n ok)
+        (ranTo (t .costs) (t .ranks) (t .last) (p + 1))
         (record {
           before = p;
           counted = add-one p;

@@ -22,7 +22,8 @@ module _ (costs ranks kids : List ℕ) (last output head : ℕ) where
 
   module _ (w : ℕ) (k : allOf (priced ranks) (map childOf kids) ≡ true)
       (we : w ≡ min top (head + sumOf (childCost costs) (map childOf kids))) where
-    pub relax-when-first : getD ranks output 0 ≡ 0 → stateOf (set costs output w) (set ranks output (last + 1)) (last + 1) ≡ after
+    pub relax-when-first : getD ranks output 0 ≡ 0
+        → stateOf (set costs output w) (set ranks output (last + 1)) (last + 1) ≡ after
     unfolding relax improves rowCost
     relax-when-first z = rw (k, eq-eqb (getD ranks output 0) 0 z, we, add-one)
 
@@ -31,33 +32,30 @@ module _ (costs ranks kids : List ℕ) (last output head : ℕ) where
     unfolding relax improves rowCost
     relax-when-lower z = go (eqb (getD ranks output 0) 0) refl
       where
-        go : (b : Bool) → eqb (getD ranks output 0) 0 ≡ b → stateOf (set costs output w) (set ranks output (last + 1)) (last + 1) ≡ after
+        go : (b : Bool) → eqb (getD ranks output 0) 0 ≡ b
+            → stateOf (set costs output w) (set ranks output (last + 1)) (last + 1) ≡ after
         go true e = relax-when-first (eqb-true (getD ranks output 0) 0 e)
         go false e = rw (k, e, ← we, z, add-one)
 
-    pub relax-when-kept : (getD ranks output 0 ≡ 0 → ⊥) → ltb w (getD costs output 0) ≡ false → stateOf costs ranks last ≡ after
+    pub relax-when-kept : (getD ranks output 0 ≡ 0 → ⊥) → ltb w (getD costs output 0) ≡ false
+        → stateOf costs ranks last ≡ after
     unfolding relax improves rowCost
     relax-when-kept n z = rw (k, ne-eqb (getD ranks output 0) 0 n, ← we, z)
 
-module _ (costs ranks kids : List ℕ) (c output head : ℕ) where
+module _ (costs ranks kids : List ℕ) (output head : ℕ) where
   abbrev edge : Bool
-  edge = isEdge top costs ranks c (rowOf output head kids)
+  edge = isEdge top costs ranks output (rowOf output head kids)
 
-  pub edge-when-other : (output ≡ c → ⊥) → false ≡ edge
+  pub edge-when-unpriced : allOf (priced ranks) (map childOf kids) ≡ false → false ≡ edge
   unfolding isEdge
-  edge-when-other n = rw (ne-eqb output c n)
+  edge-when-unpriced k = rw (eq-eqb output output refl, k)
 
-  module _ (e : output ≡ c) where
-    pub edge-when-unpriced : allOf (priced ranks) (map childOf kids) ≡ false → false ≡ edge
-    unfolding isEdge
-    edge-when-unpriced k = rw (eq-eqb output c e, k)
+  module _ (w : ℕ) (k : allOf (priced ranks) (map childOf kids) ≡ true)
+      (we : w ≡ min top (head + sumOf (childCost costs) (map childOf kids))) where
+    pub edge-when-dearer : (w ≡ getD costs output 0 → ⊥) → false ≡ edge
+    unfolding isEdge rowCost
+    edge-when-dearer n = rw (eq-eqb output output refl, k, ← we, ne-eqb w (getD costs output 0) n)
 
-    module _ (w : ℕ) (k : allOf (priced ranks) (map childOf kids) ≡ true)
-        (we : w ≡ min top (head + sumOf (childCost costs) (map childOf kids))) where
-      pub edge-when-dearer : (w ≡ getD costs c 0 → ⊥) → false ≡ edge
-      unfolding isEdge rowCost
-      edge-when-dearer n = rw (eq-eqb output c e, k, ← we, ne-eqb w (getD costs c 0) n)
-
-      pub edge-when-exact : w ≡ getD costs c 0 → allOf (below (getD ranks c 0) ranks) (map childOf kids) ≡ edge
-      unfolding isEdge rowCost
-      edge-when-exact q = rw (eq-eqb output c e, k, ← we, eq-eqb w (getD costs c 0) q)
+    pub edge-when-exact : w ≡ getD costs output 0 → allOf (below (getD ranks output 0) ranks) (map childOf kids) ≡ edge
+    unfolding isEdge rowCost
+    edge-when-exact q = rw (eq-eqb output output refl, k, ← we, eq-eqb w (getD costs output 0) q)

@@ -10,13 +10,14 @@ pub const TOP: u64 = 18446744073709551615;
 
 pub const CLASSES: u64 = 512;
 
-// src/extract.rs: `Cost for u64`, combine.
+// src/extract.rs: combine of u64 costs.
 pub fn sat_add(a: u64, b: u64) -> u64
     ensures { λ r. ⌜ r ≡ min (2 ^ 64 - 1) (a + b) ⌝ }
 {
     if a > TOP - b { TOP } else { a + b }
 }
 
+// Whether a child has a cost: a literal has.
 pub fn has_cost(ranks: &[u64], child: u64) -> bool
     requires { ⌜ ChildIn (length (now ranks)) child ⌝ }
     ensures { λ r. ⌜ r ≡ priced (now (ranks .entry)) (childOf child) ⌝ }
@@ -28,6 +29,7 @@ pub fn has_cost(ranks: &[u64], child: u64) -> bool
     0 < ranks[c]
 }
 
+// src/extract.rs: compute_cost_node.
 pub fn cost(costs: &[u64], child: u64) -> u64
     requires { ⌜ ChildIn (length (now costs)) child ⌝ }
     ensures { λ r. ⌜ r ≡ childCost (now (costs .entry)) (childOf child) ⌝ }
@@ -39,6 +41,7 @@ pub fn cost(costs: &[u64], child: u64) -> u64
     costs[c]
 }
 
+// src/extract.rs: compute_topo_rnk_node.
 pub fn rank(ranks: &[u64], child: u64) -> u64
     requires { ⌜ ChildIn (length (now ranks)) child ⌝ }
     ensures { λ r. ⌜ r ≡ childRank (now (ranks .entry)) (childOf child) ⌝ }

@@ -1,15 +1,16 @@
-// The edge of each class (src/extract.rs: the parent edges).
+// The edge of each class, in one walk over the rows (src/extract.rs: save_best_parent_edge of bellman_ford).
 ghost use mathlib.Core.Path.{_≡_};
 ghost use mathlib.Core.List.{map};
 ghost use Prim.Native.Nat.{_<_};
-ghost use lib.ListN.{length};
+ghost use lib.ListN.{length, replicate};
 ghost use Rattle.choice.specs.Rows.{allOf};
-ghost use Rattle.choice.specs.Edges.{below, isEdge, firstRow, edgesOf};
+ghost use Rattle.choice.specs.Edges.{below, isEdge, edgesOf};
 ghost use Rattle.relax.specs.Flat.{top, childOf, rowOf, rowsOf, ChildrenIn, FlatOk, stateOf};
+ghost use Rattle.relax.specs.Marks.{marked};
 use super::children;
 use super::rows;
 
-// Whether every child's rank is strictly below b.
+// Whether every child's rank is strictly below b (src/extract.rs: compute_topo_rnk_hyperedge, compared).
 fn all_below(ranks: &[u64], b: u64, kids: &[u64]) -> bool
     requires { ⌜ ChildrenIn (length (now ranks)) (now kids) ⌝ }
     ensures { λ r. ⌜ r ≡ allOf (below b (now (ranks .entry))) (map childOf (now (kids .entry))) ⌝ }
@@ -25,58 +26,64 @@ fn all_below(ranks: &[u64], b: u64, kids: &[u64]) -> bool
     true
 }
 
-// Whether a row can be the edge of class c.
-fn is_edge(costs: &[u64], ranks: &[u64], c: usize, output: usize, head: u64, kids: &[u64]) -> bool
+// Whether a row can be the edge of its class.
+fn is_edge(costs: &[u64], ranks: &[u64], output: usize, head: u64, kids: &[u64]) -> bool
     requires { ⌜ length (now costs) ≡ length (now ranks) ⌝ }
-    requires { ⌜ c < length (now ranks) ⌝ }
+    requires { ⌜ output < length (now ranks) ⌝ }
     requires { ⌜ ChildrenIn (length (now ranks)) (now kids) ⌝ }
-    ensures { λ r. ⌜ r ≡ isEdge top (now (costs .entry)) (now (ranks .entry)) c (rowOf output head (now (kids .entry))) ⌝ }
+    ensures { λ r.
+        ⌜ r ≡ isEdge top (now (costs .entry)) (now (ranks .entry)) output (rowOf output head (now (kids .entry))) ⌝ }
 {
-    if output != c {
-        return false;
-    }
     if !rows::has_cost(ranks, kids) {
         return false;
     }
     let w = rows::cost(costs, head, kids);
-    if w != costs[c] {
+    if w != costs[output] {
         return false;
     }
-    let b = ranks[c];
+    let b = ranks[output];
     all_below(ranks, b, kids)
 }
 
-// The number of the first row that can, or of rows where none can.
-pub fn find(
+// Takes the row of number i for the edge of its class, if the class has none yet and the row can be.
+fn mark(
+    edges: &mut [u64],
+    none: u64,
+    i: u64,
     costs: &[u64],
     ranks: &[u64],
-    c: usize,
-    outputs: &[u64],
-    heads: &[u64],
-    starts: &[usize],
-    children: &[u64],
-) -> usize
+    output: usize,
+    head: u64,
+    kids: &[u64],
+)
+    requires { ⌜ length (now edges) ≡ length (now ranks) ⌝ }
     requires { ⌜ length (now costs) ≡ length (now ranks) ⌝ }
-    requires { ⌜ c < length (now ranks) ⌝ }
-    requires { ⌜ FlatOk (length (now ranks)) (now outputs) (now heads) (now starts) (now children) ⌝ }
-    ensures { λ r. ⌜ r ≡ firstRow (isEdge top (now (costs .entry)) (now (ranks .entry)) c)
-        (rowsOf (now (outputs .entry)) (now (heads .entry)) (now (starts .entry)) (now (children .entry))) ⌝ }
+    requires { ⌜ output < length (now ranks) ⌝ }
+    requires { ⌜ ChildrenIn (length (now ranks)) (now kids) ⌝ }
+    ensures { λ _. ⌜ now (edges .exit)
+        ≡ marked (isEdge top (now (costs .entry)) (now (ranks .entry))) none i (rowOf output head (now (kids .entry)))
+        (now (edges .entry)) ⌝ }
 {
-    let mut i = 0;
-    while i < outputs.len() {
-        let output = outputs[i] as usize;
-        let head = heads[i];
-        let a = starts[i];
-        let e = starts[i + 1];
-        if is_edge(costs, ranks, c, output, head, &children[a..e]) {
-            return i;
-        }
-        i += 1;
+    if edges[output] != none {
+        return;
     }
-    i
+    if is_edge(costs, ranks, output, head, kids) {
+        edges[output] = i;
+    }
 }
 
-// The edges of all classes.
+// No class has an edge.
+fn clear(edges: &mut [u64], none: u64)
+    ensures { λ _. ⌜ now (edges .exit) ≡ replicate (length (now (edges .entry))) none ⌝ }
+{
+    let mut c = 0;
+    while c < edges.len() {
+        edges[c] = none;
+        c += 1;
+    }
+}
+
+// The edges of all classes; the number of rows where a class has none.
 pub fn fill(
     edges: &mut [u64],
     costs: &[u64],
@@ -92,10 +99,24 @@ pub fn fill(
     ensures { λ _. ⌜ now (edges .exit) ≡ edgesOf top (stateOf (now (costs .entry)) (now (ranks .entry)) 0)
         (rowsOf (now (outputs .entry)) (now (heads .entry)) (now (starts .entry)) (now (children .entry))) ⌝ }
 {
-    let mut c = 0;
-    while c < edges.len() {
-        let row = find(costs, ranks, c, outputs, heads, starts, children);
-        edges[c] = row as u64;
-        c += 1;
+    let none = outputs.len() as u64;
+    clear(edges, none);
+    let mut i = 0;
+    while i < outputs.len() {
+        let output = outputs[i] as usize;
+        let head = heads[i];
+        let a = starts[i];
+        let e = starts[i + 1];
+        mark(
+            edges,
+            none,
+            i as u64,
+            costs,
+            ranks,
+            output,
+            head,
+            &children[a..e],
+        );
+        i += 1;
     }
 }

@@ -38,7 +38,7 @@ pub fn cost(costs: &[u64], head: u64, kids: &[u64]) -> u64
     sum
 }
 
-// Relaxes one row; the last rank given comes back.
+// Relaxes one row; the last rank given comes back (src/extract.rs: relax_hyperedge of bellman_ford).
 pub fn relax_row(
     costs: &mut [u64],
     ranks: &mut [u64],

@@ -24,10 +24,10 @@ loop-holds : tie.Need-loop-holds Inv-loop μ-loop
 loop-holds c = search needs
 
 mul-rank : tie.Need-mul-rank Inv-loop μ-loop
-mul-rank c = search needs
+mul-rank c = omega arith
 
 shared-slice-read-rank : tie.Need-shared-slice-read-rank Inv-loop μ-loop
-shared-slice-read-rank c = search needs
+shared-slice-read-rank c = omega arith
 
 rank-requires : tie.Need-rank-requires Inv-loop μ-loop
 rank-requires c κs = c .before .before .before .before .before .pre (c .before .before .loop .i) (omega arith)
@@ -41,18 +41,21 @@ returns c =
     sym (all-stops (a .kids .now) (l .i) (below (a .b) (a .ranks .now)) (omega arith) (le-ltb r (a .b) h)) ∙ l .inv .1
 
 add-i : tie.Need-add-i Inv-loop μ-loop
-add-i c = search needs
+add-i c = omega arith
 
 loop-less : tie.Need-loop-less Inv-loop μ-loop
-loop-less c = search needs
+loop-less c = omega arith
 
 loop-again : tie.Need-loop-again Inv-loop μ-loop
 loop-again c =
     let a = c .before .before .before .before .before .before .before .args in
     let l = c .before .before .before .before .loop in
     let r = childRank (a .ranks .now) (childOf (getD (a .kids .now) (l .i) 0)) in
-    let h : r < a .b = omega (arith, c .before .rank .ensures, c .if1 .left) in
-    (omega arith, all-goes-on (a .kids .now) (l .i) (below (a .b) (a .ranks .now)) (omega arith) (lt-ltb r (a .b) h) ∙ l .inv .1)
+    let h : r < a .b = omega (arith, c .before .rank .ensures, c .if1 .left) in (
+      omega arith,
+      all-goes-on (a .kids .now) (l .i) (below (a .b) (a .ranks .now)) (omega arith) (lt-ltb r (a .b) h)
+          ∙ l .inv .1,
+    )
 
 returns-2 : tie.Need-returns-2 Inv-loop μ-loop
 returns-2 c =

@@ -2,7 +2,7 @@
 use Prim.Native.Nat.{_-_}
 use lib.ListN.{length}
 use Rattle.relax.specs.Flat.{rowsOf, stateOf}
-use Rattle.relax.proofs.PassLaws.{Within-pass, pass-begins, flat-asks, flat-goes-on, flat-ends}
+use Rattle.relax.proofs.PassLaws.{WithinPass, pass-begins, flat-asks, flat-goes-on, flat-ends}
 use borrow.Author.Needs.{needs}
 use native.Mathlib.Omega.{arith}
 use Rattle.relax.proofs.passes.one_pass.Statement.{statement}
@@ -10,7 +10,7 @@ use Rattle.relax.proofs.passes.one_pass.Tie as tie
 
 abbrev Inv-loop : tie.InvT-loop
 Inv-loop costs₀ ranks₀ last outputs heads starts children l₀ i₀ costs ranks l i =
-    Within-pass (rowsOf outputs heads starts children) (stateOf costs₀ ranks₀ last) (stateOf costs ranks l) i
+    WithinPass (rowsOf outputs heads starts children) (stateOf costs₀ ranks₀ last) (stateOf costs ranks l) i
 
 abbrev μ-loop : tie.MeasureT-loop
 μ-loop costs₀ ranks₀ last outputs heads starts children l₀ i₀ costs ranks l i = length outputs - i
@@ -18,72 +18,82 @@ abbrev μ-loop : tie.MeasureT-loop
 loop-holds : tie.Need-loop-holds Inv-loop μ-loop
 loop-holds c =
     let a = c .before .before .before .before .before .before .args in
-    pass-begins (rowsOf (a .outputs .now) (a .heads .now) (a .starts .now) (a .children .now)) (stateOf (a .costs .now) (a .ranks .now) (a .last))
+    pass-begins (rowsOf (a .outputs .now) (a .heads .now) (a .starts .now) (a .children .now))
+    (stateOf (a .costs .now) (a .ranks .now) (a .last))
 
 mul-output : tie.Need-mul-output Inv-loop μ-loop
-mul-output c = search needs
+mul-output c = omega arith
 
 shared-slice-read-output : tie.Need-shared-slice-read-output Inv-loop μ-loop
-shared-slice-read-output c = search needs
+shared-slice-read-output c = omega arith
 
 mul-head : tie.Need-mul-head Inv-loop μ-loop
-mul-head c = search needs
+mul-head c = omega arith
 
 shared-slice-read-head : tie.Need-shared-slice-read-head Inv-loop μ-loop
-shared-slice-read-head c = search needs
+shared-slice-read-head c = omega arith
 
 mul-a : tie.Need-mul-a Inv-loop μ-loop
-mul-a c = search needs
+mul-a c = omega arith
 
 shared-slice-read-a : tie.Need-shared-slice-read-a Inv-loop μ-loop
-shared-slice-read-a c = search needs
+shared-slice-read-a c = omega arith
 
 add-e : tie.Need-add-e Inv-loop μ-loop
-add-e c = search needs
+add-e c = omega arith
 
 mul-e : tie.Need-mul-e Inv-loop μ-loop
-mul-e c = search needs
+mul-e c = omega arith
 
 shared-slice-read-e : tie.Need-shared-slice-read-e Inv-loop μ-loop
-shared-slice-read-e c = search needs
+shared-slice-read-e c = omega arith
 
 mul-relax-row : tie.Need-mul-relax-row Inv-loop μ-loop
 mul-relax-row c =
-    let ok = c .before .before .before .before .before .before .before .before .before .before .before .before .before .before .pre .1 .1 in
-    let i = c .before .before .before .before .before .before .before .loop .i in
-    omega (arith, ok .starts-rise i (omega arith), ok .starts-in i (omega arith))
+    let t = c .before .before .before .before .before .before .before in
+    let ok = t .before .before .before .before .before .before .before .pre .1 .1 in
+    omega (arith, ok .starts-rise (t .loop .i) (omega arith), ok .starts-in (t .loop .i) (omega arith))
 
 sub-relax-row : tie.Need-sub-relax-row Inv-loop μ-loop
-sub-relax-row c = c .before .before .before .before .before .before .before .before .before .before .before .before .before .before .pre .1 .1 .starts-rise (c .before .before .before .before .before .before .before .loop .i) (omega arith)
+sub-relax-row c =
+    let t = c .before .before .before .before .before .before .before in
+    t .before .before .before .before .before .before .before .pre .1 .1 .starts-rise (t .loop .i) (omega arith)
 
 part-relax-row-start : tie.Need-part-relax-row-start Inv-loop μ-loop
-part-relax-row-start c = c .before .before .before .before .before .before .before .before .before .before .before .before .before .before .pre .1 .1 .starts-rise (c .before .before .before .before .before .before .before .loop .i) (omega arith)
+part-relax-row-start c =
+    let t = c .before .before .before .before .before .before .before in
+    t .before .before .before .before .before .before .before .pre .1 .1 .starts-rise (t .loop .i) (omega arith)
 
 part-relax-row-end : tie.Need-part-relax-row-end Inv-loop μ-loop
-part-relax-row-end c = c .before .before .before .before .before .before .before .before .before .before .before .before .before .before .pre .1 .1 .starts-in (c .before .before .before .before .before .before .before .loop .i) (omega arith)
+part-relax-row-end c =
+    let t = c .before .before .before .before .before .before .before in
+    t .before .before .before .before .before .before .before .pre .1 .1 .starts-in (t .loop .i) (omega arith)
 
 relax-row-requires : tie.Need-relax-row-requires Inv-loop μ-loop
 relax-row-requires c κs =
-    let a = c .before .before .before .before .before .before .before .before .before .before .before .before .before .before .before .args in
-    let q = c .before .before .before .before .before .before .before .before .before .before .before .before .before .before .before .pre in
-    let l = c .before .before .before .before .before .before .before .before .loop in
-    flat-asks (a .outputs .now) (a .heads .now) (a .starts .now) (a .children .now) (stateOf (a .costs .now) (a .ranks .now) (a .last))
-    (stateOf (l .costs) (l .ranks) (l .l)) (l .i) (omega arith) (l .inv) (q .0) (q .1 .0) (q .1 .1)
+    let t = c .before .before .before .before .before .before .before .before in
+    let a = t .before .before .before .before .before .before .before .args in
+    let q = t .before .before .before .before .before .before .before .pre in
+    let l = t .loop in
+    flat-asks (a .outputs .now) (a .heads .now) (a .starts .now) (a .children .now)
+    (stateOf (a .costs .now) (a .ranks .now) (a .last)) (stateOf (l .costs) (l .ranks) (l .l)) (l .i) (omega arith)
+    (l .inv) (q .0) (q .1 .0) (q .1 .1)
 
 add-i : tie.Need-add-i Inv-loop μ-loop
-add-i c = search needs
+add-i c = omega arith
 
 loop-less : tie.Need-loop-less Inv-loop μ-loop
-loop-less c = search needs
+loop-less c = omega arith
 
 loop-again : tie.Need-loop-again Inv-loop μ-loop
 loop-again c =
-    let a = c .before .before .before .before .before .before .before .before .before .before .before .before .before .before .before .before .before .before .before .before .args in
-    let l = c .before .before .before .before .before .before .before .before .before .before .before .before .before .loop in
+    let t = c .before .before .before .before .before .before .before .before .before .before .before .before .before in
+    let a = t .before .before .before .before .before .before .before .args in
+    let l = t .loop in
     let r = c .before .before .before .before .relax-row in
-    flat-goes-on (a .outputs .now) (a .heads .now) (a .starts .now) (a .children .now) (stateOf (a .costs .now) (a .ranks .now) (a .last))
-    (stateOf (l .costs) (l .ranks) (l .l)) (l .i) (omega arith) (l .inv) (stateOf (r .last .0) (r .last .1 .0) (r .result))
-    (r .ensures) (r .kept .0) (r .kept .1 .0)
+    flat-goes-on (a .outputs .now) (a .heads .now) (a .starts .now) (a .children .now)
+    (stateOf (a .costs .now) (a .ranks .now) (a .last)) (stateOf (l .costs) (l .ranks) (l .l)) (l .i) (omega arith)
+    (l .inv) (stateOf (r .last .0) (r .last .1 .0) (r .result)) (r .ensures) (r .kept .0) (r .kept .1 .0)
 
 same-length : tie.Need-same-length Inv-loop μ-loop
 same-length c = search needs
@@ -95,8 +105,9 @@ returns : tie.Need-returns Inv-loop μ-loop
 returns c =
     let a = c .before .before .before .before .before .before .before .before .args in
     let l = c .before .loop in
-    flat-ends (a .outputs .now) (a .heads .now) (a .starts .now) (a .children .now) (stateOf (a .costs .now) (a .ranks .now) (a .last))
-    (stateOf (l .costs) (l .ranks) (l .l)) (l .i) (omega arith) (l .inv)
+    flat-ends (a .outputs .now) (a .heads .now) (a .starts .now) (a .children .now)
+    (stateOf (a .costs .now) (a .ranks .now) (a .last)) (stateOf (l .costs) (l .ranks) (l .l)) (l .i) (omega arith)
+    (l .inv)
 
 pub one-pass-spec : {M : Type 1} → statement M
 one-pass-spec =

@@ -1,4 +1,5 @@
--- `relax::rows::cost` meets its contract: the sum so far and the children from the i-th on make the row's cost. Assumes nothing.
+-- `relax::rows::cost` meets its contract: the sum so far and the children from the i-th on make the row's cost.
+-- Assumes nothing.
 use Prim.Native.Nat.{_≤_, _<_, _+_, _-_, _^_, min}
 use mathlib.Core.Path.{_≡_}
 use mathlib.Core.List.{map}
@@ -15,7 +16,8 @@ use Rattle.relax.proofs.rows.cost.Tie as tie
 abbrev Inv-loop : tie.InvT-loop
 Inv-loop costs head kids sum₀ i₀ sum i =
     (i ≤ length kids) × (sum < 2 ^ 64)
-    × (min top (sum + sumOf (childCost costs) (map childOf (drop i kids))) ≡ min top (head + sumOf (childCost costs) (map childOf kids)))
+    × (min top (sum + sumOf (childCost costs) (map childOf (drop i kids)))
+    ≡ min top (head + sumOf (childCost costs) (map childOf kids)))
 
 abbrev μ-loop : tie.MeasureT-loop
 μ-loop costs head kids sum₀ i₀ sum i = length kids - i
@@ -24,10 +26,10 @@ loop-holds : tie.Need-loop-holds Inv-loop μ-loop
 loop-holds c = search needs
 
 mul-cost : tie.Need-mul-cost Inv-loop μ-loop
-mul-cost c = search needs
+mul-cost c = omega arith
 
 shared-slice-read-cost : tie.Need-shared-slice-read-cost Inv-loop μ-loop
-shared-slice-read-cost c = search needs
+shared-slice-read-cost c = omega arith
 
 cost-requires : tie.Need-cost-requires Inv-loop μ-loop
 cost-requires c κs = c .before .before .before .before .before .pre (c .before .before .loop .i) (omega arith)
@@ -36,10 +38,10 @@ sat-add-requires : tie.Need-sat-add-requires Inv-loop μ-loop
 sat-add-requires c κs = search needs
 
 add-i : tie.Need-add-i Inv-loop μ-loop
-add-i c = search needs
+add-i c = omega arith
 
 loop-less : tie.Need-loop-less Inv-loop μ-loop
-loop-less c = search needs
+loop-less c = omega arith
 
 loop-again : tie.Need-loop-again Inv-loop μ-loop
 loop-again c =

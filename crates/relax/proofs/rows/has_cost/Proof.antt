@@ -24,10 +24,10 @@ loop-holds : tie.Need-loop-holds Inv-loop μ-loop
 loop-holds c = search needs
 
 mul-has-cost : tie.Need-mul-has-cost Inv-loop μ-loop
-mul-has-cost c = search needs
+mul-has-cost c = omega arith
 
 shared-slice-read-has-cost : tie.Need-shared-slice-read-has-cost Inv-loop μ-loop
-shared-slice-read-has-cost c = search needs
+shared-slice-read-has-cost c = omega arith
 
 has-cost-requires : tie.Need-has-cost-requires Inv-loop μ-loop
 has-cost-requires c κs = c .before .before .before .before .before .pre (c .before .before .loop .i) (omega arith)
@@ -40,10 +40,10 @@ returns c =
     (sym (c .before .has-cost .ensures) ∙ not-true (c .before .has-cost .result) (c .if1 .taken))) ∙ l .inv .1
 
 add-i : tie.Need-add-i Inv-loop μ-loop
-add-i c = search needs
+add-i c = omega arith
 
 loop-less : tie.Need-loop-less Inv-loop μ-loop
-loop-less c = search needs
+loop-less c = omega arith
 
 loop-again : tie.Need-loop-again Inv-loop μ-loop
 loop-again c =

@@ -4,6 +4,7 @@ use mathlib.Core.Logic.{⊎-elim}
 use borrow.Author.Tests.{not-true, not-false}
 use Rattle.relax.proofs.RowLaws.{relax-when-unpriced, relax-when-first, relax-when-lower, relax-when-kept}
 use borrow.Author.Needs.{needs}
+use native.Mathlib.Omega.{arith}
 use Rattle.relax.proofs.rows.relax_row.Statement.{statement}
 use Rattle.relax.proofs.rows.relax_row.Tie as tie
 
@@ -26,34 +27,34 @@ cost-requires c κs =
     λ i h. rw (p .1 .0) (p .1 .1 .1 i h)
 
 mul-if2 : tie.Need-mul-if2
-mul-if2 c = search needs
+mul-if2 c = omega arith
 
 slice-read-if2 : tie.Need-slice-read-if2
-slice-read-if2 c = search needs
+slice-read-if2 c = omega arith
 
 mul-if3 : tie.Need-mul-if3
-mul-if3 c = search needs
+mul-if3 c = omega arith
 
 slice-read-if3 : tie.Need-slice-read-if3
-slice-read-if3 c = search needs
+slice-read-if3 c = omega arith
 
 mul-costs : tie.Need-mul-costs
-mul-costs c = search needs
+mul-costs c = omega arith
 
 slice-write-costs : tie.Need-slice-write-costs
-slice-write-costs c = search needs
+slice-write-costs c = omega arith
 
 add-ranks : tie.Need-add-ranks
-add-ranks c = search needs
+add-ranks c = omega arith
 
 mul-ranks : tie.Need-mul-ranks
-mul-ranks c = search needs
+mul-ranks c = omega arith
 
 slice-write-ranks : tie.Need-slice-write-ranks
-slice-write-ranks c = search needs
+slice-write-ranks c = omega arith
 
 add-result : tie.Need-add-result
-add-result c = search needs
+add-result c = omega arith
 
 same-length-2 : tie.Need-same-length-2
 same-length-2 c = search needs
