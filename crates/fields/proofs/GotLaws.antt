@@ -36,6 +36,10 @@ module _ {A : Type 0} {P : A → ℕ → Type 0} where
   all-pick true g h p q = p refl
   all-pick false g h p q = q refl
 
+pub all-map : {A : Type 0} {P Q : A → ℕ → Type 0} {g : Got A} → ((a : A) (k : ℕ) → P a k → Q a k) → All P g → All Q g
+all-map f (all-got h) = all-got (f _ _ h)
+all-map f all-refused = all-refused
+
 -- What the start has and each thing keeps, all of them have.
 pub many-all : {A : Type 0} (f : List A → ℕ → Got A) (P : List A → ℕ → Type 0)
     → ((xs : List A) (p : ℕ) → P xs p → All (λ x q. P (xs ++ (x ∷ [])) q) (f xs p))

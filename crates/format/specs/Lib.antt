@@ -5,5 +5,7 @@ pub mod Literals
 pub mod Functions
 pub mod Rows
 pub mod File
+pub mod Every
+pub mod Kept
 pub mod Arrays
 pub mod Reading

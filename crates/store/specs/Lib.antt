@@ -3,3 +3,4 @@ pub mod Lent
 pub mod WellFormed
 pub mod Nodes
 pub mod Adding
+pub mod Facts

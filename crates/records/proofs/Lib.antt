@@ -1,0 +1,4 @@
+-- The laws of the crate `records`.
+pub mod WalkLaws
+pub mod RecordLaws
+pub mod CheckLaws
