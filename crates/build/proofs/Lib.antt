@@ -1,0 +1,9 @@
+-- The laws of the crate `build`.
+pub mod StandingLaws
+pub mod BuildingLaws
+pub mod PlanLaws
+pub mod TurnLaws
+pub mod WholeLaws
+pub mod AgreeLaws
+pub mod OwnLaws
+pub mod BuildCases
