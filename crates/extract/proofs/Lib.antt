@@ -1,0 +1,3 @@
+-- The laws of the crate `extract`.
+pub mod TermLaws
+pub mod AgreeLaws
