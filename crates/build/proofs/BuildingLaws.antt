@@ -3,25 +3,27 @@
 -- definition, with no code in sight. Assumes nothing.
 use Prim.{Dec, yes, no}
 use Prim.Native.Nat.{ℕ, zero, suc, _+_, _-_, _≤_, _<_}
-use mathlib.Core.Path.{_≡_, refl, subst}
+use mathlib.Core.Path.{_≡_, refl, subst, ap, _∙_}
 use mathlib.Core.Bool.{Bool, true, false}
 use mathlib.Core.List.{List, [], _∷_, _++_, append-nil, append-assoc}
 use native.Mathlib.Decide.{ℕ-discrete}
 use native.Mathlib.Omega.{arith}
-use lib.ListN.{length, getD, set}
+use lib.ListN.{length, getD, set, drop, replicate}
 use lib.Seq.{getD-set-same, getD-set-other, set-out}
 use lib.Dec.{ltb}
 use lib.IntN.{ℤ}
 use borrow.Author.Tests.{ltb-true, ltb-false}
 use Rattle.store.specs.Lent.{Store}
+use Rattle.store.specs.WellFormed.{wellFormed}
 use Rattle.store.specs.Nodes.{Node, literal, application, number, applied, isNumber, isApplied}
 use Rattle.store.specs.Adding.{Adds, at, noRoom, add}
-use Rattle.adding.specs.Growing.{Grows, Takes, Gives}
+use Rattle.adding.specs.Growing.{Beyond, Grows, Takes, Gives}
+use Rattle.adding.proofs.PasteLaws.{getD-zeros}
 use Rattle.adding.proofs.AddingLaws.{grows-refl, grows-trans, add-gives}
 use Rattle.build.specs.Plan.{Child, class, value, Plan, ofRow, ofClass, ofValue}
 use Rattle.build.specs.Building.{State, state, Out, done, full, added, kept, childIn, childrenIn, ownIn, buildIn}
 use Rattle.build.specs.Standing.{Stands, Tracks, Builds, Stuck}
-use Rattle.build.specs.Ready.{Lower, AllLower, Ranked}
+use Rattle.build.specs.Ready.{Lower, AllLower, Ranked, Exact}
 use Rattle.build.proofs.StandingLaws.{
   stands-grows,
   StandAll,
@@ -231,3 +233,28 @@ module _ (p : Plan) where
     unfolding buildIn
     build-right zero s c h l m = absurd (omega arith)
     build-right (suc f) s c h l m = build-by f (build-right f) s c h l m (ltb 0 (getD (s .memo) c 0)) refl
+
+  module _
+      (rank : ℕ → ℕ)
+      (ranked : Ranked p rank)
+      (s : State)
+      (c : ℕ)
+      (tracks : Tracks p s)
+      (h : 0 < rank c) where
+    -- an exact answer is right
+    pub exact-right : (o : Out ℕ) → Exact p (rank c) s c o → Right s (class c) o
+    exact-right o e =
+        subst (Right s (class c)) (e (rank c + 1) (omega arith))
+        (build-right rank ranked (rank c + 1) s c tracks h (omega arith))
+
+  -- a memo that names no class
+  pub tracks-of-zeros : (n : ℕ) (s : Store) → wellFormed s ≡ true → Tracks p (state (replicate n 0) s)
+  tracks-of-zeros n s f = record { formed = f; memo = λ c l. absurd (omega (arith, getD-zeros n c)) }
+
+-- where a term had no room, nothing changed past the limits
+pub stuck-beyond : {s : Store} {rs ns : List ℕ} {ls : List ℤ} → Stuck s rs ls ns → Beyond s rs ls ns
+stuck-beyond k = record {
+  records = ap (drop 11264) (k .records) ∙ k .grows .beyond .records;
+  literals = ap (drop 1024) (k .literals) ∙ k .grows .beyond .literals;
+  names = ap (drop 4096) (k .names) ∙ k .grows .beyond .names;
+}

@@ -3,7 +3,5 @@ pub mod StandingLaws
 pub mod BuildingLaws
 pub mod PlanLaws
 pub mod TurnLaws
-pub mod WholeLaws
 pub mod AgreeLaws
 pub mod OwnLaws
-pub mod BuildCases

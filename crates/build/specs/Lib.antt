@@ -3,5 +3,4 @@ pub mod Plan
 pub mod Building
 pub mod Standing
 pub mod Ready
-pub mod Whole
 pub mod Agree

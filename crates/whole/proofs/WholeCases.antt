@@ -10,10 +10,10 @@ use Rattle.store.specs.Lent.{Store, store, recordIn, termRoom, symbolRoom, byKi
 use Rattle.store.specs.WellFormed.{sameInt}
 use Rattle.store.specs.Nodes.{nodeOf, nodeAt, sameNode, recordOf}
 use Rattle.store.specs.Adding.{firstFrom, findTerm, symbolFor, withName, withRecord, append, roomForName, roomFor, add}
 use Rattle.build.specs.Plan.{childOf, childrenOf, planOf}
 use Rattle.build.specs.Building.{added, kept, childIn, childrenIn, ownIn, buildIn}
-use Rattle.build.specs.Whole.{left, whole}
+use Rattle.whole.specs.Whole.{left, whole}
 use Rattle.build.specs.declared.Built.the-variants.{Done, Full}
 
 -- `Num` is function 0, `Add` function 1
 abbrev functions : List ℕ

@@ -1,24 +1,19 @@
--- `build::whole` meets its contract. Where there is no room, the three lists are put back from what was saved: past the
+-- `whole::term` meets its contract. Where there is no room, the three lists are put back from what was saved: past the
 -- saved places nothing can have changed. Assumes nothing.
 use Prim.Native.Nat.{ℕ}
 use mathlib.Core.Path.{sym, _∙_}
 use lib.ListN.{getD, replicate, length-replicate}
 use lib.IntN.{pos}
 use Rattle.store.specs.Lent.{Store, store}
 use Rattle.build.specs.Plan.{Plan, planOf}
 use Rattle.build.specs.Building.{state}
 use Rattle.build.proofs.PlanLaws.{ranked-of-planned}
-use Rattle.build.proofs.WholeLaws.{
-  tracks-of-zeros,
-  saved-back,
-  stuck-beyond,
-  exact-right,
-  whole-of-done,
-  whole-of-full,
-}
+use Rattle.copies.proofs.CopiedLaws.{saved-back}
+use Rattle.build.proofs.BuildingLaws.{tracks-of-zeros, stuck-beyond, exact-right}
+use Rattle.whole.proofs.WholeLaws.{whole-of-done, whole-of-full}
 use borrow.Author.Needs.{needs}
-use Rattle.build.proofs.whole.Statement.{statement}
-use Rattle.build.proofs.whole.Tie as tie
+use Rattle.whole.proofs.term.Statement.{statement}
+use Rattle.whole.proofs.term.Tie as tie
 
 slice-aggregate-numbers : tie.Need-slice-aggregate-numbers
 slice-aggregate-numbers c = search needs
@@ -145,8 +140,8 @@ returns-2 c =
     sym (whole-of-done (planOf (a .plan .now) (a .functions .now) (a .values .now)) (getD (a .ranks .now) (a .c) 0)
     (store (a .records .now) (a .literals .now) (a .names .now) (a .terms) (a .symbols)) (a .c) _ _ e)
 
-pub whole-spec : {M : Type 1} → statement M
-whole-spec =
+pub term-spec : {M : Type 1} → statement M
+term-spec =
     tie.close
     (tie.spec
     slice-aggregate-numbers

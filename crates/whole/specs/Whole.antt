@@ -39,7 +39,7 @@ left s (full me rs ls ns) =
 unfoldable pub whole : Plan → ℕ → Store → ℕ → Left
 whole p rank s c = left s (buildIn p (rank + 1) (state (replicate 512 0) s) c)
 
-pub record WholeReady (plan ranks functions : List ℕ) (values : List ℤ) (s : Store) (c : ℕ) : Type 0 where
+pub record Ready (plan ranks functions : List ℕ) (values : List ℤ) (s : Store) (c : ℕ) : Type 0 where
   pub planned : (k : ℕ) → 0 < getD ranks k 0 → Planned plan ranks functions values k
   pub inside : (k : ℕ) → 0 < getD ranks k 0 → k < 512
   pub formed : wellFormed s ≡ true
