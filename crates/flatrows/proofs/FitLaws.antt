@@ -1,35 +1,19 @@
 -- Laws of a table's arrays: the rows of an order can be laid, and what is laid is rows as the relaxation asks them.
 -- Assumes nothing.
-use Prim.Native.Nat.{ℕ, zero, suc, _+_, _-_, _*_, _≤_, _<_}
-use mathlib.Core.Path.{_≡_, refl, ap, sym, _∙_, subst}
-use mathlib.Core.Bool.{Bool, true, false}
-use mathlib.Core.List.{List, [], _∷_, _++_, map}
+use Prim.Native.Nat.{ℕ, suc, _+_, _-_, _*_, _≤_, _<_}
+use mathlib.Core.Path.{_≡_, sym, _∙_}
+use mathlib.Core.List.{List, [], _∷_}
 use native.Mathlib.Omega.{arith}
 use borrow.Author.Tests.{eqb-true}
 use lib.Dec.{eqb}
-use lib.ListN.{length, getD, take, drop}
+use lib.ListN.{length, getD, take}
 use Rattle.choice.specs.Rows.{sumOf}
-use Rattle.relax.specs.Flat.{rowsOf, ChildIn, FlatOk}
-use Rattle.scan.specs.Order.{has, inTurn}
-use Rattle.scan.specs.Arrays.{argumentsIn, Columns, Filled}
+use Rattle.relax.specs.Flat.{ChildIn, FlatOk}
+use Rattle.scan.specs.Order.{inTurn}
+use Rattle.scan.specs.Arrays.{argumentsIn, Filled}
 use Rattle.scan.proofs.HasLaws.{by-test, has-get}
 use Rattle.flatrows.specs.Rows.{childNumber, childNumbers, cellsIn, outputIn, headIn, childrenIn, rowIn}
-use Rattle.flatrows.specs.Arrays.{
-  RowArrays,
-  Listed,
-  Each,
-  OutputFits,
-  HeadFits,
-  CellsFit,
-  ArityFits,
-  arityIn,
-  ChildrenFit,
-  RowsFit,
-  Mapped,
-  Sums,
-  Room,
-  Laid,
-}
+use Rattle.flatrows.specs.Arrays.{RowArrays, Listed, Each, OutputFits, HeadFits, CellsFit, ArityFits, arityIn, ChildrenFit, RowsFit, Mapped, Sums, Laid}
 use Rattle.flatrows.proofs.ChildLaws.{
   childNumbers-get,
   arguments-length,

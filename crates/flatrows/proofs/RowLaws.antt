@@ -1,19 +1,18 @@
 -- Laws of the four lists: they are the rows in the order, and rows as the relaxation asks them. Assumes nothing.
-use Prim.Native.Nat.{ℕ, zero, suc, _+_, _-_, _*_, _≤_, _<_}
+use Prim.Native.Nat.{ℕ, zero, suc, _+_, _-_, _≤_, _<_}
 use mathlib.Core.Path.{_≡_, refl, ap, sym, _∙_}
 use mathlib.Core.List.{List, [], _∷_, _++_, append-assoc, map}
 use native.Mathlib.Omega.{arith}
 use native.Mathlib.Numerals.{add-one}
-use native.Mathlib.Decide.{decLt}
-use lib.ListN.{length, getD, take, drop, length-append, length-map, take-append-drop, List·getD-append}
-use lib.Seq.{ext-getD, getD-take, length-take-le, split-at, take-append-seam, drop-append-seam, getD-append-add, take-suc}
+use lib.ListN.{length, getD, take, drop, length-append, length-map, take-append-drop}
+use lib.Seq.{ext-getD, getD-take, length-take-le, split-at, take-append-seam, drop-append-seam, take-suc}
 use Rattle.choice.specs.Rows.{Row, noRow, sumOf, tabulate}
 use Rattle.choice.proofs.ListLaws.{tabulate-length, tabulate-get}
-use Rattle.relax.specs.Flat.{rowOf, partOf, rowsOf, ChildIn, ChildrenIn, FlatOk}
+use Rattle.relax.specs.Flat.{rowOf, partOf, rowsOf, ChildIn, FlatOk}
 use Rattle.scan.specs.Order.{inTurn}
 use Rattle.scan.specs.Arrays.{Filled}
 use Rattle.flatrows.specs.Arrays.{Each, Mapped, Sums}
-use Rattle.flatrows.proofs.FillLaws.{map-get, sumOf-append, sumOf-next}
+use Rattle.flatrows.proofs.FillLaws.{map-get}
 
 each-append : (P : ℕ → Type 0) (a b : List ℕ) → Each P a → Each P b → Each P (a ++ b)
 each-append P [] b v w k d = w k d

@@ -1,31 +1,15 @@
 -- Laws of the scan order, for whoever goes by it: what is reached is closed, and each usable row of it comes exactly once.
 -- Assumes nothing.
-use Prim.Native.Nat.{ℕ, _+_, _≤_, _<_}
-use mathlib.Core.Path.{_≡_, refl, ap, sym, _∙_, subst}
-use mathlib.Core.Bool.{Bool, true, false, _&&_}
-use mathlib.Core.List.{List, [], _∷_, _++_}
+use Prim.Native.Nat.{ℕ, _≤_, _<_}
+use mathlib.Core.Path.{_≡_, refl, sym, _∙_, subst}
+use mathlib.Core.Bool.{Bool, true, _&&_}
+use mathlib.Core.List.{[], _∷_}
 use native.Mathlib.Omega.{arith}
 use borrow.Author.Tests.{eqb-true, eq-eqb}
 use lib.Dec.{eqb}
 use lib.ListN.{length, getD}
 use Rattle.scan.specs.View.{ScanView}
-use Rattle.scan.specs.Order.{
-  has,
-  Within,
-  Apart,
-  none,
-  more,
-  picked,
-  inTurn,
-  functionsOf,
-  rowsOf,
-  brought,
-  visits,
-  sortsReached,
-  functionsInOrder,
-  rowsInOrder,
-  Sound,
-}
+use Rattle.scan.specs.Order.{has, Within, Apart, none, more, functionsOf, rowsOf, brought, sortsReached, functionsInOrder, rowsInOrder, Sound}
 use Rattle.scan.proofs.HasLaws.{and-true, has-first, has-get, apart-length}
 use Rattle.scan.proofs.PickedLaws.{picked-has, picked-finds, picked-apart, inTurn-has, inTurn-finds, inTurn-apart}
 use Rattle.scan.proofs.QueueLaws.{visits-keeps, visits-apart, visits-bring}

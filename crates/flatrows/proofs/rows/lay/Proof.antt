@@ -1,5 +1,4 @@
 -- `flatrows::rows::lay` meets its contract: the outputs, the head costs, the starts, the children. Assumes nothing.
-use lib.ListN.{length}
 use Rattle.flatrows.proofs.FitLaws.{children-most, laid-of-parts}
 use native.Mathlib.Omega.{arith}
 use borrow.Author.Needs.{needs}

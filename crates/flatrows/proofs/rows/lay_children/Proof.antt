@@ -1,6 +1,6 @@
 -- `flatrows::rows::lay_children` meets its contract. The children of the rows below place `k` are laid. Assumes nothing.
 use Prim.Native.Nat.{_-_}
-use mathlib.Core.Path.{_≡_, refl, _∙_}
+use mathlib.Core.Path.{_≡_, _∙_}
 use lib.ListN.{length}
 use Rattle.scan.proofs.PickedLaws.{Gathers, gathers-end, gathers-room, gathers-on}
 use Rattle.flatrows.specs.Rows.{childrenIn}

@@ -1,10 +1,8 @@
 -- `flatrows::rows::lay_row` meets its contract. Assumes nothing.
-use mathlib.Core.Path.{_≡_, ap, _∙_}
+use mathlib.Core.Path.{ap, _∙_}
 use mathlib.Core.List.{_++_}
 use lib.ListN.{length, take}
-use Rattle.flatrows.specs.Rows.{childrenIn}
 use Rattle.flatrows.proofs.ChildLaws.{row-ready, row-children}
-use native.Mathlib.Omega.{arith}
 use borrow.Author.Needs.{needs}
 use Rattle.flatrows.proofs.rows.lay_row.Statement.{statement}
 use Rattle.flatrows.proofs.rows.lay_row.Tie as tie
