@@ -78,7 +78,8 @@ module _ (o h a : ℕ → ℕ) (give : ℕ → List ℕ) (order classes heads st
   heads-get : (k : ℕ) → k < length order → getD (take (length order) heads) k 0 ≡ h (getD order k 0)
   heads-get k l = ap (λ (x : List ℕ). getD x k 0) (hs .is) ∙ map-get h order k 0 l
 
-  starts-get : (k : ℕ) → k ≤ length order → getD (take (length order + 1) starts) k 0 ≡ length (inTurn give (take k order))
+  starts-get : (k : ℕ) → k ≤ length order → getD (take (length order + 1) starts) k 0 ≡ length (inTurn give
+      (take k order))
   starts-get k l =
       getD-take (length order + 1) starts k 0 (omega arith)
       ∙ ss .is k l
@@ -86,14 +87,16 @@ module _ (o h a : ℕ → ℕ) (give : ℕ → List ℕ) (order classes heads st
 
   starts-next :
       (k : ℕ) → k < length order →
-      length (inTurn give (take (k + 1) order)) ≡ length (inTurn give (take k order)) + length (give (getD order k 0))
+      length (inTurn give (take (k + 1) order)) ≡ length (inTurn give (take k order)) + length (give
+      (getD order k 0))
   unfolding inTurn
   starts-next k l =
       let e : inTurn give (take (k + 1) order) ≡ inTurn give (take k order) ++ (give (getD order k 0) ++ []) =
       rw (add-one, take-suc order k 0 l) (inTurn-append give (take k order) (getD order k 0 ∷ [])) in
       ap length e ∙ simp length-append (omega arith)
 
-  part-is : (k : ℕ) → k < length order → partOf (take (length order + 1) starts) (take m children) k ≡ give (getD order k 0)
+  part-is : (k : ℕ) → k < length order → partOf (take (length order + 1) starts) (take m children) k ≡ give
+      (getD order k 0)
   part-is k l =
       let b = starts-get k (omega arith) in
       let e = starts-get (k + 1) (omega arith) in
@@ -117,7 +120,8 @@ module _ (o h a : ℕ → ℕ) (give : ℕ → List ℕ) (order classes heads st
   laid-length = tabulate-length laidRow (length (take (length order) classes)) ∙ classes-length
 
   pub laid-rows :
-      rowsOf (take (length order) classes) (take (length order) heads) (take (length order + 1) starts) (take m children)
+      rowsOf (take (length order) classes) (take (length order) heads) (take (length order + 1) starts)
+      (take m children)
       ≡ map wantedRow order
   laid-rows =
       ext-getD noRow (tabulate laidRow (length (take (length order) classes))) (map wantedRow order)

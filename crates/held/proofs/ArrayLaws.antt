@@ -53,9 +53,12 @@ module _ (t : Table) (known : Known t) where
 
     pub columns-held : Columns (length (t .sorts)) (length (t .functions)) arities arguments
     columns-held = record {
-      arities-long = rw (h .functions-held .arities-are) (padded-long 128 (length (t .functions)) _ (omega (arith, known .few-functions)));
-      arguments-long = rw (h .functions-held .arguments-are) (padded-long 1024 (length (t .functions) * 8) _ (omega (arith, known .few-functions)));
-      arity-most = λ f l. rw (arity-held t known kinds classes names declared costs unextractable hidden outputs arities
+      arities-long = rw (h .functions-held .arities-are) (padded-long 128 (length (t .functions)) _ (omega
+          (arith, known .few-functions)));
+      arguments-long = rw (h .functions-held .arguments-are) (padded-long 1024 (length (t .functions) * 8) _
+          (omega (arith, known .few-functions)));
+      arity-most = λ f l. rw
+          (arity-held t known kinds classes names declared costs unextractable hidden outputs arities
           arguments rowFunctions subsumed cells h f) (known .arity f l);
       below = λ f l a k.
           let e = arguments-held t known kinds classes names declared costs unextractable hidden outputs arities
@@ -75,23 +78,30 @@ module _ (t : Table) (known : Known t) where
       sorts-most = omega (arith, known .few-sorts);
       functions-most = omega (arith, known .few-functions);
       root-below = l;
-      outputs-long = rw (h .functions-held .outputs-are) (padded-long 128 (length (t .functions)) _ (omega (arith, known .few-functions)));
-      unextractable-long = rw (h .functions-held .unextractable-are) (padded-long 128 (length (t .functions)) _ (omega (arith, known .few-functions)));
-      hidden-long = rw (h .functions-held .hidden-are) (padded-long 128 (length (t .functions)) _ (omega (arith, known .few-functions)));
+      outputs-long = rw (h .functions-held .outputs-are) (padded-long 128 (length (t .functions)) _ (omega
+          (arith, known .few-functions)));
+      unextractable-long = rw (h .functions-held .unextractable-are) (padded-long 128 (length (t .functions)) _
+          (omega (arith, known .few-functions)));
+      hidden-long = rw (h .functions-held .hidden-are) (padded-long 128 (length (t .functions)) _ (omega
+          (arith, known .few-functions)));
       columns = columns-held;
-      row-functions-long = rw (h .rows-held .functions-are) (padded-long 1024 (length (t .rows)) _ (omega (arith, known .few-rows)));
-      subsumed-long = rw (h .rows-held .subsumed-are) (padded-long 1024 (length (t .rows)) _ (omega (arith, known .few-rows)));
+      row-functions-long = rw (h .rows-held .functions-are) (padded-long 1024 (length (t .rows)) _ (omega
+          (arith, known .few-rows)));
+      subsumed-long = rw (h .rows-held .subsumed-are) (padded-long 1024 (length (t .rows)) _ (omega
+          (arith, known .few-rows)));
       order-long = k;
     }
 
     -- What `scan_rows` leaves is the scan order of the table.
     pub order-held :
         (root r : ℕ) (order : List ℕ) →
-        Filled order r (rowsInOrder (viewIn (length (t .sorts)) (length (t .functions)) (length (t .rows)) outputs arities
+        Filled order r (rowsInOrder (viewIn (length (t .sorts)) (length (t .functions)) (length
+        (t .rows)) outputs arities
         arguments unextractable hidden rowFunctions subsumed) root) →
         take r order ≡ scanOrder t root
     unfolding scanOrder
     order-held root r order w =
         w .held
-        ∙ ap (λ v. rowsInOrder v root) (view-held t known kinds classes names declared costs unextractable hidden outputs
+        ∙ ap (λ v. rowsInOrder v root)
+        (view-held t known kinds classes names declared costs unextractable hidden outputs
         arities arguments rowFunctions subsumed cells h)

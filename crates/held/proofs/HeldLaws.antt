@@ -97,7 +97,8 @@ module _ (t : Table) (known : Known t)
   unfolding argumentsIn
   arguments-held f = go (decLt f (length (t .functions)))
     where
-      go : Dec (f < length (t .functions)) → take (getD arities f 0) (drop (f * 8) arguments) ≡ functionOf t f .arguments
+      go : Dec (f < length (t .functions)) → take (getD arities f 0) (drop
+          (f * 8) arguments) ≡ functionOf t f .arguments
       go (yes l) =
           rw (arity-held f, h .functions-held .arguments-are)
           (block-take 1024 8 (λ (x : Function). x .arguments) (t .functions) few-arguments noFunction f l)
@@ -112,7 +113,8 @@ module _ (t : Table) (known : Known t)
       getD cells (r * 9 + j) 0 ≡ getD (tableRowOf t r .cells) j 0
   cell-held r j l k =
       rw (h .rows-held .cells-are)
-      (block-get 9216 9 (λ (x : Row). x .cells) (t .rows) few-cells noTableRow r j l (omega (arith, known .cells r l)))
+      (block-get 9216 9 (λ (x : Row). x .cells) (t .rows) few-cells noTableRow r j l (omega
+      (arith, known .cells r l)))
 
   -- The class counts of all sorts together.
   pub class-count-held : firstClass classes (length (t .sorts)) ≡ classCount t
@@ -141,7 +143,8 @@ module _ (t : Table) (known : Known t)
 
   -- The scan order's view of the arrays is that of the table.
   pub view-held :
-      viewIn (length (t .sorts)) (length (t .functions)) (length (t .rows)) outputs arities arguments unextractable hidden
+      viewIn (length (t .sorts)) (length (t .functions)) (length
+      (t .rows)) outputs arities arguments unextractable hidden
       rowFunctions subsumed
       ≡ viewOf t
   unfolding viewIn viewOf usableFunction
@@ -155,7 +158,8 @@ module _ (t : Table) (known : Known t)
       fun-ext arguments-held in
       let g : _≡_ {A = ℕ → ℕ} (λ (r : ℕ). getD rowFunctions r 0) (λ (r : ℕ). tableRowOf t r .function) =
       fun-ext function-held in
-      let s : _≡_ {A = ℕ → Bool} (λ (r : ℕ). eqb (getD subsumed r 0) 0) (λ (r : ℕ). eqb (tableRowOf t r .subsumed) 0) =
+      let s : _≡_ {A = ℕ → Bool} (λ (r : ℕ). eqb (getD subsumed r 0) 0) (λ (r : ℕ). eqb
+      (tableRowOf t r .subsumed) 0) =
       fun-ext (λ (r : ℕ). ap (λ (x : ℕ). eqb x 0) (subsumed-held r)) in
       view-same (length (t .sorts)) (length (t .functions)) (length (t .rows)) u o a g s
     where

@@ -65,7 +65,8 @@ module _ (t : Table) (ok : TableOk t) where
   columns-length : (f : ℕ) → length (columns (functionOf t f)) ≡ length (functionOf t f .arguments) + 1
   columns-length f = length-append (functionOf t f .arguments) (functionOf t f .output ∷ [])
 
-  columns-last : (f : ℕ) → getD (columns (functionOf t f)) (length (functionOf t f .arguments)) 0 ≡ functionOf t f .output
+  columns-last : (f : ℕ) → getD (columns (functionOf t f)) (length
+      (functionOf t f .arguments)) 0 ≡ functionOf t f .output
   columns-last f =
       let a = functionOf t f .arguments in
       let z : length a ≡ length a + 0 = omega arith in

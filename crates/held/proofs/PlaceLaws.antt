@@ -38,7 +38,8 @@ unfolding padWith
 pad-take n s xs h = take-append-le s xs (replicate (n - length xs) 0) h
 
 -- Blocks of m places, each filled up with zeros.
-module _ {A : Type 0} (n m : ℕ) (g : A → List ℕ) (xs : List A) (most : Every (λ (x : A). length (g x) ≤ m) xs) (d : A) where
+module _ {A : Type 0} (n m : ℕ) (g : A → List ℕ) (xs : List A) (most : Every (λ (x : A). length (g x) ≤ m) xs)
+    (d : A) where
   block-drop :
       (k : ℕ) → k < length xs →
       (rest : List ℕ) × (drop (k * m) (pad n (blocks (λ (x : A). pad m (g x)) xs)) ≡ g (getD xs k d) ++ rest)
@@ -47,7 +48,8 @@ module _ {A : Type 0} (n m : ℕ) (g : A → List ℕ) (xs : List A) (most : Eve
       let b : List ℕ = blocks (λ (x : A). pad m (g x)) xs in
       let z : List ℕ = replicate (n - length b) 0 in
       let r : List ℕ = blocks (λ (x : A). pad m (g x)) (drop (suc k) xs) in
-      let e = blocks-drop (λ (x : A). pad m (g x)) m (every-map (λ x l. padWith-length 0 m (g x) l) most) k d z h in (
+      let e = blocks-drop (λ (x : A). pad m (g x)) m (every-map (λ x l. padWith-length 0 m
+      (g x) l) most) k d z h in (
         replicate (m - length (g (getD xs k d))) 0 ++ (r ++ z),
         e ∙ append-assoc (g (getD xs k d)) (replicate (m - length (g (getD xs k d))) 0) (r ++ z),
       )

@@ -52,7 +52,8 @@ use Rattle.held.proofs.HeldLaws.{
 }
 use Rattle.held.proofs.ArrayLaws.{padded-long, map-same, range-most, columns-held}
 
-headOf-same : (f : ℕ) (t : Table) → headCost (functionOf t f .hasCost) (functionOf t f .cost) ≡ headOf (functionOf t f)
+headOf-same : (f : ℕ) (t : Table) → headCost (functionOf t f .hasCost) (functionOf t f .cost) ≡ headOf
+    (functionOf t f)
 unfolding headCost headOf
 headOf-same f t = go (ℕ-discrete (functionOf t f .hasCost) 0)
   where
@@ -174,7 +175,8 @@ module _ (t : Table) (known : Known t)
     unfolding outputIn outputNumber
     output-is =
         rw (function-at r, output-at fn, arity-at fn, cell-at r (arityOf t r) l (omega arith))
-        (class-at (functionOf t fn .output) (getD (tableRowOf t r .cells) (arityOf t r) 0) (known .output fn fn-below))
+        (class-at (functionOf t fn .output) (getD (tableRowOf t r .cells) (arityOf t r) 0)
+        (known .output fn fn-below))
 
     head-is : headIn declared costs rowFunctions r ≡ headOf (functionOf t fn)
     unfolding headIn
@@ -193,7 +195,8 @@ module _ (t : Table) (known : Known t)
     children-length : length (cellsIn arities cells fn r) ≡ length sorts
     children-length = cells-length arities arguments cells fn r cells-are-long ∙ arity-at fn
 
-    argument-cell : (j : ℕ) → j < length sorts → getD (cellsIn arities cells fn r) j 0 ≡ getD (tableRowOf t r .cells) j 0
+    argument-cell : (j : ℕ) → j < length sorts → getD (cellsIn arities cells fn r) j 0 ≡ getD
+        (tableRowOf t r .cells) j 0
     argument-cell j k =
         let d : j < getD arities fn 0 = omega (arith, arity-at fn) in
         cells-get arities arguments cells fn r j d ∙ cell-at r j l (omega arith)
@@ -255,7 +258,8 @@ module _ (t : Table) (known : Known t)
       kinds bases declared costs outputs arities arguments rowFunctions cells
   row-arrays-held long = record {
     few-classes = known .few-classes;
-    kinds-long = rw (h .sorts-held .kinds-are) (padded-long 32 (length (t .sorts)) _ (omega (arith, known .few-sorts)));
+    kinds-long = rw (h .sorts-held .kinds-are) (padded-long 32 (length (t .sorts)) _ (omega
+        (arith, known .few-sorts)));
     bases-long = long;
     declared-long = rw (h .functions-held .declared-are)
         (padded-long 128 (length (t .functions)) _ (omega (arith, known .few-functions)));
@@ -278,7 +282,12 @@ module _ (t : Table) (known : Known t)
         let i : j < arityOf t r = omega (arith, arity-at f) in
         let s = getD (functionOf t f .arguments) j 0 in
         rw (cell-at r j l (omega arith))
-        (omega (arith, known .argument-cell r j l i, range-most t known s (known .argument f j (known .function r l) i)));
+        (omega (
+          arith,
+          known .argument-cell r j l i,
+          range-most t known s (known .argument f j
+              (known .function r l) i),
+        ));
     output-class = λ r l.
         let f = tableRowOf t r .function in
         rw (output-is r l)
@@ -312,7 +321,8 @@ module _ (t : Table) (known : Known t)
         (order : List ℕ) (m : ℕ) (flat heads starts children : List ℕ) →
         order ≡ scanOrder t root →
         Laid kinds bases declared costs outputs arities arguments rowFunctions cells order m flat heads starts children →
-        rowsOf (take (length order) flat) (take (length order) heads) (take (length order + 1) starts) (take m children)
+        rowsOf (take (length order) flat) (take (length order) heads) (take (length order + 1) starts)
+        (take m children)
         ≡ scanned t root
     unfolding scanned inOrder
     laid-scanned order m flat heads starts children e v =

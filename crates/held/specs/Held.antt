@@ -21,8 +21,8 @@ pub record TableOk (t : Table) : Type 0 where
 
 -- The table stands in its arrays.
 pub record Holds (t : Table)
-    (kinds classes names declared costs unextractable hidden outputs arities arguments rowFunctions subsumed cells : List ℕ)
-    : Type 0 where
+    (kinds classes names declared costs unextractable hidden : List ℕ)
+    (outputs arities arguments rowFunctions subsumed cells : List ℕ) : Type 0 where
   pub sorts-held : HoldsSorts kinds classes (t .sorts)
   pub functions-held :
       HoldsFunctions names declared costs unextractable hidden outputs arities arguments (t .functions)

@@ -119,7 +119,8 @@ module _ (v : ScanView) where
       pub function-below : v .function r < v .functions
       pub usable : v .usable (v .function r) ≡ true
       pub output-reached : has (v .output (v .function r)) (sortsReached v root) ≡ true
-      pub arguments-reached : (a : ℕ) → has a (v .arguments (v .function r)) ≡ true → has a (sortsReached v root) ≡ true
+      pub arguments-reached : (a : ℕ) → has a (v .arguments (v .function r)) ≡ true → has a
+          (sortsReached v root) ≡ true
 
     pub rowsInOrder-has : (r : ℕ) → has r (rowsInOrder v root) ≡ true → Scanned r
     unfolding rowsInOrder functionsInOrder
@@ -155,5 +156,6 @@ module _ (v : ScanView) where
     rowsInOrder-finds r l s k u h =
         inTurn-finds (rowsOf v) r (v .function r) (functionsInOrder v root)
         (inTurn-finds (functionsOf v) (v .function r) (v .output (v .function r)) (sortsReached v root) h
-        (functionsOf-finds (v .output (v .function r)) (v .function r) (record { below = k; usable = u; output = refl })))
+        (functionsOf-finds (v .output (v .function r)) (v .function r)
+        (record { below = k; usable = u; output = refl })))
         (rowsOf-finds (v .function r) r (record { below = l; unsubsumed = s; function = refl }))

@@ -185,7 +185,8 @@ module _ (give : ℕ → List ℕ) (order list : List ℕ) (m i : ℕ) (v : Gath
       sym (append-nil (take m list)) ∙ rw (e, drop-length) at (v .is)
 
   module _ (l : i < length order) where
-    pub gathers-step : take m list ++ (give (getD order i 0) ++ inTurn give (drop (i + 1) order)) ≡ inTurn give order
+    pub gathers-step : take m list ++ (give (getD order i 0) ++ inTurn give (drop
+        (i + 1) order)) ≡ inTurn give order
     unfolding inTurn
     gathers-step = rw (drop-step order i l) at (v .is)
 
