@@ -3,7 +3,7 @@ use Prim.Native.Nat.{ℕ}
 use mathlib.Core.Path.{_≡_, refl, sym, _∙_}
 use native.Mathlib.Omega.{arith}
 use Rattle.refusals.specs.declared.Refusal.{Refusal}
-use Rattle.fields.specs.Got.{Got, got, refused}
+use Rattle.fields.specs.Got.{Got, got, refused, then}
 use Rattle.format.specs.declared.Step.{Step}
 use Rattle.format.specs.declared.Step.the-variants.{Done, Refused}
 use Rattle.format.specs.Reading.{stepOf, OnGot, Reads}
@@ -52,3 +52,19 @@ weaken-by (refused r) h f = tt
 pub reads-weaken : {A : Type 0} {P Q : A → Type 0} {g h : Got A} {r : Step} → g ≡ h → Reads g r P
     → ((a : A) (k : ℕ) → g ≡ got a k → P a → Q a) → Reads h r Q
 reads-weaken {g} e p f = rw (← e) (record { answer = p .answer; filled = weaken-by g (p .filled) f })
+
+-- A refusal is passed on.
+pub reads-pass : {A B : Type 0} {P : A → Type 0} {Q : B → Type 0} {g : Got A} {h : Got B} {r : Step} {x : Refusal}
+    → Reads g r P → r ≡ Refused x → (g ≡ refused x → h ≡ refused x) → Reads h r Q
+reads-pass p e f = rw e (reads-refused (f (reads-not p e)))
+
+via-by : {A B : Type 0} {P : A → Type 0} {Q : B → Type 0} (g : Got A) (f : A → B) {r : Step}
+    → Reads g r P → ((a : A) (k : ℕ) → g ≡ got a k → P a → Q (f a)) → Reads (then g (λ a k. got (f a) k)) r Q
+unfolding then OnGot
+via-by (got a k) f p h = record { answer = p .answer; filled = h a k refl (p .filled) }
+via-by (refused x) f p h = record { answer = p .answer; filled = tt }
+
+-- What was read last is a part of the whole.
+pub reads-via : {A B : Type 0} {P : A → Type 0} {Q : B → Type 0} {g : Got A} {h : Got B} (f : A → B) {r : Step}
+    → h ≡ then g (λ a k. got (f a) k) → Reads g r P → ((a : A) (k : ℕ) → g ≡ got a k → P a → Q (f a)) → Reads h r Q
+reads-via {g = g} f e p h = rw e (via-by g f p h)
