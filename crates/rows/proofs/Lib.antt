@@ -1,0 +1,3 @@
+-- The laws of the crate `rows`.
+pub mod CellLaws
+pub mod RowLaws
