@@ -11,13 +11,12 @@ use Rattle.fields.specs.Got.{pick}
 use Rattle.format.specs.Table.{Sort, Table}
 use Rattle.format.specs.Sorts.{kindsOf}
 use Rattle.format.specs.Rows.{columns, range}
-use Rattle.format.specs.Kept.{FunctionOk, RowOk}
+use Rattle.format.specs.Accepted.{Accepted, FunctionOk, RowOk}
 use Rattle.format.proofs.BlockLaws.{every-get}
 use Rattle.rules.specs.Classes.{noSort, sortOf, rangeOf}
 use Rattle.rules.specs.Rows.{noFunction, noTableRow, functionOf, tableRowOf}
 use Rattle.rules.specs.Facts.{arityOf, Known}
 use Rattle.rules.proofs.CoverLaws.{rangeOf-eq}
-use Rattle.held.specs.Held.{TableOk}
 
 pub kinds-get : (sorts : List Sort) (s : ℕ) → getD (kindsOf sorts) s 0 ≡ getD sorts s noSort .kind
 kinds-get sorts s = List·getD-map (λ (x : Sort). x .kind) sorts s noSort
@@ -26,12 +25,12 @@ pub one-when-not-zero : (k : ℕ) → k ≤ 1 → (k ≡ 0 → ⊥) → k ≡ 1
 one-when-not-zero zero l n = absurd (n refl)
 one-when-not-zero (suc k) l n = omega arith
 
-module _ (t : Table) (ok : TableOk t) where
+module _ (t : Table) (ok : Accepted t) where
   kinds-length : length (kindsOf (t .sorts)) ≡ length (t .sorts)
   kinds-length = length-map (t .sorts) (λ (x : Sort). x .kind)
 
   kind-most : (s : ℕ) → s < length (t .sorts) → sortOf t s .kind ≤ 1
-  kind-most s h = omega (arith, ok .kinds-ok s h, kinds-get (t .sorts) s)
+  kind-most s h = omega (arith, every-get (ok .sorts-ok) s noSort h .bit)
 
   function-ok : (f : ℕ) → f < length (t .functions) → FunctionOk (kindsOf (t .sorts)) (functionOf t f)
   function-ok f h = every-get (ok .functions-ok) f noFunction h
@@ -76,13 +75,13 @@ module _ (t : Table) (ok : TableOk t) where
       getD (functionOf t f .arguments) j 0 < length (t .sorts)
   argument-below f j h l = omega (arith, every-get (function-ok f h .sorted) j 0 l, kinds-length)
 
-  pub known-of-ok : Known t
-  known-of-ok = record {
-    few-sorts = ok .few-sorts;
-    few-classes = ok .few-classes;
-    few-literals = ok .few-literals;
-    few-functions = ok .few-functions;
-    few-rows = ok .few-rows;
+  pub known-of-accepted : Known t
+  known-of-accepted = record {
+    few-sorts = ok .sorts-few;
+    few-classes = ok .classes-few;
+    few-literals = ok .literals-few;
+    few-functions = ok .functions-few;
+    few-rows = ok .rows-few;
     name = λ f h. function-ok f h .named;
     cost = λ f h. function-ok f h .small;
     output = λ f h. omega (arith, function-ok f h .known, kinds-length);

@@ -1,2 +1,2 @@
--- The definitions of the crate `held`: a table in its arrays, and what holds of a table that was read.
+-- The definitions of the crate `held`: a table in its arrays.
 pub mod Held
