@@ -3,7 +3,7 @@ use Prim.Native.Nat.{ℕ, _+_, _*_, _≤_, _<_}
 use mathlib.Core.Path.{_≡_}
 use mathlib.Core.List.{List, map}
 use lib.ListN.{length, getD, take}
-use Rattle.choice.specs.Rows.{Row, sumOf}
+use Rattle.choice.specs.Rows.{sumOf}
 use Rattle.relax.specs.Flat.{rowsOf}
 use Rattle.scan.specs.Order.{inTurn}
 use Rattle.scan.specs.Arrays.{argumentsIn, Columns, Filled}
