@@ -10,7 +10,7 @@ use Rattle.store.specs.WellFormed.{wellFormed}
 use Rattle.store.specs.Nodes.{literal}
 use Rattle.store.specs.Adding.{Adds, at, noRoom, add}
 use Rattle.choice.specs.Answer.{Answer, noTerm, tooDear, best}
-use Rattle.build.specs.Whole.{Left, whole}
+use Rattle.whole.specs.Whole.{Left, whole}
 use Rattle.build.specs.declared.Built.{Built}
 use Rattle.build.specs.declared.Built.the-variants.{Done, Full}
 use Rattle.format.specs.Table.{Table}
@@ -37,11 +37,11 @@ bestLiteral s noRoom = refused NoRoom s
 
 -- What was built, with its cost and the passes.
 unfoldable pub bestBuilt : ℕ → ℕ → Store → Left → After BestTerm
-bestBuilt w p s l = byAnswer (l .answer)
-  where
-    byAnswer : Built → After BestTerm
-    byAnswer (Done i n m) = found (bestTerm w i p) (store (l .records) (l .literals) (l .names) n m)
-    byAnswer Full = refused NoRoom s
+bestBuilt w p s l =
+    elim (l .answer) [
+      | Done i n m ↦ found (bestTerm w i p) (store (l .records) (l .literals) (l .names) n m)
+      | Full ↦ refused NoRoom s
+    ]
 
 -- "11, 12, 13": by what the run says of the class.
 unfoldable pub bestClass : Table → ℕ → ℕ → Store → Answer → After BestTerm

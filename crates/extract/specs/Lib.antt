@@ -3,3 +3,4 @@ pub mod Answers
 pub mod Plan
 pub mod Best
 pub mod Variants
+pub mod Demand
