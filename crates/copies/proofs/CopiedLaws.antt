@@ -1,12 +1,23 @@
 -- Laws on copying: one place at a time, and what was saved is put back. Assumes nothing.
 use Prim.Native.Nat.{ℕ, _+_, _≤_, _<_, min}
-use mathlib.Core.Path.{_≡_, refl, sym, ap, _∙_}
+use mathlib.Core.Path.{_≡_, refl, sym, ap, subst, _∙_}
 use mathlib.Core.Bool.{Bool, true, false}
 use mathlib.Core.List.{List, _++_}
 use native.Mathlib.Nat.{zero-add}
 use native.Mathlib.Numerals.{add-one}
 use native.Mathlib.Omega.{arith}
-use lib.ListN.{length, getD, set, take, drop, take-append-drop, drop-of-length-le, length-set}
+use lib.ListN.{
+  length,
+  getD,
+  set,
+  take,
+  drop,
+  take-append-drop,
+  drop-of-length-le,
+  length-set,
+  replicate,
+  length-replicate,
+}
 use lib.Seq.{paste, paste-suc, take-paste, length-paste}
 use lib.Dec.{ltb}
 use borrow.Author.Tests.{ltb-true, ltb-false}
@@ -54,7 +65,7 @@ module _ {A : Type 0} (z kept left : List A) (same : length left ≡ length kept
       let e : m ≡ length kept = omega (arith, ltb-false (length z) (length kept) b) in
       drop-of-length-le left {i = m} (omega arith) ∙ sym (drop-of-length-le kept {i = m} (omega arith))
 
-  pub copied-back : drop (length z) left ≡ drop (length z) kept → copied left (copied z kept) ≡ kept
+  copied-back : drop (length z) left ≡ drop (length z) kept → copied left (copied z kept) ≡ kept
   unfolding copied
   copied-back h =
       let m : ℕ = min (length z) (length kept) in
@@ -69,3 +80,13 @@ module _ {A : Type 0} (z kept left : List A) (same : length left ≡ length kept
       ∙ ap (λ (t : List A). t ++ drop (0 + m) left) first
       ∙ ap (λ (t : List A). take m kept ++ t) rest
       ∙ take-append-drop m kept
+
+-- what was saved in n places is put back
+pub saved-back :
+    {A : Type 0} (n : ℕ) (d : A) (kept left : List A) →
+    length left ≡ length kept →
+    drop n left ≡ drop n kept →
+    copied left (copied (replicate n d) kept) ≡ kept
+saved-back n d kept left e h =
+    copied-back (replicate n d) kept left e
+    (subst (λ (m : ℕ). drop m left ≡ drop m kept) (sym (length-replicate n d)) h)

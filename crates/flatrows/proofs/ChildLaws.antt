@@ -132,8 +132,14 @@ module _ (kinds bases arities arguments rowFunctions cells : List ℕ) (r : ℕ)
       let f = getD rowFunctions r 0 in
       let a = arguments-length arities arguments cells f r (v .arguments-long) in
       let b = cells-length arities arguments cells f r (v .cells-long) in
-      rw (arguments-part arities arguments f, cells-part arities arguments cells f r)
-      (b ∙ sym a, (omega (arith, a, childrenIn-length kinds bases arities arguments rowFunctions cells r v), v .fit))
+      rw (arguments-part arities arguments f, cells-part arities arguments cells f r) (
+        b ∙ sym a,
+        (
+          omega
+              (arith, a, childrenIn-length kinds bases arities arguments rowFunctions cells r v),
+          v .fit,
+        ),
+      )
 
   pub row-children :
       childNumbers kinds bases argumentPart cellPart ≡ childrenIn kinds bases arities arguments rowFunctions cells r

@@ -1,15 +1,16 @@
 -- Laws of flat class numbers: a class is never keyed without its sort. Assumes nothing.
 use Prim.Native.Nat.{ℕ, zero, suc, _+_, _-_, _≤_, _<_}
-use mathlib.Core.Path.{_≡_, refl, ap, sym, _∙_}
+use mathlib.Core.Path.{_≡_, refl, ap, _∙_}
 use mathlib.Core.List.{List, [], _∷_}
 use native.Mathlib.Omega.{arith}
 use native.Mathlib.Decide.{ℕ-discrete, decLt}
 use native.Mathlib.Numerals.{add-one}
-use lib.ListN.{length, getD, take, set, length-set}
+use lib.ListN.{length, getD, set}
 use lib.Seq.{getD-set-same, getD-set-other}
 use Rattle.flatrows.specs.Classes.{total, firstClass, Bases}
 
-pub firstClass-next : (classes : List ℕ) (s : ℕ) → firstClass classes (suc s) ≡ firstClass classes s + getD classes s 0
+pub firstClass-next : (classes : List ℕ) (s : ℕ) → firstClass classes
+    (suc s) ≡ firstClass classes s + getD classes s 0
 unfolding total
 firstClass-next [] zero = refl
 firstClass-next [] (suc s) = refl
@@ -42,7 +43,11 @@ module _ (classes : List ℕ) where
   flat-unique s u v w l m e = go (ℕ-discrete s u) (decLt s u)
     where
       go : Dec (s ≡ u) → Dec (s < u) → (s ≡ u) × (v ≡ w)
-      go (yes d) t = (d, (let g : firstClass classes s ≡ firstClass classes u = ap (firstClass classes) d in omega arith))
+      go (yes d) t = (
+        d,
+        (let g : firstClass classes s ≡ firstClass classes u = ap
+            (firstClass classes) d in omega arith),
+      )
       go (no d) (yes t) = absurd (omega (arith, flat-before s u v t l))
       go (no d) (no t) =
           let h : u < s = omega arith in

@@ -1,6 +1,6 @@
 -- Laws of the loops that fill a list by the numbers of an order: f of each, and the sums of f. Assumes nothing.
 use Prim.Native.Nat.{ℕ, zero, suc, _+_, _*_, _≤_, _<_}
-use mathlib.Core.Path.{_≡_, refl, ap, sym, _∙_}
+use mathlib.Core.Path.{_≡_, refl, sym, _∙_}
 use mathlib.Core.List.{List, [], _∷_, _++_, map}
 use native.Mathlib.Omega.{arith}
 use native.Mathlib.Decide.{ℕ-discrete}
@@ -10,7 +10,8 @@ use lib.Seq.{ext-getD, getD-take, length-take-le, getD-set-same, getD-set-other,
 use Rattle.choice.specs.Rows.{sumOf}
 use Rattle.flatrows.specs.Arrays.{Mapped, Sums}
 
-pub map-get : {A : Type 0} (f : ℕ → A) (l : List ℕ) (k : ℕ) (d : A) → k < length l → getD (map f l) k d ≡ f (getD l k 0)
+pub map-get : {A : Type 0} (f : ℕ → A) (l : List ℕ) (k : ℕ) (d : A) → k < length l → getD (map f l) k d ≡ f
+    (getD l k 0)
 map-get f [] k d h = absurd (omega arith)
 map-get f (x ∷ l) zero d h = refl
 map-get f (x ∷ l) (suc k) d h = map-get f l k d (omega arith)
@@ -56,7 +57,8 @@ module _ (f : ℕ → ℕ) where
   sumOf-append [] r = omega arith
   sumOf-append (x ∷ l) r = omega (arith, sumOf-append l r)
 
-  pub sumOf-next : (l : List ℕ) (k : ℕ) → k < length l → sumOf f (take (k + 1) l) ≡ sumOf f (take k l) + f (getD l k 0)
+  pub sumOf-next : (l : List ℕ) (k : ℕ) → k < length l → sumOf f (take (k + 1) l) ≡ sumOf f (take k l) + f
+      (getD l k 0)
   unfolding sumOf
   sumOf-next l k h =
       rw (add-one, take-suc l k 0 h) (sumOf-append (take k l) (getD l k 0 ∷ []) ∙ omega arith)

@@ -1,35 +1,19 @@
 -- Laws of a table's arrays: the rows of an order can be laid, and what is laid is rows as the relaxation asks them.
 -- Assumes nothing.
-use Prim.Native.Nat.{ℕ, zero, suc, _+_, _-_, _*_, _≤_, _<_}
-use mathlib.Core.Path.{_≡_, refl, ap, sym, _∙_, subst}
-use mathlib.Core.Bool.{Bool, true, false}
-use mathlib.Core.List.{List, [], _∷_, _++_, map}
+use Prim.Native.Nat.{ℕ, suc, _+_, _-_, _*_, _≤_, _<_}
+use mathlib.Core.Path.{_≡_, sym, _∙_}
+use mathlib.Core.List.{List, [], _∷_}
 use native.Mathlib.Omega.{arith}
 use borrow.Author.Tests.{eqb-true}
 use lib.Dec.{eqb}
-use lib.ListN.{length, getD, take, drop}
+use lib.ListN.{length, getD, take}
 use Rattle.choice.specs.Rows.{sumOf}
-use Rattle.relax.specs.Flat.{rowsOf, ChildIn, FlatOk}
-use Rattle.scan.specs.Order.{has, inTurn}
-use Rattle.scan.specs.Arrays.{argumentsIn, Columns, Filled}
+use Rattle.relax.specs.Flat.{ChildIn, FlatOk}
+use Rattle.scan.specs.Order.{inTurn}
+use Rattle.scan.specs.Arrays.{argumentsIn, Filled}
 use Rattle.scan.proofs.HasLaws.{by-test, has-get}
 use Rattle.flatrows.specs.Rows.{childNumber, childNumbers, cellsIn, outputIn, headIn, childrenIn, rowIn}
-use Rattle.flatrows.specs.Arrays.{
-  RowArrays,
-  Listed,
-  Each,
-  OutputFits,
-  HeadFits,
-  CellsFit,
-  ArityFits,
-  arityIn,
-  ChildrenFit,
-  RowsFit,
-  Mapped,
-  Sums,
-  Room,
-  Laid,
-}
+use Rattle.flatrows.specs.Arrays.{RowArrays, Listed, Each, OutputFits, HeadFits, CellsFit, ArityFits, arityIn, ChildrenFit, RowsFit, Mapped, Sums, Laid}
 use Rattle.flatrows.proofs.ChildLaws.{
   childNumbers-get,
   arguments-length,
@@ -50,17 +34,20 @@ module _ (kinds bases declared costs outputs arities arguments rowFunctions cell
     (v : RowsFit kinds bases declared costs outputs arities arguments rowFunctions cells order) where
   -- The children of a row are as many as its function's arity says.
   pub arities-are-lengths :
-      Each (λ r. arityIn arities rowFunctions r ≡ length (childrenIn kinds bases arities arguments rowFunctions cells r))
+      Each (λ r. arityIn arities rowFunctions r ≡ length
+      (childrenIn kinds bases arities arguments rowFunctions cells r))
       order
   arities-are-lengths k l =
-      sym (childrenIn-length kinds bases arities arguments rowFunctions cells (getD order k 0) (v .children-fit k l))
+      sym (childrenIn-length kinds bases arities arguments rowFunctions cells (getD order k 0)
+      (v .children-fit k l))
 
   pub children-most :
       length (inTurn (childrenIn kinds bases arities arguments rowFunctions cells) order) ≤ length order * 8
   children-most =
       omega (
         arith,
-        inTurn-length (childrenIn kinds bases arities arguments rowFunctions cells) (arityIn arities rowFunctions) order
+        inTurn-length (childrenIn kinds bases arities arguments rowFunctions cells)
+            (arityIn arities rowFunctions) order
             arities-are-lengths,
         sumOf-most (arityIn arities rowFunctions) order (λ k l. v .arities-fit k l .most),
       )
@@ -123,7 +110,8 @@ module _ (sorts functions rows n : ℕ)
       most = arity-most;
     }
 
-    argument-below : (j : ℕ) → j < length (argumentsIn arities arguments f) → getD (argumentsIn arities arguments f) j 0 < sorts
+    argument-below : (j : ℕ) → j < length (argumentsIn arities arguments f) → getD
+        (argumentsIn arities arguments f) j 0 < sorts
     argument-below j l =
         v .columns .below f (v .function-below r h) (getD (argumentsIn arities arguments f) j 0)
         (has-get (argumentsIn arities arguments f) j l)
@@ -134,8 +122,9 @@ module _ (sorts functions rows n : ℕ)
       base = λ j l. omega (arith, argument-below j l, v .bases-long);
       base-small = λ j l. v .base-small (getD (argumentsIn arities arguments f) j 0) (argument-below j l);
       cell-small = λ j l.
-          let t : j < getD arities f 0 = omega (arith, arguments-length arities arguments cells f r arguments-room) in
-          rw (cells-get arities arguments cells f r j t) (v .cell-small (r * 9 + j) (omega (arith, arity-most)));
+          let t : j < getD arities f 0 = omega
+          (arith, arguments-length arities arguments cells f r arguments-room) in
+          rw (cells-get arities arguments cells f r j t) (v .cell-small r j h t);
     }
 
     children-fit : ChildrenFit kinds bases arities arguments rowFunctions cells r

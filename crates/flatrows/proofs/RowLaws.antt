@@ -1,19 +1,18 @@
 -- Laws of the four lists: they are the rows in the order, and rows as the relaxation asks them. Assumes nothing.
-use Prim.Native.Nat.{ℕ, zero, suc, _+_, _-_, _*_, _≤_, _<_}
+use Prim.Native.Nat.{ℕ, zero, suc, _+_, _-_, _≤_, _<_}
 use mathlib.Core.Path.{_≡_, refl, ap, sym, _∙_}
 use mathlib.Core.List.{List, [], _∷_, _++_, append-assoc, map}
 use native.Mathlib.Omega.{arith}
 use native.Mathlib.Numerals.{add-one}
-use native.Mathlib.Decide.{decLt}
-use lib.ListN.{length, getD, take, drop, length-append, length-map, take-append-drop, List·getD-append}
-use lib.Seq.{ext-getD, getD-take, length-take-le, split-at, take-append-seam, drop-append-seam, getD-append-add, take-suc}
+use lib.ListN.{length, getD, take, drop, length-append, length-map, take-append-drop}
+use lib.Seq.{ext-getD, getD-take, length-take-le, split-at, take-append-seam, drop-append-seam, take-suc}
 use Rattle.choice.specs.Rows.{Row, noRow, sumOf, tabulate}
 use Rattle.choice.proofs.ListLaws.{tabulate-length, tabulate-get}
-use Rattle.relax.specs.Flat.{rowOf, partOf, rowsOf, ChildIn, ChildrenIn, FlatOk}
+use Rattle.relax.specs.Flat.{rowOf, partOf, rowsOf, ChildIn, FlatOk}
 use Rattle.scan.specs.Order.{inTurn}
 use Rattle.scan.specs.Arrays.{Filled}
 use Rattle.flatrows.specs.Arrays.{Each, Mapped, Sums}
-use Rattle.flatrows.proofs.FillLaws.{map-get, sumOf-append, sumOf-next}
+use Rattle.flatrows.proofs.FillLaws.{map-get}
 
 each-append : (P : ℕ → Type 0) (a b : List ℕ) → Each P a → Each P b → Each P (a ++ b)
 each-append P [] b v w k d = w k d
@@ -79,7 +78,8 @@ module _ (o h a : ℕ → ℕ) (give : ℕ → List ℕ) (order classes heads st
   heads-get : (k : ℕ) → k < length order → getD (take (length order) heads) k 0 ≡ h (getD order k 0)
   heads-get k l = ap (λ (x : List ℕ). getD x k 0) (hs .is) ∙ map-get h order k 0 l
 
-  starts-get : (k : ℕ) → k ≤ length order → getD (take (length order + 1) starts) k 0 ≡ length (inTurn give (take k order))
+  starts-get : (k : ℕ) → k ≤ length order → getD (take (length order + 1) starts) k 0 ≡ length (inTurn give
+      (take k order))
   starts-get k l =
       getD-take (length order + 1) starts k 0 (omega arith)
       ∙ ss .is k l
@@ -87,14 +87,16 @@ module _ (o h a : ℕ → ℕ) (give : ℕ → List ℕ) (order classes heads st
 
   starts-next :
       (k : ℕ) → k < length order →
-      length (inTurn give (take (k + 1) order)) ≡ length (inTurn give (take k order)) + length (give (getD order k 0))
+      length (inTurn give (take (k + 1) order)) ≡ length (inTurn give (take k order)) + length (give
+      (getD order k 0))
   unfolding inTurn
   starts-next k l =
       let e : inTurn give (take (k + 1) order) ≡ inTurn give (take k order) ++ (give (getD order k 0) ++ []) =
       rw (add-one, take-suc order k 0 l) (inTurn-append give (take k order) (getD order k 0 ∷ [])) in
       ap length e ∙ simp length-append (omega arith)
 
-  part-is : (k : ℕ) → k < length order → partOf (take (length order + 1) starts) (take m children) k ≡ give (getD order k 0)
+  part-is : (k : ℕ) → k < length order → partOf (take (length order + 1) starts) (take m children) k ≡ give
+      (getD order k 0)
   part-is k l =
       let b = starts-get k (omega arith) in
       let e = starts-get (k + 1) (omega arith) in
@@ -118,7 +120,8 @@ module _ (o h a : ℕ → ℕ) (give : ℕ → List ℕ) (order classes heads st
   laid-length = tabulate-length laidRow (length (take (length order) classes)) ∙ classes-length
 
   pub laid-rows :
-      rowsOf (take (length order) classes) (take (length order) heads) (take (length order + 1) starts) (take m children)
+      rowsOf (take (length order) classes) (take (length order) heads) (take (length order + 1) starts)
+      (take m children)
       ≡ map wantedRow order
   laid-rows =
       ext-getD noRow (tabulate laidRow (length (take (length order) classes))) (map wantedRow order)

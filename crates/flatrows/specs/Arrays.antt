@@ -3,7 +3,7 @@ use Prim.Native.Nat.{ℕ, _+_, _*_, _≤_, _<_}
 use mathlib.Core.Path.{_≡_}
 use mathlib.Core.List.{List, map}
 use lib.ListN.{length, getD, take}
-use Rattle.choice.specs.Rows.{Row, sumOf}
+use Rattle.choice.specs.Rows.{sumOf}
 use Rattle.relax.specs.Flat.{rowsOf}
 use Rattle.scan.specs.Order.{inTurn}
 use Rattle.scan.specs.Arrays.{argumentsIn, Columns, Filled}
@@ -24,7 +24,8 @@ pub record RowArrays (sorts functions rows n : ℕ)
   pub output-below : (f : ℕ) → f < functions → getD outputs f 0 < sorts
   pub function-below : (r : ℕ) → r < rows → getD rowFunctions r 0 < functions
   pub base-small : (s : ℕ) → s < sorts → getD bases s 0 ≤ 512
-  pub cell-small : (i : ℕ) → i < rows * 9 → getD cells i 0 < 512
+  pub cell-small :
+      (r j : ℕ) → r < rows → j < getD arities (getD rowFunctions r 0) 0 → getD cells (r * 9 + j) 0 < 512
   pub output-class : (r : ℕ) → r < rows → outputIn bases arities outputs rowFunctions cells r < n
   pub child-class :
       (r j : ℕ) → r < rows → j < getD arities (getD rowFunctions r 0) 0 →

@@ -9,7 +9,7 @@ unfoldable pub total : List ℕ → ℕ
 total [] = 0
 total (x ∷ xs) = x + total xs
 
--- "Hash maps by sort name become flat class numbers": a sort's first number comes after the classes of the sorts before it.
+-- "Hash maps by sort name become flat class numbers": a sort's first number comes after the classes of those before it.
 abbrev pub firstClass : List ℕ → ℕ → ℕ
 firstClass classes s = total (take s classes)
 

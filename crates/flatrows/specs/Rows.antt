@@ -1,5 +1,5 @@
--- The flat numbers of a row, out of a table's arrays: eight places for a function's argument sorts, nine for a row's cells.
--- Assumes nothing: these are definitions.
+-- The flat numbers of a row, out of a table's arrays: eight places for a function's argument sorts, nine for a row's
+-- cells. Assumes nothing: these are definitions.
 use Prim.Native.Nat.{ℕ, _+_, _*_}
 use mathlib.Core.Bool.{cond}
 use mathlib.Core.List.{List, [], _∷_}

@@ -1,6 +1,6 @@
 // The rows in scan order as flat arrays: a child number below 512 is a flat class, 512 + i the literal of index i.
 ghost use mathlib.Core.Path.{_≡_};
-ghost use mathlib.Core.List.{map, _++_};
+ghost use mathlib.Core.List.{_++_};
 ghost use Prim.Native.Nat.{_+_, _*_, _≤_, _<_};
 ghost use lib.ListN.{length, getD, take};
 ghost use Rattle.scan.specs.Order.{inTurn};

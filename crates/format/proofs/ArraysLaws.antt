@@ -4,7 +4,7 @@ use mathlib.Core.List.{List, [], _∷_, _++_, map, map-append}
 use mathlib.Core.Path.{_≡_, refl, sym, ap, _∙_}
 use native.Mathlib.Omega.{arith}
 use lib.ListN.{length, replicate, set, getD, length-append, length-map, length-replicate, List·getD-append}
-use lib.Seq.{set-at, append-snoc}
+use lib.Seq.{set-at, append-snoc, sets}
 use Rattle.format.specs.Arrays.{padWith, pad}
 
 pub padWith-nil : {A : Type 0} (z : A) (n : ℕ) → padWith z n [] ≡ replicate n z
@@ -34,3 +34,12 @@ padWith-set z n xs i v e h =
 pub pad-set-map : {A : Type 0} (n : ℕ) (f : A → ℕ) (xs : List A) (i : ℕ) (x : A) {v : ℕ} → length xs ≡ i → i < n → f x ≡ v
     → set (pad n (map f xs)) i v ≡ pad n (map f (xs ++ (x ∷ [])))
 pad-set-map n f xs i x e h d = rw (map-append, ← d) (padWith-set 0 n (map f xs) i (f x) (length-map xs f ∙ e) h)
+
+-- One store more in a run of stores.
+pub sets-snoc : (l : List ℕ) (i : ℕ) (vs : List ℕ) (v : ℕ) → sets l i (vs ++ (v ∷ [])) ≡ set (sets l i vs) (i + length vs) v
+sets-snoc l i [] v =
+    let e : i + 0 ≡ i = omega arith in
+    rw e
+sets-snoc l i (x ∷ vs) v =
+    let e : i + suc (length vs) ≡ suc i + length vs = omega arith in
+    rw e (sets-snoc (set l i x) (suc i) vs v)

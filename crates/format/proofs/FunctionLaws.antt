@@ -28,7 +28,7 @@ use Rattle.format.specs.Functions.{
   argumentsAt,
   functionAt,
 }
-use Rattle.format.specs.Kept.{FunctionOk}
+use Rattle.format.specs.Accepted.{FunctionOk}
 use Rattle.format.proofs.BlockLaws.{every-snoc}
 
 pub bytesAt-length : (s : List ℕ) (k n : ℕ) → length (bytesAt s k n) ≡ n

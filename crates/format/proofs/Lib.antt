@@ -3,4 +3,9 @@ pub mod SignedLaws
 pub mod ArraysLaws
 pub mod ReadingLaws
 pub mod BlockLaws
+pub mod SortLaws
+pub mod LiteralLaws
 pub mod FunctionLaws
+pub mod DifferLaws
+pub mod RowLaws
+pub mod TableLaws

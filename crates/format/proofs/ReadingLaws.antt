@@ -1,12 +1,15 @@
 -- Laws of what a reader of a part promises. Assumes nothing.
 use Prim.Native.Nat.{ℕ}
+use mathlib.Core.List.{List}
 use mathlib.Core.Path.{_≡_, refl, sym, _∙_}
 use native.Mathlib.Omega.{arith}
+use lib.ListN.{length}
 use Rattle.refusals.specs.declared.Refusal.{Refusal}
-use Rattle.fields.specs.Got.{Got, got, refused}
+use Rattle.fields.specs.Got.{Got, got, refused, then}
+use Rattle.format.specs.declared.Part.{Part}
 use Rattle.format.specs.declared.Step.{Step}
 use Rattle.format.specs.declared.Step.the-variants.{Done, Refused}
-use Rattle.format.specs.Reading.{stepOf, OnGot, Reads}
+use Rattle.format.specs.Reading.{stepOf, OnGot, Reads, partOf, Counts}
 
 -- Something was read up to k, and P holds of it.
 pub record Read-to {A : Type 0} (g : Got A) (k : ℕ) (P : A → Type 0) : Type 0 where
@@ -52,3 +55,60 @@ weaken-by (refused r) h f = tt
 pub reads-weaken : {A : Type 0} {P Q : A → Type 0} {g h : Got A} {r : Step} → g ≡ h → Reads g r P
     → ((a : A) (k : ℕ) → g ≡ got a k → P a → Q a) → Reads h r Q
 reads-weaken {g} e p f = rw (← e) (record { answer = p .answer; filled = weaken-by g (p .filled) f })
+
+-- A refusal is passed on.
+pub reads-pass : {A B : Type 0} {P : A → Type 0} {Q : B → Type 0} {g : Got A} {h : Got B} {r : Step} {x : Refusal}
+    → Reads g r P → r ≡ Refused x → (g ≡ refused x → h ≡ refused x) → Reads h r Q
+reads-pass p e f = rw e (reads-refused (f (reads-not p e)))
+
+via-by : {A B : Type 0} {P : A → Type 0} {Q : B → Type 0} (g : Got A) (f : A → B) {r : Step}
+    → Reads g r P → ((a : A) (k : ℕ) → g ≡ got a k → P a → Q (f a)) → Reads (then g (λ a k. got (f a) k)) r Q
+unfolding then OnGot
+via-by (got a k) f p h = record { answer = p .answer; filled = h a k refl (p .filled) }
+via-by (refused x) f p h = record { answer = p .answer; filled = tt }
+
+-- What was read last is a part of the whole.
+pub reads-via : {A B : Type 0} {P : A → Type 0} {Q : B → Type 0} {g : Got A} {h : Got B} (f : A → B) {r : Step}
+    → h ≡ then g (λ a k. got (f a) k) → Reads g r P → ((a : A) (k : ℕ) → g ≡ got a k → P a → Q (f a)) → Reads h r Q
+reads-via {g = g} f e p h = rw e (via-by g f p h)
+
+-- Some things were read up to k, n of them, and P holds of them.
+pub record Counted-to {A : Type 0} (g : Got (List A)) (n k : ℕ) (P : List A → Type 0) : Type 0 where
+  pub what : List A
+  pub is : g ≡ got what k
+  pub count : length what ≡ n
+  pub has : P what
+
+part-not-by : {A : Type 0} (g : Got (List A)) {x : Refusal} → Part.Refused x ≡ partOf g → g ≡ refused x
+part-not-by (got a j) e = cc
+part-not-by (refused y) e = cc
+
+module _ {A : Type 0} {P : List A → Type 0} where
+  -- The reader of many things counts them.
+  pub counts-of-done : {g : Got (List A)} {n k : ℕ} → Read-to g k P → (d : (xs : List A) (j : ℕ) → g ≡ got xs j → length xs ≡ n)
+      → Counts g (Part.Done n k) P
+  unfolding OnGot
+  counts-of-done {n = n} {k = k} r d =
+      let m : length (r .what) ≡ n = d (r .what) k (r .is) in
+      rw (r .is) (record { answer = rw m; filled = r .has })
+
+  pub counts-refused : {g : Got (List A)} {x : Refusal} → g ≡ refused x → Counts g (Part.Refused x) P
+  unfolding OnGot
+  counts-refused e = rw e (record { answer = refl; filled = tt })
+
+  part-by : (g : Got (List A)) {n k : ℕ} → Part.Done n k ≡ partOf g → OnGot g P → Counted-to g n k P
+  unfolding OnGot
+  part-by (got xs j) {n} {k} e h =
+      let d : k ≡ j = cc in
+      let m : n ≡ length xs = cc in
+      record { what = xs; is = rw d; count = sym m; has = h }
+  part-by (refused x) e h =
+      let z : _≡_ {A = ℕ} 0 1 = cc in
+      let n : ⊥ = omega arith in
+      absurd n
+
+  pub counts-done : {g : Got (List A)} {r : Part} {n k : ℕ} → Counts g r P → r ≡ Part.Done n k → Counted-to g n k P
+  counts-done {g} h e = part-by g (sym e ∙ h .answer) (h .filled)
+
+  pub counts-not : {g : Got (List A)} {r : Part} {x : Refusal} → Counts g r P → r ≡ Part.Refused x → g ≡ refused x
+  counts-not {g} h e = part-not-by g (sym e ∙ h .answer)

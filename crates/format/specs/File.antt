@@ -2,15 +2,36 @@
 use Prim.Native.Nat.{ℕ, _+_, _-_, _*_, _%_}
 use mathlib.Core.List.{List}
 use lib.Dec.{leb, eqb}
+use lib.IntN.{ℤ}
 use lib.ListN.{length}
 use Rattle.refusals.specs.declared.Refusal.the-variants.{BadVersion, BadSize, Trailing}
 use Rattle.fields.specs.Got.{Got, got, then, must}
 use Rattle.fields.specs.Field.{field}
-use Rattle.format.specs.Table.{Table}
+use Rattle.format.specs.Table.{Sort, Function, Row, Table}
 use Rattle.format.specs.Sorts.{kindsOf, sortsAt}
 use Rattle.format.specs.Literals.{literalsAt}
 use Rattle.format.specs.Functions.{functionsAt}
 use Rattle.format.specs.Rows.{rowsAt}
+
+-- "version 4 bits, must be 1"
+unfoldable pub versionAt : List ℕ → ℕ → Got ℕ
+versionAt s at = then (field s at 4) (λ v p. must (eqb v 1) BadVersion (got v p))
+
+-- "sort count S, 5 bits", then the sorts.
+unfoldable pub sortsPart : List ℕ → ℕ → Got (List Sort)
+sortsPart s at = then (field s at 5) (λ n p. sortsAt s n p)
+
+-- "literal count L, 9 bits", then the literals.
+unfoldable pub literalsPart : List ℕ → ℕ → Got (List ℤ)
+literalsPart s at = then (field s at 9) (λ n p. literalsAt s n p)
+
+-- "function count F, 7 bits", then the functions, over sorts of the kinds.
+unfoldable pub functionsPart : List ℕ → List ℕ → ℕ → Got (List Function)
+functionsPart s kinds at = then (field s at 7) (λ n p. functionsAt s kinds n p)
+
+-- "row count 11 bits, 0 to 1,024", then the rows, over the sorts, l literals and the functions.
+unfoldable pub rowsPart : List ℕ → List Sort → ℕ → List Function → ℕ → Got (List Row)
+rowsPart s sorts l functions at = then (field s at 11) (λ n p. must (leb n 1024) BadSize (rowsAt s sorts l functions n p))
 
 -- The bits from position at to the byte's end.
 abbrev pub padBits : ℕ → ℕ
@@ -27,16 +48,10 @@ endAt s at =
 -- The whole file.
 unfoldable pub tableAt : List ℕ → Got Table
 tableAt s =
-    then (field s 0 4) (λ version a.
-    must (eqb version 1) BadVersion
-    (then (field s a 5) (λ sortCount b.
-    then (sortsAt s sortCount b) (λ sorts c.
-    then (field s c 9) (λ literalCount d.
-    then (literalsAt s literalCount d) (λ literals e.
-    then (field s e 7) (λ functionCount f.
-    then (functionsAt s (kindsOf sorts) functionCount f) (λ functions g.
-    then (field s g 11) (λ rowCount h.
-    must (leb rowCount 1024) BadSize
-    (then (rowsAt s sorts (length literals) functions rowCount h) (λ rows i.
-    then (endAt s i) (λ end j.
-    got (record { sorts = sorts; literals = literals; functions = functions; rows = rows }) j))))))))))))
+    then (versionAt s 0) (λ version a.
+    then (sortsPart s a) (λ sorts b.
+    then (literalsPart s b) (λ literals c.
+    then (functionsPart s (kindsOf sorts) c) (λ functions d.
+    then (rowsPart s sorts (length literals) functions d) (λ rows e.
+    then (endAt s e) (λ end f.
+    got (record { sorts = sorts; literals = literals; functions = functions; rows = rows }) f))))))

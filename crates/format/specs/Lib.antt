@@ -6,6 +6,6 @@ pub mod Functions
 pub mod Rows
 pub mod File
 pub mod Every
-pub mod Kept
+pub mod Accepted
 pub mod Arrays
 pub mod Reading

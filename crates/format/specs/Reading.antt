@@ -2,7 +2,10 @@
 -- Assumes nothing: definitions.
 use Prim.{Unit}
 use mathlib.Core.Path.{_≡_}
+use mathlib.Core.List.{List}
+use lib.ListN.{length}
 use Rattle.fields.specs.Got.{Got, got, refused}
+use Rattle.format.specs.declared.Part.{Part}
 use Rattle.format.specs.declared.Step.{Step}
 use Rattle.format.specs.declared.Step.the-variants.{Done, Refused}
 
@@ -18,4 +21,13 @@ OnGot (refused r) P = Unit {0}
 
 pub record Reads {A : Type 0} (g : Got A) (r : Step) (P : A → Type 0) : Type 0 where
   pub answer : r ≡ stepOf g
+  pub filled : OnGot g P
+
+-- The code's answer for a reading of many things: how many, and the position after them.
+abbrev pub partOf : {A : Type 0} → Got (List A) → Part
+partOf (got xs k) = Part.Done (length xs) k
+partOf (refused r) = Part.Refused r
+
+pub record Counts {A : Type 0} (g : Got (List A)) (r : Part) (P : List A → Type 0) : Type 0 where
+  pub answer : r ≡ partOf g
   pub filled : OnGot g P

@@ -10,6 +10,12 @@ pub enum Step {
     Refused(Refusal),
 }
 
+// How many things were read and the position after them, or the first fault.
+pub enum Part {
+    Done(usize, usize),
+    Refused(Refusal),
+}
+
 // The signed number that 64 bits are in two's complement.
 pub fn signed_of(v: u64) -> i64
     ensures { λ r. ⌜ r ≡ signed v ⌝ }

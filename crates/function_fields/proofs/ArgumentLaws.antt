@@ -11,16 +11,9 @@ use Rattle.fields.specs.Got.{Got, got, refused, many}
 use Rattle.fields.specs.Field.{field}
 use Rattle.fields.proofs.FieldLaws.{field-read}
 use Rattle.fields.proofs.GotLaws.{All, all-got, all-at, many-all, Loop, loop-start, loop-more, loop-refuses, loop-ends}
+use Rattle.format.proofs.ArraysLaws.{sets-snoc}
 use Rattle.function_fields.specs.Put.{PutList, argumentOf}
 use Rattle.function_fields.proofs.StepLaws.{argument-in}
-
-pub sets-snoc : (l : List ℕ) (i : ℕ) (vs : List ℕ) (v : ℕ) → sets l i (vs ++ (v ∷ [])) ≡ set (sets l i vs) (i + length vs) v
-sets-snoc l i [] v =
-    let e : i + 0 ≡ i = omega arith in
-    rw e
-sets-snoc l i (x ∷ vs) v =
-    let e : i + suc (length vs) ≡ suc i + length vs = omega arith in
-    rw e (sets-snoc (set l i x) (suc i) vs v)
 
 -- The loop over m argument sorts from at: those of xs are read up to p and stand from place `from` on.
 pub record Arguments-read (s : List ℕ) (n at m from : ℕ) (arguments₀ arguments : List ℕ) (p j : ℕ) : Type 0 where

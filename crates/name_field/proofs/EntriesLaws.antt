@@ -2,7 +2,7 @@
 use Prim.Native.Nat.{ℕ, zero, suc, _+_, _-_, _*_, _≤_, _<_}
 use mathlib.Core.Bool.{Bool, true, false, not, _||_}
 use mathlib.Core.List.{List, [], _∷_, _++_, append-assoc}
-use mathlib.Core.Path.{_≡_, refl, sym, ap, _∙_}
+use mathlib.Core.Path.{_≡_, refl, sym, ap, _∙_, fun-ext}
 use native.Mathlib.Omega.{arith}
 use native.Mathlib.Numerals.{add-one}
 use native.Mathlib.Nat.{add-zero}
@@ -11,20 +11,23 @@ use lib.Seq.{drop-cons, getD-drop, drop-drop, take-append-seam, take-at}
 use Rattle.refusals.specs.declared.Refusal.{Refusal}
 use Rattle.refusals.specs.declared.Refusal.the-variants.{DupName}
 use Rattle.names.specs.Name.{same}
-use Rattle.names.specs.Entries.{lengthAt, nameAt as nameIn, entry, findFrom, findName}
+use Rattle.names.specs.Entries.{Entries, lengthAt, nameAt as nameIn, entry, findFrom, findName}
 use Rattle.names.specs.declared.Found.{Found}
 use Rattle.names.specs.declared.Found.the-variants.{At, Missing}
 use Rattle.names.proofs.EntryLaws.{entry-length}
 use Rattle.fields.specs.Got.{Got, got, refused, then, must}
+use Rattle.fields.proofs.GotLaws.{All, all-got, all-at, all-then, all-must}
 use Rattle.format.specs.Table.{Function}
 use Rattle.format.specs.Every.{Every}
 use Rattle.format.specs.Rows.{functionNo}
 use Rattle.format.specs.Functions.{taken, nameAt, newNameAt}
 use Rattle.format.specs.Arrays.{padWith, pad, blocks}
-use Rattle.format.proofs.BlockLaws.{every-map, every-get, blocks-drop}
+use Rattle.format.proofs.FunctionLaws.{NameKept, name-kept}
+use Rattle.format.proofs.BlockLaws.{every-map, every-get, blocks-drop, blocks-length}
+use Rattle.format.proofs.ArraysLaws.{padWith-length}
 use Rattle.name_field.specs.declared.NameRead.{NameRead}
 use Rattle.name_field.specs.declared.NameRead.the-variants.{Name, Refused}
-use Rattle.name_field.specs.Name.{HoldsNames, NameIs, gotName, isMissing, isFree}
+use Rattle.name_field.specs.Name.{HoldsNames, NameIs, freeNameAt, gotName, isMissing, isFree}
 
 -- The code's answer told by its case.
 module _ {g : Got (List ℕ)} {r : NameRead} {buffer : List ℕ} (h : NameIs g r buffer) where
@@ -37,7 +40,7 @@ module _ {g : Got (List ℕ)} {r : NameRead} {buffer : List ℕ} (h : NameIs g r
   pub name-length : {n k : ℕ} → r ≡ Name n k → n ≤ 31
   name-length e = rw e at (h .short)
 
-abbrev entryOf : Function → List ℕ
+abbrev pub entryOf : Function → List ℕ
 entryOf f = entry (f .name)
 
 -- The entries from entry k on.
@@ -68,6 +71,23 @@ module _ {table : List ℕ} {i : ℕ} {fs : List Function} (h : HoldsNames table
       let d : drop (k * 32 + 1) table ≡ drop 1 (drop (k * 32) table) = sym (drop-drop 1 (k * 32) table) in
       rw (length-at, e, d, from-entry h k l .1, append-assoc) (take-at (functionNo fs k .name) _ n refl)
 
+-- The table of at most 128 names is 4096 bytes long, and each entry in it is one.
+module _ {table : List ℕ} {i : ℕ} {fs : List Function} (h : HoldsNames table i fs) (few : i ≤ 128) where
+  pub names-length : length (blocks entryOf fs) ≡ i * 32
+  names-length =
+      rw (← h .count)
+      (blocks-length entryOf 32 (every-map (λ (f : Function) (s : length (f .name) ≤ 31). entry-length (f .name) s) (h .short)))
+
+  pub held-length : length table ≡ 4096
+  held-length = rw (h .are) (padWith-length 0 4096 (blocks entryOf fs) (omega (arith, names-length)))
+
+  pub held-entries : Entries table i
+  held-entries =
+      record {
+        long = omega (arith, held-length);
+        short = λ k l. rw (length-at h k l) (every-get (h .short) k _ (omega (arith, h .count)));
+      }
+
 missing-by : (b : Bool) (k : ℕ) (f : Found) (t : Bool) → isMissing f ≡ not t
     → isMissing (elim b [ true ↦ At k | false ↦ f ]) ≡ not (b || t)
 unfolding isMissing
@@ -95,16 +115,25 @@ pub free-when-new : {table : List ℕ} {i : ℕ} {fs : List Function} → HoldsN
 unfolding isFree findName
 free-when-new {i = i} h name = missing-from h name i 0 (omega arith)
 
-module _ (s : List ℕ) (fs : List Function) (at : ℕ) where
-  pub new-refused : {r : Refusal} → nameAt s at ≡ refused r → newNameAt s fs at ≡ refused r
-  unfolding newNameAt then
-  new-refused e = rw e
+module _ (s table : List ℕ) (i at : ℕ) where
+  pub free-refused : {r : Refusal} → nameAt s at ≡ refused r → freeNameAt s table i at ≡ refused r
+  unfolding freeNameAt then
+  free-refused e = rw e
 
   module _ {name : List ℕ} {q : ℕ} (e : nameAt s at ≡ got name q) where
-    pub new-name : not (taken fs name) ≡ true → newNameAt s fs at ≡ got name q
-    unfolding newNameAt then must
-    new-name b = rw (e, b)
+    pub free-name : isFree table i name ≡ true → freeNameAt s table i at ≡ got name q
+    unfolding freeNameAt then must
+    free-name b = rw (e, b)
 
-    pub new-taken : not (taken fs name) ≡ false → newNameAt s fs at ≡ refused DupName
-    unfolding newNameAt then must
-    new-taken b = rw (e, b)
+    pub free-taken : isFree table i name ≡ false → freeNameAt s table i at ≡ refused DupName
+    unfolding freeNameAt then must
+    free-taken b = rw (e, b)
+
+  pub free-kept : All (NameKept at) (freeNameAt s table i at)
+  unfolding freeNameAt
+  free-kept = all-then (nameAt s at) _ (λ name p e. all-must _ _ _ (λ _. all-got (all-at (rw e at (name-kept s at)))))
+
+  -- A name that is free in the table of the functions is new to them.
+  pub free-is-new : {fs : List Function} → HoldsNames table i fs → freeNameAt s table i at ≡ newNameAt s fs at
+  unfolding freeNameAt newNameAt
+  free-is-new {fs} h = ap (then (nameAt s at)) (fun-ext (λ name. fun-ext (λ p. rw (free-when-new h name))))

@@ -24,11 +24,6 @@ bytesAt-suc s k (suc n) =
     let e : k + 8 * suc n ≡ k + 8 + 8 * n = omega arith in
     rw e (ap (λ (l : List ℕ). number s k 8 ∷ l) (bytesAt-suc s (k + 8) n))
 
-pub bytesAt-length : (s : List ℕ) (k n : ℕ) → length (bytesAt s k n) ≡ n
-unfolding bytesAt
-bytesAt-length s k zero = refl
-bytesAt-length s k (suc n) = ap suc (bytesAt-length s (k + 8) n)
-
 -- One byte more in the buffer.
 pub bytes-more : (s : List ℕ) (k j : ℕ) (buffer : List ℕ) {b : ℕ} → j < length buffer → take j buffer ≡ bytesAt s k j
     → b ≡ number s (k + 8 * j) 8 → take (j + 1) (set buffer j b) ≡ bytesAt s k (j + 1)

@@ -7,8 +7,10 @@ use lib.ListN.{length, take}
 use Rattle.names.specs.Entries.{entry, findName, putName}
 use Rattle.names.specs.declared.Found.{Found}
 use Rattle.names.specs.declared.Found.the-variants.{At, Missing}
-use Rattle.fields.specs.Got.{Got, got, refused}
+use Rattle.refusals.specs.declared.Refusal.the-variants.{DupName}
+use Rattle.fields.specs.Got.{Got, got, refused, then, must}
 use Rattle.format.specs.Table.{Function}
+use Rattle.format.specs.Functions.{nameAt}
 use Rattle.format.specs.Every.{Every}
 use Rattle.format.specs.Arrays.{pad, blocks}
 use Rattle.name_field.specs.declared.NameRead.{NameRead}
@@ -35,6 +37,10 @@ isMissing Missing = true
 -- Whether none of the first i entries has the name.
 unfoldable pub isFree : List ℕ → ℕ → List ℕ → Bool
 isFree table i name = isMissing (findName table i name)
+
+-- The name at position `at`, which none of the first i entries has.
+unfoldable pub freeNameAt : List ℕ → List ℕ → ℕ → ℕ → Got (List ℕ)
+freeNameAt s table i at = then (nameAt s at) (λ name p. must (isFree table i name) DupName (got name p))
 
 -- The names of i functions in their table.
 pub record HoldsNames (table : List ℕ) (i : ℕ) (fs : List Function) : Type 0 where

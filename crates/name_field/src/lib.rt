@@ -1,14 +1,12 @@
 // The reader of a function's name: its length, its bytes as one field, and that no function before has it.
 ghost use mathlib.Core.Path.{_≡_};
-ghost use mathlib.Core.List.{List};
 ghost use Prim.Native.Nat.{_+_, _*_, _^_, _<_, _≤_};
 ghost use lib.ListN.{length, take};
 ghost use Rattle.fields.specs.Got.{pick};
 ghost use Rattle.names.specs.Entries.{Entries, putName};
-ghost use Rattle.format.specs.Table.{Function};
-ghost use Rattle.format.specs.Functions.{bytesAt, nameAt, newNameAt};
+ghost use Rattle.format.specs.Functions.{bytesAt, nameAt};
 ghost use Rattle.format.specs.Reading.{Reads};
-ghost use Rattle.name_field.specs.Name.{NameIs, isFree, HoldsNames, PutName};
+ghost use Rattle.name_field.specs.Name.{NameIs, isFree, freeNameAt, PutName};
 use fields::Field;
 use format::Step;
 use names::Found;
@@ -76,14 +74,14 @@ fn put_new(entries: &mut [u8], i: usize, name: &[u8]) -> bool
     }
 }
 
-// The name at position `at`, into entry `i`, after the names of the `i` functions before.
+// The name at position `at`, into entry `i`, where none of the `i` entries before has it.
 pub fn read_name(s: &[u8], at: usize, i: usize, entries: &mut [u8]) -> Step
     requires { ⌜ at < 2 ^ 40 ⌝ }
     requires { ⌜ i < 128 ⌝ }
     requires { ⌜ Entries (now entries) i ⌝ }
     requires { ⌜ length (now entries) ≡ 4096 ⌝ }
-    ensures { λ r. ⌜ ((fs : List Function) → HoldsNames (now (entries .entry)) i fs
-        → Reads (newNameAt (now (s .entry)) fs at) r (PutName i (now (entries .entry)) (now (entries .exit)))) ⌝ }
+    ensures { λ r. ⌜ Reads (freeNameAt (now (s .entry)) (now (entries .entry)) i at) r
+        (PutName i (now (entries .entry)) (now (entries .exit))) ⌝ }
 {
     let mut buffer = [0u8; 32];
     let x = read_text(s, at, &mut buffer);

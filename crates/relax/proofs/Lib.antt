@@ -5,5 +5,4 @@ pub mod FlatLaws
 pub mod RowLaws
 pub mod PassLaws
 pub mod RepeatLaws
-pub mod EdgeLaws
 pub mod EndLaws

@@ -1,4 +1,4 @@
--- One row, by the ways of the code: its relaxation, and whether it is an edge. Assumes nothing.
+-- The relaxation of one row, by the ways of the code. Assumes nothing.
 use mathlib.Core.Path.{_≡_, refl}
 use mathlib.Core.Bool.{Bool, true, false}
 use mathlib.Core.List.{List, map}
@@ -9,7 +9,6 @@ use lib.ListN.{getD, set}
 use lib.Dec.{ltb, eqb}
 use Rattle.choice.specs.Rows.{allOf, sumOf}
 use Rattle.choice.specs.Run.{State, priced, childCost, rowCost, improves, relax}
-use Rattle.choice.specs.Edges.{below, isEdge}
 use Rattle.relax.specs.Flat.{top, childOf, rowOf, stateOf}
 
 module _ (costs ranks kids : List ℕ) (last output head : ℕ) where
@@ -41,21 +40,3 @@ module _ (costs ranks kids : List ℕ) (last output head : ℕ) where
         → stateOf costs ranks last ≡ after
     unfolding relax improves rowCost
     relax-when-kept n z = rw (k, ne-eqb (getD ranks output 0) 0 n, ← we, z)
-
-module _ (costs ranks kids : List ℕ) (output head : ℕ) where
-  abbrev edge : Bool
-  edge = isEdge top costs ranks output (rowOf output head kids)
-
-  pub edge-when-unpriced : allOf (priced ranks) (map childOf kids) ≡ false → false ≡ edge
-  unfolding isEdge
-  edge-when-unpriced k = rw (eq-eqb output output refl, k)
-
-  module _ (w : ℕ) (k : allOf (priced ranks) (map childOf kids) ≡ true)
-      (we : w ≡ min top (head + sumOf (childCost costs) (map childOf kids))) where
-    pub edge-when-dearer : (w ≡ getD costs output 0 → ⊥) → false ≡ edge
-    unfolding isEdge rowCost
-    edge-when-dearer n = rw (eq-eqb output output refl, k, ← we, ne-eqb w (getD costs output 0) n)
-
-    pub edge-when-exact : w ≡ getD costs output 0 → allOf (below (getD ranks output 0) ranks) (map childOf kids) ≡ edge
-    unfolding isEdge rowCost
-    edge-when-exact q = rw (eq-eqb output output refl, k, ← we, eq-eqb w (getD costs output 0) q)

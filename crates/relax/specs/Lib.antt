@@ -1,3 +1,2 @@
--- The definitions of the crate `relax`: rows out of flat lists, and one mark of the walk that finds edges.
+-- The definitions of the crate `relax`: rows out of flat lists.
 pub mod Flat
-pub mod Marks

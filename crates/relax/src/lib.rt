@@ -4,4 +4,3 @@
 pub mod children; // children.rt: the cost and rank of one child
 pub mod rows; // rows.rt: the cost of one row, and its relaxation
 pub mod passes; // passes.rt: passes until one changes nothing
-pub mod edges; // edges.rt: the edge of each class

@@ -4,7 +4,7 @@ use mathlib.Core.List.{List}
 use Prim.Native.Nat.{ℕ, _<_}
 use lib.ListN.{length}
 use Rattle.choice.specs.Rows.{class}
-use Rattle.choice.specs.Deriving.{Tree}
+use Rattle.choice.specs.Deriving.{Tree, Derives}
 use Rattle.choice.specs.Edges.{Chosen}
 use Rattle.choice.specs.Answer.{Answer, best}
 use Rattle.choice.proofs.Promises.{promises}
@@ -23,6 +23,7 @@ use Rattle.rules.proofs.CoverLaws.{ReachedClass, scanOrder-covers, scan
 pub record ChosenTree (t : Table) (root c w : ℕ) : Type 0 where
   pub tree : Tree
   pub chosen : Chosen (scanned t root) (edgeFor t root) tree (class c)
+  pub derives : Derives (scanned t root) tree (class c)
   pub cheapest : Cheapest (tableRows t) (usable t) c w (renumber (scanOrder t root) tree)
 
 module _ (t : Table) (k : Known t) (root : ℕ) (h : root < length (t .sorts)) where
@@ -49,6 +50,7 @@ module _ (t : Table) (k : Known t) (root : ℕ) (h : root < length (t .sorts)) w
       record {
         tree = p .0;
         chosen = p .1;
+        derives = p .2 .derives;
         cheapest =
             cheapest-of-best (tableRows t) (usable t) (scanOrder t root) (ReachedClass t root)
             (scanOrder-covers t k root h) c r w (p .0) (p .2);

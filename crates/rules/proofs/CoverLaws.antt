@@ -133,7 +133,7 @@ module _ (t : Table) (k : Known t) (root : ℕ) (h : root < length (t .sorts)) w
   unfolding scanOrder
   scanned-row i l = rowsInOrder-get (viewOf t) root view-sound i l
 
-  scanned-below : (i : ℕ) → i < length (scanOrder t root) → getD (scanOrder t root) i 0 < length (t .rows)
+  pub scanned-below : (i : ℕ) → i < length (scanOrder t root) → getD (scanOrder t root) i 0 < length (t .rows)
   unfolding viewOf
   scanned-below i l = scanned-row i l .below
 
@@ -175,7 +175,7 @@ module _ (t : Table) (k : Known t) (root : ℕ) (h : root < length (t .sorts)) w
   unfolding rowBy
   row-children r l = ap (λ (x : Row). x .children) (tableRows-get t r l)
 
-  children-length : (r : ℕ) → r < length (t .rows) → length (rowAt (tableRows t) r .children) ≡ arityOf t r
+  pub children-length : (r : ℕ) → r < length (t .rows) → length (rowAt (tableRows t) r .children) ≡ arityOf t r
   children-length r l =
       ap (λ (x : List Child). length x) (row-children r l)
       ∙ childrenOf-length t (functionOf t (tableRowOf t r .function) .arguments) (tableRowOf t r .cells)

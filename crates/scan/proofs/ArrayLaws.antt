@@ -1,12 +1,12 @@
 -- Laws of the table's arrays: what a visit brings, and how its loop begins. Assumes nothing.
 use Prim.Native.Nat.{ℕ, _+_, _-_, _*_, _≤_, _<_}
-use mathlib.Core.Path.{_≡_, refl, ap, sym, _∙_}
-use mathlib.Core.Bool.{Bool, true, _&&_}
-use mathlib.Core.List.{List, [], _∷_, _++_}
+use mathlib.Core.Path.{_≡_}
+use mathlib.Core.Bool.{true}
+use mathlib.Core.List.{List}
 use native.Mathlib.Omega.{arith}
 use native.Mathlib.Nat.{sub-zero}
 use lib.ListN.{length, getD, take, drop}
-use Rattle.scan.specs.Order.{has, Within, Apart, picked, inTurn, join}
+use Rattle.scan.specs.Order.{has, Within, Apart, join}
 use Rattle.scan.specs.Arrays.{belongsTo, heldBy, argumentsIn, broughtIn, Columns}
 use Rattle.scan.proofs.PickedLaws.{picked-has, inTurn-has}
 use Rattle.scan.proofs.QueueLaws.{Visiting}

@@ -1,6 +1,6 @@
 -- Laws of membership, of different numbers and their pigeonhole. Assumes nothing.
 use Prim.Native.Nat.{ℕ, suc, zero, _+_, _≤_, _<_}
-use mathlib.Core.Path.{_≡_, refl, ap, sym, _∙_}
+use mathlib.Core.Path.{_≡_, refl, sym, _∙_}
 use mathlib.Core.Bool.{Bool, true, false, cond, _&&_, _||_}
 use mathlib.Core.List.{List, [], _∷_, _++_}
 use native.Mathlib.Omega.{arith}
@@ -76,7 +76,12 @@ has-get (x ∷ l) (suc i) h = has-later (getD l i 0) x l (has-get l i (omega ari
 pub has-place : (x : ℕ) (l : List ℕ) → has x l ≡ true → (p : ℕ) × (p < length l) × (getD l p 0 ≡ x)
 has-place x [] h = has-nil x h
 has-place x (y ∷ l) h =
-    has-cons x y l h (λ e. (0, omega arith, e)) (λ t. let r = has-place x l t in (suc (r .0), omega (arith, r .1), r .2))
+    has-cons x y l h (λ e. (0, omega arith, e)) (λ t. let r = has-place x l t in (
+      suc (r .0),
+      omega
+          (arith, r .1),
+      r .2,
+    ))
 
 -- The search through the first n numbers.
 module _ (a : ℕ) (q : List ℕ) (i n : ℕ) (long : n ≤ length q) where

@@ -1,7 +1,6 @@
 -- A fixed case of the scan order, by computing. Assumes nothing.
-use Prim.Native.Nat.{ℕ}
 use mathlib.Core.Path.{_≡_, refl}
-use mathlib.Core.List.{List, [], _∷_}
+use mathlib.Core.List.{[], _∷_}
 use Rattle.scan.specs.View.{ScanView}
 use Rattle.scan.specs.Order.{
   has,

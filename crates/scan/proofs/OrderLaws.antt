@@ -1,31 +1,15 @@
 -- Laws of the scan order, for whoever goes by it: what is reached is closed, and each usable row of it comes exactly once.
 -- Assumes nothing.
-use Prim.Native.Nat.{ℕ, _+_, _≤_, _<_}
-use mathlib.Core.Path.{_≡_, refl, ap, sym, _∙_, subst}
-use mathlib.Core.Bool.{Bool, true, false, _&&_}
-use mathlib.Core.List.{List, [], _∷_, _++_}
+use Prim.Native.Nat.{ℕ, _≤_, _<_}
+use mathlib.Core.Path.{_≡_, refl, sym, _∙_, subst}
+use mathlib.Core.Bool.{Bool, true, _&&_}
+use mathlib.Core.List.{[], _∷_}
 use native.Mathlib.Omega.{arith}
 use borrow.Author.Tests.{eqb-true, eq-eqb}
 use lib.Dec.{eqb}
 use lib.ListN.{length, getD}
 use Rattle.scan.specs.View.{ScanView}
-use Rattle.scan.specs.Order.{
-  has,
-  Within,
-  Apart,
-  none,
-  more,
-  picked,
-  inTurn,
-  functionsOf,
-  rowsOf,
-  brought,
-  visits,
-  sortsReached,
-  functionsInOrder,
-  rowsInOrder,
-  Sound,
-}
+use Rattle.scan.specs.Order.{has, Within, Apart, none, more, functionsOf, rowsOf, brought, sortsReached, functionsInOrder, rowsInOrder, Sound}
 use Rattle.scan.proofs.HasLaws.{and-true, has-first, has-get, apart-length}
 use Rattle.scan.proofs.PickedLaws.{picked-has, picked-finds, picked-apart, inTurn-has, inTurn-finds, inTurn-apart}
 use Rattle.scan.proofs.QueueLaws.{visits-keeps, visits-apart, visits-bring}
@@ -135,7 +119,8 @@ module _ (v : ScanView) where
       pub function-below : v .function r < v .functions
       pub usable : v .usable (v .function r) ≡ true
       pub output-reached : has (v .output (v .function r)) (sortsReached v root) ≡ true
-      pub arguments-reached : (a : ℕ) → has a (v .arguments (v .function r)) ≡ true → has a (sortsReached v root) ≡ true
+      pub arguments-reached : (a : ℕ) → has a (v .arguments (v .function r)) ≡ true → has a
+          (sortsReached v root) ≡ true
 
     pub rowsInOrder-has : (r : ℕ) → has r (rowsInOrder v root) ≡ true → Scanned r
     unfolding rowsInOrder functionsInOrder
@@ -171,5 +156,6 @@ module _ (v : ScanView) where
     rowsInOrder-finds r l s k u h =
         inTurn-finds (rowsOf v) r (v .function r) (functionsInOrder v root)
         (inTurn-finds (functionsOf v) (v .function r) (v .output (v .function r)) (sortsReached v root) h
-        (functionsOf-finds (v .output (v .function r)) (v .function r) (record { below = k; usable = u; output = refl })))
+        (functionsOf-finds (v .output (v .function r)) (v .function r)
+        (record { below = k; usable = u; output = refl })))
         (rowsOf-finds (v .function r) r (record { below = l; unsubsumed = s; function = refl }))

@@ -1,7 +1,7 @@
 -- Laws of `picked` and `inTurn`: what they hold, that they hold nothing twice, and a loop's steps. Assumes nothing.
 use Prim.Native.Nat.{ℕ, suc, zero, _+_, _-_, _≤_, _<_}
 use mathlib.Core.Path.{_≡_, refl, ap, sym, _∙_, subst}
-use mathlib.Core.Bool.{Bool, true, false, cond}
+use mathlib.Core.Bool.{Bool, true, false}
 use mathlib.Core.List.{List, [], _∷_, _++_, append-assoc, append-nil}
 use native.Mathlib.Omega.{arith}
 use native.Mathlib.Nat.{sub-zero}
@@ -185,7 +185,8 @@ module _ (give : ℕ → List ℕ) (order list : List ℕ) (m i : ℕ) (v : Gath
       sym (append-nil (take m list)) ∙ rw (e, drop-length) at (v .is)
 
   module _ (l : i < length order) where
-    pub gathers-step : take m list ++ (give (getD order i 0) ++ inTurn give (drop (i + 1) order)) ≡ inTurn give order
+    pub gathers-step : take m list ++ (give (getD order i 0) ++ inTurn give (drop
+        (i + 1) order)) ≡ inTurn give order
     unfolding inTurn
     gathers-step = rw (drop-step order i l) at (v .is)
 

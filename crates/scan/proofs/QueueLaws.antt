@@ -87,7 +87,8 @@ join-finds x q (a ∷ l) h = has-cons x a l h
     (λ u. rw (join-new a q l u) (join-finds x (q ++ (a ∷ [])) l t)))
 
 module _ (bring : ℕ → List ℕ) where
-  visits-on : (n i : ℕ) (q : List ℕ) → i < length q → visits bring (suc n) i q ≡ visits bring n (suc i) (join q (bring (getD q i 0)))
+  visits-on : (n i : ℕ) (q : List ℕ) → i < length q → visits bring (suc n) i q ≡ visits bring n (suc i) (join q
+      (bring (getD q i 0)))
   unfolding visits
   visits-on n i q h = rw (lt-ltb i (length q) h)
 
@@ -133,7 +134,8 @@ module _ (bring : ℕ → List ℕ) where
     visits-apart zero i q d = d
     visits-apart (suc n) i q d = by-test (ltb i (length q))
         (λ e. rw (visits-on n i q (ltb-true i (length q) e))
-        (visits-apart n (suc i) (join q (bring (getD q i 0))) (join-apart s q (bring (getD q i 0)) d (within (getD q i 0)))))
+        (visits-apart n (suc i) (join q (bring (getD q i 0))) (join-apart s q (bring (getD q i 0)) d (within
+        (getD q i 0)))))
         (λ e. rw (visits-off (suc n) i q (ltb-false i (length q) e)) d)
 
     visits-closed :

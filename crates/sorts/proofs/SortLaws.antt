@@ -12,10 +12,11 @@ use Rattle.refusals.specs.declared.Refusal.the-variants.{Short, BadSize}
 use Rattle.fields.specs.Got.{Got, got, refused, then, must, pick}
 use Rattle.fields.specs.Field.{field}
 use Rattle.fields.proofs.FieldLaws.{field-read}
-use Rattle.fields.proofs.GotLaws.{All, all-got, all-at, all-then, all-must, all-pick, Loop, loop-start, loop-more, loop-refuses, loop-ends}
+use Rattle.fields.proofs.GotLaws.{all-at, Loop, loop-start, loop-more, loop-refuses, loop-ends}
 use Rattle.format.specs.Table.{Sort}
 use Rattle.format.specs.Sorts.{classesOf, sortAt, sortsAt}
 use Rattle.format.specs.Arrays.{HoldsSorts, pad}
+use Rattle.format.proofs.SortLaws.{sort-kept, classesOf-snoc}
 use Rattle.format.proofs.ArraysLaws.{padWith-nil, pad-set-map}
 
 large-by : (b : Bool) (g : Got Sort) → must b BadSize (must false BadSize g) ≡ refused BadSize
@@ -49,30 +50,6 @@ module _ (s : List ℕ) (at t : ℕ) where
         sort-eq h =
             let l : n ≤ 512 = omega arith in
             rw (e, ne-eqb _ _ o, d, le-leb _ _ l, le-leb _ _ h)
-
--- What a sort that was read keeps: the classes stay at most 512, and it takes at most 11 bits.
-abbrev pub SortKept : ℕ → ℕ → Sort → ℕ → Type 0
-SortKept at t x q = (t + x .classes ≤ 512) × (q ≤ at + 11)
-
-pub sort-kept : (s : List ℕ) (at t : ℕ) → t ≤ 512 → All (SortKept at t) (sortAt s at t)
-unfolding sortAt
-sort-kept s at t h =
-    all-then (field s at 1) _ (λ kind p e.
-    let f = field-read s at 1 e in
-    all-pick _ _ _
-    (λ _. all-got (omega arith))
-    (λ _.
-    all-then (field s p 10) _ (λ n q d.
-    let g = field-read s p 10 d in
-    all-must _ _ _ (λ _. all-must _ _ _ (λ b. all-got (leb-true _ _ b, omega (arith, f, g)))))))
-
-pub sort-few : (s : List ℕ) (at t : ℕ) {x : Sort} {q : ℕ} → t ≤ 512 → sortAt s at t ≡ got x q → t + x .classes ≤ 512
-sort-few s at t h e = all-at (rw e at (sort-kept s at t h)) .0
-
-pub classesOf-snoc : (xs : List Sort) (x : Sort) → classesOf (xs ++ (x ∷ [])) ≡ classesOf xs + x .classes
-unfolding classesOf
-classesOf-snoc [] x = omega arith
-classesOf-snoc (y ∷ xs) x = omega (arith, classesOf-snoc xs x)
 
 -- The loop over n sorts from at: those of xs are read up to p and stand in the arrays.
 pub record Sorts-read (s : List ℕ) (at n : ℕ) (kinds classes : List ℕ) (p total i : ℕ) : Type 0 where
@@ -108,8 +85,8 @@ module _ {s : List ℕ} {at n : ℕ} {kinds classes : List ℕ} where
           xs = l .xs ++ (x ∷ []);
           loop = loop-more (l .loop) h (rw (l .sum) e);
           sum = rw (classesOf-snoc, l .sum);
-          few = k .0;
-          near = omega (arith, k .1, l .near);
+          few = k .few;
+          near = omega (arith, k .near, l .near);
           held =
               record {
                 kinds-are = rw (l .held .kinds-are) (pad-set-map 32 (λ (x : Sort). x .kind) (l .xs) i x o i-small refl);

@@ -7,7 +7,7 @@ use lib.Seq.{length-take-le}
 use borrow.Author.Needs.{needs}
 use Rattle.fields.specs.Got.{pick}
 use Rattle.format.proofs.ReadingLaws.{reads-got, reads-refused}
-use Rattle.name_field.proofs.EntriesLaws.{name-got, name-refused, name-length, free-when-new, new-refused, new-name, new-taken}
+use Rattle.name_field.proofs.EntriesLaws.{name-got, name-refused, name-length, free-refused, free-name, free-taken}
 use Rattle.name_field.proofs.read_name.Statement.{statement}
 use Rattle.name_field.proofs.read_name.Tie as tie
 
@@ -49,29 +49,25 @@ same-length c = search needs
 
 returns : tie.Need-returns
 unfolding pick
-returns c = λ fs n.
+returns c =
     let x = c .before .before .before .before .before .before .before in
     let t = name-got (x .before .before .before .read-text .ensures) (x .x2 .given .1) in
     let p = c .before .before .before .put-new .ensures in
-    let b = sym (free-when-new n _) ∙ sym (p .0) ∙ c .if1 .taken in
-    reads-got (new-name _ fs _ t b) (record { put = rw (c .if1 .taken) at (p .1) })
+    reads-got (free-name _ _ _ _ t (sym (p .0) ∙ c .if1 .taken)) (record { put = rw (c .if1 .taken) at (p .1) })
 
 returns-2 : tie.Need-returns-2
-returns-2 c = λ fs n.
+returns-2 c =
     let x = c .before in
-    let t = name-refused (x .before .before .before .read-text .ensures) (x .x .given .1) in
-    reads-refused (new-refused _ fs _ t)
+    reads-refused (free-refused _ _ _ _ (name-refused (x .before .before .before .read-text .ensures) (x .x .given .1)))
 
 same-length-2 : tie.Need-same-length-2
 same-length-2 c = search needs
 
 returns-3 : tie.Need-returns-3
-returns-3 c = λ fs n.
+returns-3 c =
     let x = c .before .before .before .before .before .before .before in
     let t = name-got (x .before .before .before .read-text .ensures) (x .x2 .given .1) in
-    let p = c .before .before .before .put-new .ensures in
-    let b = sym (free-when-new n _) ∙ sym (p .0) ∙ c .if1 .left in
-    reads-refused (new-taken _ fs _ t b)
+    reads-refused (free-taken _ _ _ _ t (sym (c .before .before .before .put-new .ensures .0) ∙ c .if1 .left))
 
 pub read-name-spec : {M : Type 1} → statement M
 read-name-spec =

@@ -3,7 +3,8 @@ use Prim.Native.Nat.{_-_}
 use mathlib.Core.Path.{sym, ap, _∙_}
 use native.Mathlib.Omega.{arith}
 use borrow.Author.Needs.{needs}
-use Rattle.sorts.proofs.SortLaws.{sort-few, Sorts-read, sorts-start, sorts-more, sorts-refuse, sorts-end}
+use Rattle.format.proofs.SortLaws.{sort-few}
+use Rattle.sorts.proofs.SortLaws.{Sorts-read, sorts-start, sorts-more, sorts-refuse, sorts-end}
 use Rattle.format.proofs.ReadingLaws.{reads-got, reads-refused}
 use Rattle.sorts.specs.Answers.{gotSort}
 use Rattle.sorts.proofs.read_sorts.Statement.{statement}

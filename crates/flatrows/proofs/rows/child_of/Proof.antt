@@ -1,7 +1,6 @@
 -- `flatrows::rows::child_of` meets its contract. Assumes nothing.
 use borrow.Author.Tests.{ne-eqb, eq-eqb}
 use Rattle.flatrows.specs.Rows.{childNumber}
-use native.Mathlib.Omega.{arith}
 use borrow.Author.Needs.{needs}
 use Rattle.flatrows.proofs.rows.child_of.Statement.{statement}
 use Rattle.flatrows.proofs.rows.child_of.Tie as tie

@@ -1,7 +1,6 @@
 -- `flatrows::rows::head_of` meets its contract. Assumes nothing.
 use borrow.Author.Tests.{ne-eqb, eq-eqb}
 use Rattle.flatrows.specs.Rows.{headCost, headIn}
-use native.Mathlib.Omega.{arith}
 use borrow.Author.Needs.{needs}
 use Rattle.flatrows.proofs.rows.head_of.Statement.{statement}
 use Rattle.flatrows.proofs.rows.head_of.Tie as tie

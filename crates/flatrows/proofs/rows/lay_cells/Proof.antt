@@ -21,7 +21,8 @@ abbrev μ-loop : tie.MeasureT-loop
 loop-holds : tie.Need-loop-holds Inv-loop μ-loop
 loop-holds c =
     let g = c .before .before .before .before .before in let a = g .args in (
-      laying-start (a .kinds .now) (a .bases .now) (a .sorts .now) (a .cells .now) (g .pre .0) (a .list .now) (a .at)
+      laying-start (a .kinds .now) (a .bases .now) (a .sorts .now) (a .cells .now) (g .pre .0) (a .list .now)
+          (a .at)
           (g .pre .1 .0),
       refl,
     )
@@ -40,15 +41,24 @@ shared-slice-read-child-of c = search needs
 
 child-of-requires : tie.Need-child-of-requires Inv-loop μ-loop
 child-of-requires c κs =
-    let p = c .before .before .before .before .before .before .before .before .before .pre .1 .1 in let j = c .before .before .before .loop .j in
-    ((p .kind j (omega arith), p .base j (omega arith)), (p .base-small j (omega arith), p .cell-small j (omega arith)))
+    let p = c .before .before .before .before .before .before .before .before .before .pre .1 .1 in
+    let j = c .before .before .before .loop .j in (
+      (p .kind j (omega arith), p .base j (omega arith)),
+      (
+        p .base-small j (omega arith),
+        p .cell-small j
+            (omega arith),
+      ),
+    )
 
 mul-list : tie.Need-mul-list Inv-loop μ-loop
 mul-list c = search needs
 
 slice-write-list : tie.Need-slice-write-list Inv-loop μ-loop
 slice-write-list c =
-    let g = c .before .before .before .before .before .before .before .before .before .before in let a = g .args in let l = c .before .before .before .before .loop in
+    let g = c .before .before .before .before .before .before .before .before .before .before in
+    let a = g .args in
+    let l = c .before .before .before .before .loop in
     let w = laying-fits (a .kinds .now) (a .bases .now) (a .sorts .now) (a .cells .now) (g .pre .0) (a .list .now)
     (a .at) (g .pre .1 .0) in
     laying-room (a .kinds .now) (a .bases .now) (a .sorts .now) (a .cells .now) (g .pre .0)
@@ -66,7 +76,9 @@ loop-less c = search needs
 
 loop-again : tie.Need-loop-again Inv-loop μ-loop
 loop-again c =
-    let g = c .before .before .before .before .before .before .before .before .before .before in let a = g .args in let l = c .before .before .before .before .loop in
+    let g = c .before .before .before .before .before .before .before .before .before .before in
+    let a = g .args in
+    let l = c .before .before .before .before .loop in
     let w = laying-fits (a .kinds .now) (a .bases .now) (a .sorts .now) (a .cells .now) (g .pre .0) (a .list .now)
     (a .at) (g .pre .1 .0) in
     let want = take (a .at) (a .list .now)
@@ -83,11 +95,14 @@ same-length c = search needs
 
 returns : tie.Need-returns Inv-loop μ-loop
 returns c =
-    let g = c .before .before .before .before .before .before .before in let a = g .args in let l = c .before .loop in
+    let g = c .before .before .before .before .before .before .before in
+    let a = g .args in
+    let l = c .before .loop in
     record {
       room = l .inv .0 .room;
       held = laying-end (a .kinds .now) (a .bases .now) (a .sorts .now) (a .cells .now) (g .pre .0)
-          (take (a .at) (a .list .now) ++ childNumbers (a .kinds .now) (a .bases .now) (a .sorts .now) (a .cells .now))
+          (take (a .at) (a .list .now) ++ childNumbers (a .kinds .now) (a .bases .now) (a .sorts .now)
+          (a .cells .now))
           (l .list) (l .m) (l .j) (l .inv .0) (omega arith);
     }
 

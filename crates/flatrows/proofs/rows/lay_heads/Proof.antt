@@ -19,7 +19,8 @@ abbrev μ-loop : tie.MeasureT-loop
 loop-holds : tie.Need-loop-holds Inv-loop μ-loop
 loop-holds c =
     let g = c .before .before .before .before .before in let a = g .args in (
-      mapping-start (headIn (a .declared .now) (a .costs .now) (a .rowfunctions .now)) (a .order .now) (a .list .now)
+      mapping-start (headIn (a .declared .now) (a .costs .now) (a .rowfunctions .now)) (a .order .now)
+          (a .list .now)
           (g .pre .0),
       refl,
     )
@@ -31,7 +32,8 @@ shared-slice-read-r : tie.Need-shared-slice-read-r Inv-loop μ-loop
 shared-slice-read-r c = search needs
 
 head-of-requires : tie.Need-head-of-requires Inv-loop μ-loop
-head-of-requires c κs = c .before .before .before .before .before .before .before .before .pre .1 (c .before .before .loop .k) (omega arith)
+head-of-requires c κs = c .before .before .before .before .before .before .before .before .pre .1 (c .before
+    .before .loop .k) (omega arith)
 
 mul-list : tie.Need-mul-list Inv-loop μ-loop
 mul-list c = search needs
@@ -47,7 +49,8 @@ loop-less c = search needs
 
 loop-again : tie.Need-loop-again Inv-loop μ-loop
 loop-again c =
-    let a = c .before .before .before .before .before .before .before .before .before .args in let l = c .before .before .before .loop in (
+    let a = c .before .before .before .before .before .before .before .before .before .args in
+    let l = c .before .before .before .loop in (
       mapping-step (headIn (a .declared .now) (a .costs .now) (a .rowfunctions .now)) (a .order .now)
           (l .list) (l .k) (l .inv .0) (omega arith) (c .head-of .result) (c .head-of .ensures),
       length-set (l .list) (l .k) (c .head-of .result) ∙ l .inv .1,

@@ -19,7 +19,8 @@ abbrev μ-loop : tie.MeasureT-loop
 loop-holds : tie.Need-loop-holds Inv-loop μ-loop
 loop-holds c =
     let g = c .before .before .before .before .before .before .before in let a = g .args in (
-      mapping-start (outputIn (a .bases .now) (a .arities .now) (a .outputs .now) (a .rowfunctions .now) (a .cells .now))
+      mapping-start (outputIn (a .bases .now) (a .arities .now) (a .outputs .now) (a .rowfunctions .now)
+          (a .cells .now))
           (a .order .now) (a .list .now) (g .pre .0),
       refl,
     )
@@ -31,7 +32,8 @@ shared-slice-read-r : tie.Need-shared-slice-read-r Inv-loop μ-loop
 shared-slice-read-r c = search needs
 
 output-of-requires : tie.Need-output-of-requires Inv-loop μ-loop
-output-of-requires c κs = c .before .before .before .before .before .before .before .before .before .before .pre .1 (c .before .before .loop .k) (omega arith)
+output-of-requires c κs = c .before .before .before .before .before .before .before .before .before
+    .before .pre .1 (c .before .before .loop .k) (omega arith)
 
 mul-list : tie.Need-mul-list Inv-loop μ-loop
 mul-list c = search needs
@@ -47,8 +49,10 @@ loop-less c = search needs
 
 loop-again : tie.Need-loop-again Inv-loop μ-loop
 loop-again c =
-    let a = c .before .before .before .before .before .before .before .before .before .before .before .args in let l = c .before .before .before .loop in (
-      mapping-step (outputIn (a .bases .now) (a .arities .now) (a .outputs .now) (a .rowfunctions .now) (a .cells .now))
+    let a = c .before .before .before .before .before .before .before .before .before .before .before .args in
+    let l = c .before .before .before .loop in (
+      mapping-step (outputIn (a .bases .now) (a .arities .now) (a .outputs .now) (a .rowfunctions .now)
+          (a .cells .now))
           (a .order .now) (l .list) (l .k) (l .inv .0) (omega arith) (c .output-of .result) (c .output-of .ensures),
       length-set (l .list) (l .k) (c .output-of .result) ∙ l .inv .1,
     )
@@ -58,8 +62,10 @@ same-length c = search needs
 
 returns : tie.Need-returns Inv-loop μ-loop
 returns c =
-    let a = c .before .before .before .before .before .before .before .before .before .args in let l = c .before .loop in
-    mapping-end (outputIn (a .bases .now) (a .arities .now) (a .outputs .now) (a .rowfunctions .now) (a .cells .now))
+    let a = c .before .before .before .before .before .before .before .before .before .args in
+    let l = c .before .loop in
+    mapping-end (outputIn (a .bases .now) (a .arities .now) (a .outputs .now) (a .rowfunctions .now)
+    (a .cells .now))
     (a .order .now) (l .list) (l .k) (l .inv .0) (omega arith)
 
 pub lay-outputs-spec : {M : Type 1} → statement M

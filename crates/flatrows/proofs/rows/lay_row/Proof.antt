@@ -1,10 +1,8 @@
 -- `flatrows::rows::lay_row` meets its contract. Assumes nothing.
-use mathlib.Core.Path.{_≡_, ap, _∙_}
+use mathlib.Core.Path.{ap, _∙_}
 use mathlib.Core.List.{_++_}
 use lib.ListN.{length, take}
-use Rattle.flatrows.specs.Rows.{childrenIn}
 use Rattle.flatrows.proofs.ChildLaws.{row-ready, row-children}
-use native.Mathlib.Omega.{arith}
 use borrow.Author.Needs.{needs}
 use Rattle.flatrows.proofs.rows.lay_row.Statement.{statement}
 use Rattle.flatrows.proofs.rows.lay_row.Tie as tie
@@ -59,8 +57,10 @@ part-lay-cells-end-2 c = search needs
 
 lay-cells-requires : tie.Need-lay-cells-requires
 lay-cells-requires c κs =
-    let g = c .before .before .before .before .before .before .before .before .before .before .before .before in let a = g .args in
-    row-ready (a .kinds .now) (a .bases .now) (a .arities .now) (a .arguments .now) (a .rowfunctions .now) (a .cells .now)
+    let g = c .before .before .before .before .before .before .before .before .before .before .before .before in
+    let a = g .args in
+    row-ready (a .kinds .now) (a .bases .now) (a .arities .now) (a .arguments .now) (a .rowfunctions .now)
+    (a .cells .now)
     (a .r) (g .pre .0) (a .at) (length (a .list .now)) (g .pre .1)
 
 same-length : tie.Need-same-length
@@ -68,7 +68,10 @@ same-length c = search needs
 
 returns : tie.Need-returns
 returns c =
-    let g = c .before .before .before .before .before .before .before .before .before .before .before .before .before .before .before in let a = g .args in let w = c .before .before .lay-cells in
+    let g = c .before .before .before .before .before .before .before .before .before .before .before
+    .before .before .before .before in
+    let a = g .args in
+    let w = c .before .before .lay-cells in
     record {
       room = w .ensures .room;
       held = w .ensures .held ∙ ap (λ x. take (a .at) (a .list .now) ++ x)

@@ -37,17 +37,28 @@ mul-f : tie.Need-mul-f Inv-loop μ-loop
 mul-f c = omega (arith, c .before .before .before .pre .1 (c .before .before .loop .k) (omega arith) .row)
 
 shared-slice-read-f : tie.Need-shared-slice-read-f Inv-loop μ-loop
-shared-slice-read-f c = c .before .before .before .before .pre .1 (c .before .before .before .loop .k) (omega arith) .row
+shared-slice-read-f c = c .before .before .before .before .pre .1 (c .before .before
+    .before .loop .k) (omega arith) .row
 
 mul-at : tie.Need-mul-at Inv-loop μ-loop
-mul-at c = omega (arith, c .before .before .before .before .pre .1 (c .before .before .before .loop .k) (omega arith) .arity)
+mul-at c = omega (
+  arith,
+  c .before .before .before .before .pre .1 (c .before .before
+      .before .loop .k) (omega arith) .arity,
+)
 
 shared-slice-read-at : tie.Need-shared-slice-read-at Inv-loop μ-loop
-shared-slice-read-at c = c .before .before .before .before .before .pre .1 (c .before .before .before .before .loop .k) (omega arith) .arity
+shared-slice-read-at c = c .before .before .before .before .before .pre .1 (c .before .before .before
+    .before .loop .k) (omega arith) .arity
 
 add-at : tie.Need-add-at Inv-loop μ-loop
 add-at c =
-    omega (arith, c .before .before .before .before .before .pre .1 (c .before .before .before .before .loop .k) (omega arith) .most, c .before .before .before .before .loop .inv .0 .small)
+    omega (
+      arith,
+      c .before .before .before .before .before .pre .1 (c .before .before .before
+          .before .loop .k) (omega arith) .most,
+      c .before .before .before .before .loop .inv .0 .small,
+    )
 
 add-k : tie.Need-add-k Inv-loop μ-loop
 add-k c = search needs
@@ -63,7 +74,9 @@ loop-less c = search needs
 
 loop-again : tie.Need-loop-again Inv-loop μ-loop
 loop-again c =
-    let g = c .before .before .before .before .before in let a = g .args in let l = c .before .before .before .before .loop in
+    let g = c .before .before .before .before .before in
+    let a = g .args in
+    let l = c .before .before .before .before .loop in
     let r = getD (a .order .now) (l .k) 0 in (
       summing-step (arityIn (a .arities .now) (a .rowfunctions .now)) (a .order .now) (l .starts) (l .at) (l .k)
           (l .inv .0) (omega arith) (arityIn (a .arities .now) (a .rowfunctions .now) r) refl

@@ -1,0 +1,7 @@
+-- The laws of the crate `build`.
+pub mod StandingLaws
+pub mod BuildingLaws
+pub mod PlanLaws
+pub mod TurnLaws
+pub mod AgreeLaws
+pub mod OwnLaws

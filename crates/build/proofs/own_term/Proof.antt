@@ -1,0 +1,154 @@
+-- `build::own_term` meets its contract: the application is added, and the memo names its term. Assumes nothing.
+use native.Mathlib.Omega.{arith}
+use borrow.Author.Needs.{needs}
+use mathlib.Core.Path.{refl}
+use Rattle.names.specs.Entries.{nameAt}
+use Rattle.store.specs.Lent.{Store, store}
+use Rattle.store.specs.Nodes.{application}
+use Rattle.build.specs.Plan.{functionOf}
+use Rattle.build.proofs.OwnLaws.{own-of-term, own-of-noRoom, number-limit}
+use Rattle.build.proofs.own_term.Statement.{statement}
+use Rattle.build.proofs.own_term.Tie as tie
+
+mul-f : tie.Need-mul-f
+mul-f c = search needs
+
+mul-f-2 : tie.Need-mul-f-2
+mul-f-2 c = search needs
+
+shared-slice-read-f : tie.Need-shared-slice-read-f
+shared-slice-read-f c = search needs
+
+mul-f-3 : tie.Need-mul-f-3
+mul-f-3 c = search needs
+
+add-a : tie.Need-add-a
+add-a c = search needs
+
+shared-slice-read-e : tie.Need-shared-slice-read-e
+shared-slice-read-e c = search needs
+
+cast-e : tie.Need-cast-e
+cast-e c = search needs
+
+add-e : tie.Need-add-e
+add-e c = search needs
+
+sub-intern-application : tie.Need-sub-intern-application
+sub-intern-application c = search needs
+
+part-intern-application-start : tie.Need-part-intern-application-start
+part-intern-application-start c = search needs
+
+part-intern-application-end : tie.Need-part-intern-application-end
+part-intern-application-end c = search needs
+
+intern-application-requires : tie.Need-intern-application-requires
+unfolding nameAt
+intern-application-requires c κs =
+    let q = c .before .before .before .before .before .before .before .before .before .before .before .before .pre in
+    (q .formed, (q .named, q .few))
+
+enum-known-t : tie.Need-enum-known-t
+enum-known-t c = search needs
+
+enum-told : tie.Need-enum-told
+enum-told c = search needs
+
+same-length : tie.Need-same-length
+same-length c = search needs
+
+same-length-2 : tie.Need-same-length-2
+same-length-2 c = search needs
+
+same-length-3 : tie.Need-same-length-3
+same-length-3 c = search needs
+
+returns : tie.Need-returns
+unfolding nameAt
+returns c =
+    let a = c .before .before .before .before .before .before .before .before .before .before .before .before .before
+    .before .before .before .before .before .before .before .args in
+    let s : Store = store (a .records .now) (a .literals .now) (a .names .now) (a .terms) (a .symbols) in
+    let w = rw (c .enum-told .given .1) at (c .before .before .before .before .before .before .before
+    .intern-application .ensures) in
+    own-of-noRoom (a .memo .now) s (nameAt (a .functions .now) (functionOf (a .plan .now) (a .c))) (a .c) (a .children
+    .now)
+    _ _ _ (w .answer) (w .kept refl)
+
+add-memo : tie.Need-add-memo
+unfolding nameAt
+add-memo c =
+    let s = c .before .before .before .before .before .before .before .before .before .before .before .before .before
+    .before .before .before .before .before .before .before .before in
+    let a = s .args in
+    let q = s .pre in
+    let w = rw (c .before .t .given .1) at (c .before .before .before .before .before .before .before .before
+    .intern-application .ensures) in
+    let lent : Store = store (a .records .now) (a .literals .now) (a .names .now) (a .terms) (a .symbols) in
+    let name = nameAt (a .functions .now) (functionOf (a .plan .now) (a .c)) in
+    omega (
+      arith,
+      number-limit lent (application name (a .children .now)) _ _ (q .formed) (q .named, q .few, q .below) (w .answer),
+    )
+
+mul-memo : tie.Need-mul-memo
+mul-memo c = search needs
+
+slice-write-memo : tie.Need-slice-write-memo
+slice-write-memo c = search needs
+
+same-length-4 : tie.Need-same-length-4
+same-length-4 c = search needs
+
+same-length-5 : tie.Need-same-length-5
+same-length-5 c = search needs
+
+same-length-6 : tie.Need-same-length-6
+same-length-6 c = search needs
+
+same-length-7 : tie.Need-same-length-7
+same-length-7 c = search needs
+
+returns-2 : tie.Need-returns-2
+unfolding nameAt
+returns-2 c =
+    let a = c .before .before .before .before .before .before .before .before .before .before .before .before .before
+    .before .before .before .before .before .before .before .before .args in
+    let s : Store = store (a .records .now) (a .literals .now) (a .names .now) (a .terms) (a .symbols) in
+    let w = rw (c .before .t .given .1) at (c .before .before .before .before .before .before .before .before
+    .intern-application .ensures) in
+    own-of-term (a .memo .now) s (nameAt (a .functions .now) (functionOf (a .plan .now) (a .c))) (a .c) (a .children
+    .now)
+    _ _ (w .answer)
+
+pub own-term-spec : {M : Type 1} → statement M
+own-term-spec =
+    tie.close
+    (tie.spec
+    mul-f
+    mul-f-2
+    shared-slice-read-f
+    mul-f-3
+    add-a
+    shared-slice-read-e
+    cast-e
+    add-e
+    sub-intern-application
+    part-intern-application-start
+    part-intern-application-end
+    intern-application-requires
+    enum-known-t
+    enum-told
+    same-length
+    same-length-2
+    same-length-3
+    returns
+    add-memo
+    mul-memo
+    slice-write-memo
+    same-length-4
+    same-length-5
+    same-length-6
+    same-length-7
+    returns-2)

@@ -1,0 +1,1 @@
+// Best terms and variants of a table file, as public calls.

@@ -1,0 +1,3 @@
+-- The laws of the crate `functions`.
+pub mod FunctionSteps
+pub mod FunctionLoop

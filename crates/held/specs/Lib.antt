@@ -1,0 +1,2 @@
+-- The definitions of the crate `held`: a table in its arrays.
+pub mod Held

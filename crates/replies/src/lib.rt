@@ -1,0 +1,1 @@
+// What the program answers: definitions in specs/, worked cases in proofs/. No code.

@@ -1,0 +1,3 @@
+-- The laws of the crate `whole`.
+pub mod WholeLaws
+mod WholeCases
