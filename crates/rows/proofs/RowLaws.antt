@@ -176,3 +176,9 @@ module _ {s kinds classes : List ℕ} {l count : ℕ} {outputs arities arguments
     pub rows-end : n ≤ i → rowsIn s kinds classes l count outputs arities arguments n at ≡ got (o .rows) p
     unfolding rowsIn
     rows-end h = loop-ends (o .loop) h
+
+-- As many rows as were asked for.
+pub rowsIn-length : (s kinds classes : List ℕ) (l count : ℕ) (outputs arities arguments : List ℕ) (n at : ℕ) {rows : List Row} {q : ℕ}
+    → rowsIn s kinds classes l count outputs arities arguments n at ≡ got rows q → length rows ≡ n
+unfolding rowsIn
+rowsIn-length s kinds classes l count outputs arities arguments n at e = many-length _ n at e
