@@ -1,0 +1,7 @@
+-- What the proofs of the crate `lent` share.
+pub mod RecordLaws
+pub mod CopyLaws
+pub mod Values
+pub mod Lending
+pub mod Calling
+pub mod StoreLaws

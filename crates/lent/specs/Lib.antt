@@ -1,0 +1,3 @@
+-- The definitions of the crate `lent`.
+pub mod Records
+pub mod Copies
