@@ -1,13 +1,13 @@
 -- The terms of a well-formed store can be read. Assumes nothing.
-use mathlib.Core.Path.{_≡_, sym, ap, _∙_}
+use mathlib.Core.Path.{_≡_, sym, _∙_}
 use mathlib.Core.List.{List}
 use Prim.Native.Nat.{ℕ, _+_, _*_, _-_, _≤_, _<_}
 use native.Mathlib.Omega.{arith}
-use lib.ListN.{length, getD, take, drop, length-take, length-drop}
+use lib.ListN.{length, getD, take, drop, length-take}
 use lib.Seq.{getD-take}
 use lib.IntN.{ℤ}
-use Rattle.names.specs.Entries.{lengthAt}
 use Rattle.store.specs.Lent.{store, recordIn}
+<<<<<<< HEAD
 use Rattle.store.specs.Facts.{
   Sound,
   SoundName,
@@ -19,6 +19,9 @@ use Rattle.store.specs.Facts.{
   aVariable,
   anApplication,
 }
+=======
+use Rattle.store.specs.Facts.{Sound, SoundRecord, aLiteral, aVariable, anApplication}
+>>>>>>> f0cf9aee6a286da0d721c3db2fe6f5e458d139aa
 use Rattle.heads.specs.Readable.{kindAt, symbolNo, arityAt, kidsAt, Inside, Readable}
 
 -- what one record tells

@@ -1,0 +1,4 @@
+-- The laws of the crate `bindings`.
+pub mod FindLaws
+pub mod MeetLaws
+pub mod TableLaws
