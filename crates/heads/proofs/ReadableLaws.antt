@@ -7,21 +7,7 @@ use lib.ListN.{length, getD, take, drop, length-take}
 use lib.Seq.{getD-take}
 use lib.IntN.{ℤ}
 use Rattle.store.specs.Lent.{store, recordIn}
-<<<<<<< HEAD
-use Rattle.store.specs.Facts.{
-  Sound,
-  SoundName,
-  SoundRecord,
-  IsLiteral,
-  IsVariable,
-  IsApplication,
-  aLiteral,
-  aVariable,
-  anApplication,
-}
-=======
 use Rattle.store.specs.Facts.{Sound, SoundRecord, aLiteral, aVariable, anApplication}
->>>>>>> f0cf9aee6a286da0d721c3db2fe6f5e458d139aa
 use Rattle.heads.specs.Readable.{kindAt, symbolNo, arityAt, kidsAt, Inside, Readable}
 
 -- what one record tells
