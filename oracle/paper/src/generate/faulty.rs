@@ -18,7 +18,7 @@ fn sound(rng: &mut Rng) -> Table {
 
 const BAD_BYTES: [u8; 10] = [0, 0x20, b'(', b')', b'"', b';', 0x7f, 0x80, 0xff, 0x0a];
 
-const FAULTS: usize = 20;
+const FAULTS: usize = 24;
 
 /// What an input is written from, wrong fields included.
 struct Draft {
@@ -27,12 +27,14 @@ struct Draft {
     table: Table,
     /// Bytes behind the file.
     more: Vec<u8>,
+    /// How many bits of the file are kept, to the end of their byte; all of them if nothing.
+    keep: Option<usize>,
 }
 
 /// One field wrong, now and then a second one: the first fault decides. The kinds come round in turn.
 pub fn faults(rng: &mut Rng, nth: usize) -> Vec<u8> {
     let table = sound(rng);
-    let mut draft = Draft { version: 1, query: query(rng, &table), table, more: Vec::new() };
+    let mut draft = Draft { version: 1, query: query(rng, &table), table, more: Vec::new(), keep: None };
     let kind = nth % FAULTS;
     spoil(rng, kind, nth / FAULTS, &mut draft);
     if rng.often(20) {
@@ -46,11 +48,15 @@ pub fn faults(rng: &mut Rng, nth: usize) -> Vec<u8> {
     if kind == 16 && pad > 0 {
         out.put(1 << rng.below(pad), pad);
     }
-    [out.bytes(), draft.more].concat()
+    let mut case = [out.bytes(), draft.more].concat();
+    if let Some(bits) = draft.keep {
+        case.truncate(3 + bits.div_ceil(8));
+    }
+    case
 }
 
 fn spoil(rng: &mut Rng, kind: usize, round: usize, draft: &mut Draft) {
-    let Draft { version, query, table, more } = draft;
+    let Draft { version, query, table, more, keep } = draft;
     let last = table.sorts.len();
     let f = rng.below(table.functions.len());
     let r = rng.below(table.rows.len());
@@ -88,8 +94,33 @@ fn spoil(rng: &mut Rng, kind: usize, round: usize, draft: &mut Draft) {
         17 => query.mode = 3,
         18 => query.sort = rng.within(last, 31),
         19 => query.value = range(table, query.sort.min(last - 1)).min(511),
+        20 => {
+            let first = rng.below(17);
+            spoil(rng, first, round, draft);
+            draft.query.sort = 31;
+        }
+        21 => {
+            table.functions[f].name = [vec![BAD_BYTES[round % BAD_BYTES.len()]], make::name(rng, 30)].concat();
+            *keep = Some(name_start(table, f) + 8 * rng.within(1, 30));
+        }
+        22 => {
+            table.sorts.push(Sort::Base);
+            (table.functions[f].output, table.functions[f].inputs) = (last, vec![0; 9]);
+        }
+        23 => {
+            table.rows[r].function = 127;
+            let before = Table { rows: table.rows[..r].to_vec(), ..table.clone() };
+            *keep = Some(before.bits() + 7);
+        }
         _ => {}
     }
+}
+
+/// Where the bytes of a function's name start in the file.
+fn name_start(table: &Table, f: usize) -> usize {
+    let before = Table { functions: table.functions[..f].to_vec(), rows: vec![], ..table.clone() };
+    let row_count = 11;
+    before.bits() - row_count + 5
 }
 
 /// A cell just past its range, or far past it.
