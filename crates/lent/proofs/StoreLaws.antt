@@ -37,6 +37,13 @@ pub loaded-store :
 unfolding storeIn lentStore
 loaded-store ts ns f n m l = rw (l .numbers, l .literals)
 
+-- the same with the names copied too
+pub storeIn-is :
+    (f : Flat) (ns : List (List ℕ)) (n m : ℕ) (bs : List ℕ) → bs ≡ entriesOf (take 128 ns) →
+    store (take (f .room * 11) (f .records)) (take (f .room) (f .literals)) bs n m ≡ storeIn f ns n m
+unfolding storeIn
+storeIn-is f ns n m bs e = rw e
+
 -- the records of the store are the lent records
 pub lentStore-record :
     (ts : List Term) (ns : List (List ℕ)) (n m i : ℕ) → AllEight (take 1024 ts) → i < length (take 1024 ts) →
