@@ -30,14 +30,16 @@ array-share-prefix-records c = search needs
 
 slice-aggregate-check : tie.Need-slice-aggregate-check
 slice-aggregate-check c =
-    sym (length-take-le (c .before .before .before .before .before .before .args .f .room * 11) (c .before .before .before .before .before .before .args .f .records) (omega arith))
+    sym (length-take-le (c .before .before .before .before .before .before .args .f .room * 11) (c .before .before
+    .before .before .before .before .args .f .records) (omega arith))
 
 array-share-prefix-literals : tie.Need-array-share-prefix-literals
 array-share-prefix-literals c = search needs
 
 slice-aggregate-check-2 : tie.Need-slice-aggregate-check-2
 slice-aggregate-check-2 c =
-    sym (length-take-le (c .before .before .before .before .before .before .before .args .f .room) (c .before .before .before .before .before .before .before .args .f .literals) (omega arith))
+    sym (length-take-le (c .before .before .before .before .before .before .before .args .f .room) (c .before .before
+    .before .before .before .before .before .args .f .literals) (omega arith))
 
 array-share-prefix-names : tie.Need-array-share-prefix-names
 array-share-prefix-names c = search needs
@@ -45,7 +47,12 @@ array-share-prefix-names c = search needs
 slice-aggregate-check-3 : tie.Need-slice-aggregate-check-3
 slice-aggregate-check-3 c =
     let names = c .before .before .before .before .load-names in
-    sym (length-take-le (names .result * 32) (names .last .1 .0) (omega (arith, names .ensures .room, names .ensures .long)))
+    sym (length-take-le (names .result * 32) (names .last .1 .0) (omega (
+      arith,
+      names .ensures .room,
+      names .ensures
+          .long,
+    )))
 
 check-requires : tie.Need-check-requires
 check-requires c κs = search needs
@@ -53,7 +60,8 @@ check-requires c κs = search needs
 returns : tie.Need-returns
 returns c =
     let g = c .before .before .before .before .before .before .before .before .before .args in
-    c .check .ensures ∙ ap wellFormed (storeIn-is (g .f) (g .ns .now) (g .terms) (g .symbols) _ (c .before .before .before .before .before .load-names .ensures .bytes))
+    c .check .ensures ∙ ap wellFormed (storeIn-is (g .f) (g .ns .now) (g .terms) (g .symbols) _ (c .before .before
+    .before .before .before .load-names .ensures .bytes))
 
 pub check-in-spec : {M : Type 1} → statement M
 check-in-spec =
