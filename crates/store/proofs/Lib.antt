@@ -5,4 +5,5 @@ pub mod ListLaws
 pub mod SignLaws
 pub mod KindLaws
 pub mod SearchLaws
+pub mod StepLaws
 pub mod FactsLaws

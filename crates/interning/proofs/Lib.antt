@@ -1,0 +1,3 @@
+-- The laws of the crate `interning`.
+pub mod MatchLaws
+pub mod AppendLaws

@@ -1,0 +1,2 @@
+-- The definitions of the crate `interning`.
+pub mod Interning
