@@ -9,12 +9,14 @@ use lib.ListN.{getD, length-replicate}
 use Rattle.choice.specs.Rows.{Row, Within}
 use Rattle.choice.specs.Run.{State, pass, passes, blank, given, costed}
 use Rattle.choice.proofs.ListLaws.{in-range, replicate-get}
-use Rattle.choice.proofs.PassLaws.{Fixed, Keeps, pass-keeps, passes-keep, Sized, sized-keeps, pass-still, pass-of-fixed}
+use Rattle.choice.proofs.PassLaws.{Fixed, Keeps, pass-keeps, passes-keep, Sized, sized-keeps, pass-still}
+use Rattle.choice.proofs.PassLaws.{pass-of-fixed}
 use Rattle.choice.proofs.SoundLaws.{Grounded, grounded-keeps}
 use Rattle.choice.proofs.RankLaws.{Capped, capped-keeps, Sourced, sourced-keeps, exact}
 use Rattle.choice.proofs.MonoLaws.{pass-better}
 use Rattle.choice.proofs.TotalLaws.{total, total-le, total-tight, total-of-ones, total-of-list}
-use Rattle.choice.proofs.FinalLaws.{Final, mark, mark-le-one, mark-final, final-mark, mark-mono, mark-le-given, fixed-when-no-more}
+use Rattle.choice.proofs.FinalLaws.{Final, mark, mark-le-one, mark-final, final-mark, mark-mono, mark-le-given}
+use Rattle.choice.proofs.FinalLaws.{fixed-when-no-more}
 use Rattle.choice.proofs.FixpointLaws.{still-comes}
 
 -- what every state of a run over n classes has
@@ -56,18 +58,22 @@ module _ (M n : ℕ) (rows : List Row) (w : Within n rows) where
       → total (mark f s) n < total (mark f (pass M rows s)) n
   marks-grow f s gf fixed g d = go (decLt (total (mark f s) n) (total (mark f (pass M rows s)) n))
     where
-      no-more : total (mark f (pass M rows s)) n ≤ total (mark f s) n → (c : ℕ) → Final f (pass M rows s) c → Final f s c
+      no-more : total (mark f (pass M rows s)) n ≤ total (mark f s) n → (c : ℕ) → Final f (pass M rows s) c
+          → Final f s c
       no-more t c x =
           let l = in-range (pass M rows s .ranks) c (x .0) in
           let b = mark-mono f s (pass M rows s) (pass-better M rows n w s (g .sized)) in
-          let k = total-tight (mark f s) (mark f (pass M rows s)) n b t c (omega (arith, good-pass s g .sized .ranks)) in
+          let h : c < n = omega (arith, good-pass s g .sized .ranks) in
+          let k = total-tight (mark f s) (mark f (pass M rows s)) n b t c h in
           mark-final f s c (omega (arith, final-mark f (pass M rows s) c x))
 
-      go : Dec (total (mark f s) n < total (mark f (pass M rows s)) n) → total (mark f s) n < total (mark f (pass M rows s)) n
+      go : Dec (total (mark f s) n < total (mark f (pass M rows s)) n)
+          → total (mark f s) n < total (mark f (pass M rows s)) n
       go (yes k) = k
       go (no k) =
           absurd (d (pass-of-fixed M rows s
-          (fixed-when-no-more M rows n w f fixed (gf .grounded) (exact M rows f fixed (gf .sourced)) s (g .sized) (g .grounded)
+          (fixed-when-no-more M rows n w f fixed (gf .grounded) (exact M rows f fixed (gf .sourced)) s (g .sized)
+          (g .grounded)
           (no-more (omega arith)))))
 
   busy-marks : (f s : State) → Good M n rows f → Fixed M rows f → Good M n rows s → (p : ℕ) → Busy M rows s p

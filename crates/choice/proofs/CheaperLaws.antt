@@ -6,7 +6,8 @@ use Prim.Native.Nat.{ℕ, _≤_, _<_}
 use native.Mathlib.Omega.{arith}
 use lib.ListN.{length, length-append, List·getD-append}
 use Rattle.choice.specs.Rows.{Child, literal, class, Row, rowAt, noRow}
-use Rattle.choice.specs.Deriving.{Tree, leaf, node, Forest, none, more, Derives, DeriveAll, treeCost, forestCost, Least}
+use Rattle.choice.specs.Deriving.{Tree, leaf, node, Forest, none, more, Derives, DeriveAll, treeCost}
+use Rattle.choice.specs.Deriving.{forestCost, Least}
 use Rattle.choice.specs.Answer.{Best}
 
 -- a row of the list with r's output and children, and a head cost no higher
@@ -51,7 +52,11 @@ module _ (rows cheap : List Row) (match : (i : ℕ) → i < length rows → Matc
     moved-all (more t f) (k ∷ ks) d =
         let a = moved t k (d .0) in
         let b = moved-all f ks (d .1) in
-        record { forest = more (a .tree) (b .forest); derives = (a .derives, b .derives); cost = omega (arith, a .cost, b .cost) }
+        record {
+          forest = more (a .tree) (b .forest);
+          derives = (a .derives, b .derives);
+          cost = omega (arith, a .cost, b .cost);
+        }
 
   pub least-mono : (c v u : ℕ) → Least rows c v → Least cheap c u → u ≤ v
   least-mono c v u a b =
@@ -62,7 +67,8 @@ pub least-of-best : (rows : List Row) (c v : ℕ) (t : Tree) → Best rows c v t
 least-of-best rows c v t b = record { tree = t; derives = b .derives; exact = b .exact; least = b .least }
 
 pub least-unique : (rows : List Row) (c v u : ℕ) → Least rows c v → Least rows c u → v ≡ u
-least-unique rows c v u a b = omega (arith, a .least (b .tree) (b .derives), b .least (a .tree) (a .derives), a .exact, b .exact)
+least-unique rows c v u a b =
+    omega (arith, a .least (b .tree) (b .derives), b .least (a .tree) (a .derives), a .exact, b .exact)
 
 -- rows added at the end
 pub least-append : (rows added : List Row) (c v u : ℕ) → Least rows c v → Least (rows ++ added) c u → u ≤ v

@@ -1,12 +1,13 @@
--- The tree that the edges choose: at a fixpoint it is there for every class below saturation, costs what is stored, and meets no class
--- twice on a path; and edges choose no second one. Assumes nothing.
+-- The tree that the edges choose: at a fixpoint it is there for every class below saturation, costs what is stored
+-- and meets no class twice on a path; and edges choose no second one. Assumes nothing.
 use mathlib.Core.Path.{_≡_, refl, ap, ap₂, sym, _∙_, subst}
 use mathlib.Core.List.{List, [], _∷_}
 use Prim.Native.Nat.{ℕ, suc, zero, _≤_, _<_}
 use native.Mathlib.Omega.{arith}
 use lib.ListN.{getD}
 use Rattle.choice.specs.Rows.{Child, literal, class, Row, rowAt, sumOf}
-use Rattle.choice.specs.Deriving.{Tree, leaf, node, Forest, none, more, Derives, DeriveAll, treeCost, forestCost, NotIn, Once, OnceAll}
+use Rattle.choice.specs.Deriving.{Tree, leaf, node, Forest, none, more, Derives, DeriveAll, treeCost}
+use Rattle.choice.specs.Deriving.{forestCost, NotIn, Once, OnceAll}
 use Rattle.choice.specs.Run.{State, childCost, rowCost}
 use Rattle.choice.specs.Edges.{edgeOf, Under, Chosen, ChosenAll}
 use Rattle.choice.proofs.ListLaws.{Each}
@@ -20,7 +21,8 @@ High b ranks met = Each (λ x. b ≤ getD ranks x 0) met
 
 high-not-in : (ranks : List ℕ) (c : ℕ) (met : List ℕ) → High (suc (getD ranks c 0)) ranks met → NotIn c met
 high-not-in ranks c [] h = tt
-high-not-in ranks c (x ∷ met) h = (λ e. let q = ap (λ (y : ℕ). getD ranks y 0) e in omega arith, high-not-in ranks c met (h .1))
+high-not-in ranks c (x ∷ met) h =
+    (λ e. let q = ap (λ (y : ℕ). getD ranks y 0) e in omega arith, high-not-in ranks c met (h .1))
 
 high-less : (a b : ℕ) (ranks met : List ℕ) → a ≤ b → High b ranks met → High a ranks met
 high-less a b ranks [] l h = tt
@@ -42,7 +44,8 @@ module _ (M : ℕ) (rows : List Row) (s : State) (fixed : Fixed M rows s) (g : S
     once : (met : List ℕ) → High b (s .ranks) met → OnceAll rows met forest
 
   -- the children's trees, left to right, where each class under rank b has its own
-  choices : (b : ℕ) → ((c : ℕ) → Under M s b (class c) → Choice c) → (ks : List Child) → Each (Under M s b) ks → Choices b ks
+  choices : (b : ℕ) → ((c : ℕ) → Under M s b (class c) → Choice c) → (ks : List Child) → Each (Under M s b) ks
+      → Choices b ks
   unfolding Chosen Derives treeCost sumOf childCost Once
   choices b ih [] u = record { forest = none; chosen = tt; derives = tt; cost = refl; once = λ met x. tt }
   choices b ih (literal i ∷ ks) u =
@@ -62,7 +65,10 @@ module _ (M : ℕ) (rows : List Row) (s : State) (fixed : Fixed M rows s) (g : S
         chosen = (a .chosen, q .chosen);
         derives = (a .derives, q .derives);
         cost = omega (arith, a .cost, q .cost);
-        once = λ met x. (a .once met (high-less (suc (getD (s .ranks) c 0)) b (s .ranks) met (u .0 .1) x), q .once met x);
+        once = λ met x. (
+          a .once met (high-less (suc (getD (s .ranks) c 0)) b (s .ranks) met (u .0 .1) x),
+          q .once met x,
+        );
       }
 
   choice-from : (b c : ℕ) → getD (s .ranks) c 0 < b → 0 < getD (s .ranks) c 0 → getD (s .costs) c 0 < M → Choice c
@@ -72,7 +78,8 @@ module _ (M : ℕ) (rows : List Row) (s : State) (fixed : Fixed M rows s) (g : S
       let i = edgeOf M s rows c in
       let e = edge-row M rows s fixed g c k h in
       let o = e .output in
-      let q = choices (getD (s .ranks) c 0) (λ d u. choice-from b d (omega (arith, u .1)) (u .0) (u .2)) (rowAt rows i .children)
+      let q = choices (getD (s .ranks) c 0) (λ d u. choice-from b d (omega (arith, u .1)) (u .0) (u .2))
+      (rowAt rows i .children)
       (all-under M s c (rowAt rows i) h e) in
       record {
         tree = node i (q .forest);
@@ -81,7 +88,11 @@ module _ (M : ℕ) (rows : List Row) (s : State) (fixed : Fixed M rows s) (g : S
         cost = omega (arith, e .cost, q .cost);
         once = λ met x. (
           rw o (high-not-in (s .ranks) c met x),
-          rw o (q .once (c ∷ met) (omega arith, high-less (getD (s .ranks) c 0) (suc (getD (s .ranks) c 0)) (s .ranks) met (omega arith) x)),
+          rw o (q .once (c ∷ met) (
+            omega arith,
+            high-less (getD (s .ranks) c 0) (suc (getD (s .ranks) c 0)) (s .ranks)
+                met (omega arith) x,
+          )),
         );
       }
 
@@ -105,7 +116,8 @@ module _ (rows : List Row) (edge : ℕ → ℕ) where
         ap₂ node e (chosen-all-unique f g (rowAt rows i .children) (a .1)
         (subst (λ (x : ℕ). ChosenAll rows edge g (rowAt rows x .children)) (sym e) (b .1)))
 
-    pub chosen-all-unique : (f g : Forest) (ks : List Child) → ChosenAll rows edge f ks → ChosenAll rows edge g ks → f ≡ g
+    pub chosen-all-unique : (f g : Forest) (ks : List Child) → ChosenAll rows edge f ks → ChosenAll rows edge g ks
+        → f ≡ g
     chosen-all-unique none none [] a b = refl
     chosen-all-unique none none (k ∷ ks) a b = absurd a
     chosen-all-unique none (more u g) [] a b = absurd b

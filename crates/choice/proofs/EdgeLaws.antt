@@ -10,8 +10,9 @@ use lib.Dec.{eqb}
 use borrow.Author.Tests.{ltb-true, eqb-true, lt-ltb, eq-eqb}
 use Rattle.choice.specs.Rows.{Child, literal, class, Row, rowAt, allOf}
 use Rattle.choice.specs.Run.{State, rowPriced, childCost, rowCost}
-use Rattle.choice.specs.Edges.{childRank, below, isEdge, firstRow, edgeOf, Under, Edge}
-use Rattle.choice.proofs.ListLaws.{and-cases, Each, each-map, each-both, each-get, all-each, each-all, each-of-sum, Has, has-cases, has-none}
+use Rattle.choice.specs.Edges.{childRank, below, isEdge, firstRow, edgeOf, edgesOf, Under, Edge}
+use Rattle.choice.proofs.ListLaws.{and-cases, Each, each-map, each-both, each-get, all-each, each-all}
+use Rattle.choice.proofs.ListLaws.{tabulate-length, tabulate-get, each-of-sum, Has, has-cases, has-none}
 use Rattle.choice.proofs.RelaxLaws.{Priced, AllPriced, row-priced-true, true-row-priced}
 use Rattle.choice.proofs.PassLaws.{Fixed}
 use Rattle.choice.proofs.RankLaws.{AllLower, Sourced, exact}
@@ -46,7 +47,8 @@ module _ (p : Row → Bool) where
   first-row-before [] j l = absurd (omega arith)
   first-row-before (q ∷ rs) j l = go (p q) refl j l (first-row-before rs)
     where
-      go : (b : Bool) → p q ≡ b → (j : ℕ) → j < firstRow p (q ∷ rs) → ((i : ℕ) → i < firstRow p rs → p (rowAt rs i) ≡ false)
+      go : (b : Bool) → p q ≡ b → (j : ℕ) → j < firstRow p (q ∷ rs)
+          → ((i : ℕ) → i < firstRow p rs → p (rowAt rs i) ≡ false)
           → p (rowAt (q ∷ rs) j) ≡ false
       go true h j l later = absurd (omega (arith, first-row-head q rs h))
       go false h zero l later = h
@@ -65,7 +67,7 @@ module _ (M : ℕ) (s : State) (c : ℕ) (r : Row) where
   abbrev all-below : Bool
   all-below = allOf (below (getD (s .ranks) c 0) (s .ranks)) (r .children)
 
-  pub edge-true : isEdge M s c r ≡ true → EdgeRow
+  pub edge-true : isEdge M (s .costs) (s .ranks) c r ≡ true → EdgeRow
   unfolding isEdge
   edge-true e =
       let b = getD (s .ranks) c 0 in
@@ -77,10 +79,11 @@ module _ (M : ℕ) (s : State) (c : ℕ) (r : Row) where
         all-priced = row-priced-true (s .ranks) r (q .0);
         cost = eqb-true (rowCost M (s .costs) r) (getD (s .costs) c 0) (t .0);
         lower = each-map (λ k. below b (s .ranks) k ≡ true) (λ k. childRank (s .ranks) k < b)
-            (λ k h. ltb-true (childRank (s .ranks) k) b h) (r .children) (all-each (below b (s .ranks)) (r .children) (t .1));
+            (λ k h. ltb-true (childRank (s .ranks) k) b h) (r .children)
+            (all-each (below b (s .ranks)) (r .children) (t .1));
       }
 
-  pub true-edge : EdgeRow → isEdge M s c r ≡ true
+  pub true-edge : EdgeRow → isEdge M (s .costs) (s .ranks) c r ≡ true
   unfolding isEdge
   true-edge e =
       let b = getD (s .ranks) c 0 in
@@ -98,23 +101,27 @@ module _ (M : ℕ) (s : State) (c : ℕ) (r : Row) where
   unfolding rowCost childCost childRank
   all-under h e =
       let b = getD (s .ranks) c 0 in
-      each-both (λ k. childCost (s .costs) k < M) (λ k. Priced (s .ranks) k × (childRank (s .ranks) k < b)) (Under M s b) one (r .children)
+      each-both (λ k. childCost (s .costs) k < M) (λ k. Priced (s .ranks) k × (childRank (s .ranks) k < b))
+      (Under M s b) one (r .children)
       (each-of-sum (childCost (s .costs)) M (r .children) (omega (arith, e .cost)))
-      (each-both (Priced (s .ranks)) (λ k. childRank (s .ranks) k < b) (λ k. Priced (s .ranks) k × (childRank (s .ranks) k < b))
+      (each-both (Priced (s .ranks)) (λ k. childRank (s .ranks) k < b)
+      (λ k. Priced (s .ranks) k × (childRank (s .ranks) k < b))
       (λ k x y. (x, y)) (r .children) (e .all-priced) (e .lower))
     where
-      one : (k : Child) → childCost (s .costs) k < M → Priced (s .ranks) k × (childRank (s .ranks) k < getD (s .ranks) c 0)
+      one : (k : Child) → childCost (s .costs) k < M
+          → Priced (s .ranks) k × (childRank (s .ranks) k < getD (s .ranks) c 0)
           → Under M s (getD (s .ranks) c 0) k
       one (literal i) x y = tt
       one (class d) x y = (y .0, y .1, x)
 
 module _ (M : ℕ) (rows : List Row) (s : State) (fixed : Fixed M rows s) (g : Sourced M rows s) (c : ℕ)
     (k : 0 < getD (s .ranks) c 0) (h : getD (s .costs) c 0 < M) where
-  edge-found : Found (isEdge M s c) rows (edgeOf M s rows c)
+  edge-found : Found (isEdge M (s .costs) (s .ranks) c) rows (edgeOf M s rows c)
   edge-found =
       let e = exact M rows s fixed g c k h in
-      first-row-holds (isEdge M s c) rows (e .row) (e .has)
-      (true-edge M s c (e .row) (record { output = e .output; all-priced = e .all-priced; cost = e .cost; lower = e .lower }))
+      first-row-holds (isEdge M (s .costs) (s .ranks) c) rows (e .row) (e .has)
+      (true-edge M s c (e .row)
+      (record { output = e .output; all-priced = e .all-priced; cost = e .cost; lower = e .lower }))
 
   pub edge-row : EdgeRow M s c (rowAt rows (edgeOf M s rows c))
   edge-row = edge-true M s c (rowAt rows (edgeOf M s rows c)) (edge-found .holds)
@@ -127,3 +134,11 @@ module _ (M : ℕ) (rows : List Row) (s : State) (fixed : Fixed M rows s) (g : S
     under = λ j l. each-get (Under M s (getD (s .ranks) c 0)) (rowAt rows (edgeOf M s rows c) .children) (literal 0)
         (all-under M s c (rowAt rows (edgeOf M s rows c)) h edge-row) j l;
   }
+
+-- the list of all edges
+module _ (M : ℕ) (s : State) (rows : List Row) where
+  pub edges-length : length (edgesOf M s rows) ≡ length (s .ranks)
+  edges-length = tabulate-length (edgeOf M s rows) (length (s .ranks))
+
+  pub edges-get : (c : ℕ) → c < length (s .ranks) → getD (edgesOf M s rows) c 0 ≡ edgeOf M s rows c
+  edges-get c h = tabulate-get (edgeOf M s rows) (length (s .ranks)) c 0 h

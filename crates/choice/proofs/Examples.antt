@@ -45,9 +45,11 @@ pub record Cases : Type 0 where
   -- two cost-1 leaves: the first in scan order
   pub two-leaves : told (row 0 [] 1 ∷ row 0 [] 1 ∷ []) 1 0 ≡ record { answer = best 1; edge = 0; passes = 2 }
   -- one Num(literal) row, head cost 2^64-3: cost 2^64-2
-  pub num-below : told (row 0 (literal 0 ∷ []) (2 ^ 64 - 3) ∷ []) 1 0 ≡ record { answer = best (2 ^ 64 - 2); edge = 0; passes = 2 }
+  pub num-below : told (row 0 (literal 0 ∷ []) (2 ^ 64 - 3) ∷ []) 1 0
+      ≡ record { answer = best (2 ^ 64 - 2); edge = 0; passes = 2 }
   -- head cost 2^64-2: TooDear
-  pub num-too-dear : told (row 0 (literal 0 ∷ []) (2 ^ 64 - 2) ∷ []) 1 0 ≡ record { answer = tooDear; edge = 0; passes = 2 }
+  pub num-too-dear : told (row 0 (literal 0 ∷ []) (2 ^ 64 - 2) ∷ []) 1 0
+      ≡ record { answer = tooDear; edge = 0; passes = 2 }
   -- class 2 of the file given whole: 14, after 2 passes
   pub given-whole : told num-add 3 2 ≡ record { answer = best 14; edge = 2; passes = 2 }
 

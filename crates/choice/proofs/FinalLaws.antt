@@ -39,7 +39,8 @@ pub mark-final : (f s : State) (c : ℕ) → 0 < mark f s c → Final f s c
 unfolding mark
 mark-final f s c h = go (ltb 0 (getD (s .ranks) c 0) && leb (getD (s .costs) c 0) (getD (f .costs) c 0)) refl h
   where
-    go : (b : Bool) → (ltb 0 (getD (s .ranks) c 0) && leb (getD (s .costs) c 0) (getD (f .costs) c 0)) ≡ b → 0 < cond b 1 0 → Final f s c
+    go : (b : Bool) → (ltb 0 (getD (s .ranks) c 0) && leb (getD (s .costs) c 0) (getD (f .costs) c 0)) ≡ b
+        → 0 < cond b 1 0 → Final f s c
     go true e k =
         let p = and-cases (ltb 0 (getD (s .ranks) c 0)) (leb (getD (s .costs) c 0) (getD (f .costs) c 0)) e in
         (ltb-true 0 (getD (s .ranks) c 0) (p .0), leb-true (getD (s .costs) c 0) (getD (f .costs) c 0) (p .1))
@@ -47,7 +48,8 @@ mark-final f s c h = go (ltb 0 (getD (s .ranks) c 0) && leb (getD (s .costs) c 0
 
 pub final-mark : (f s : State) (c : ℕ) → Final f s c → mark f s c ≡ 1
 unfolding mark
-final-mark f s c p = rw (lt-ltb 0 (getD (s .ranks) c 0) (p .0), le-leb (getD (s .costs) c 0) (getD (f .costs) c 0) (p .1))
+final-mark f s c p =
+    rw (lt-ltb 0 (getD (s .ranks) c 0) (p .0), le-leb (getD (s .costs) c 0) (getD (f .costs) c 0) (p .1))
 
 pub mark-mono : (f s u : State) → Better s u → (c : ℕ) → mark f s c ≤ mark f u c
 mark-mono f s u m c = go (decLt 0 (mark f s c))
@@ -69,9 +71,11 @@ mark-le-given f c = go (decLt 0 (mark f f c))
     go (yes h) = let p = mark-final f f c h in rw (lt-ltb 0 (getD (f .ranks) c 0) (p .0)) (mark-le-one f f c)
     go (no h) = omega arith
 
-module _ (M : ℕ) (rows : List Row) (n : ℕ) (w : Within n rows) (f : State) (fixed : Fixed M rows f) (gf : Grounded M rows f)
+module _ (M : ℕ) (rows : List Row) (n : ℕ) (w : Within n rows) (f : State) (fixed : Fixed M rows f)
+    (gf : Grounded M rows f)
     (edge : (c : ℕ) → 0 < getD (f .ranks) c 0 → getD (f .costs) c 0 < M → Exact M rows f c) where
-  module _ (s : State) (z : Sized n s) (g : Grounded M rows s) (no-more : (c : ℕ) → Final f (pass M rows s) c → Final f s c) where
+  module _ (s : State) (z : Sized n s) (g : Grounded M rows s) (no-more : (c : ℕ) → Final f (pass M rows s) c
+      → Final f s c) where
     served : (c : ℕ) (r : Row) → Has rows r → r .output ≡ c → AllPriced (s .ranks) (r .children)
         → rowCost M (s .costs) r ≤ getD (f .costs) c 0 → Final f s c
     served c r m e k h =
@@ -100,11 +104,13 @@ module _ (M : ℕ) (rows : List Row) (n : ℕ) (w : Within n rows) (f : State) (
     cheap-final zero c l k h = absurd (omega arith)
     cheap-final (suc b) c l k h =
         let e = edge c k h in
-        let q = children-final (getD (f .ranks) c 0) (λ d x. cheap-final b d (omega arith)) (e .row .children) (e .all-priced)
+        let q = children-final (getD (f .ranks) c 0) (λ d x. cheap-final b d (omega arith)) (e .row .children)
+        (e .all-priced)
         (e .lower) (omega (arith, e .cost)) in
         served c (e .row) (e .has) (e .output) (q .0) (omega (arith, e .cost))
 
-    row-final : (c : ℕ) (r : Row) → Has rows r → r .output ≡ c → AllPriced (s .ranks) (r .children) → 0 < getD (f .ranks) c 0 → Final f s c
+    row-final : (c : ℕ) (r : Row) → Has rows r → r .output ≡ c → AllPriced (s .ranks) (r .children)
+        → 0 < getD (f .ranks) c 0 → Final f s c
     unfolding rowCost
     row-final c r m e k h = go (decLt (getD (f .costs) c 0) M)
       where

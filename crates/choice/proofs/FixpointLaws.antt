@@ -24,7 +24,8 @@ unfoldable pub weight : ℕ → State → ℕ → ℕ
 weight M s c = cond (ltb 0 (getD (s .ranks) c 0)) (getD (s .costs) c 0) (suc M)
 
 module _ (M n : ℕ) (rows : List Row) (w : Within n rows) where
-  weight-new : (s : State) (r : Row) → Has rows r → Improves M s r → Sized n s → weight M (store M s r) (r .output) < weight M s (r .output)
+  weight-new : (s : State) (r : Row) → Has rows r → Improves M s r → Sized n s
+      → weight M (store M s r) (r .output) < weight M s (r .output)
   unfolding weight rowCost
   weight-new s r m i z =
       rw (
@@ -35,13 +36,15 @@ module _ (M n : ℕ) (rows : List Row) (w : Within n rows) where
       (go (ltb 0 (getD (s .ranks) (r .output) 0)) refl)
     where
       go : (b : Bool) → ltb 0 (getD (s .ranks) (r .output) 0) ≡ b
-          → rowCost M (s .costs) r < cond (ltb 0 (getD (s .ranks) (r .output) 0)) (getD (s .costs) (r .output) 0) (suc M)
+          → rowCost M (s .costs) r < cond (ltb 0 (getD (s .ranks) (r .output) 0)) (getD (s .costs) (r .output) 0)
+          (suc M)
       go true e =
           let h = ltb-true 0 (getD (s .ranks) (r .output) 0) e in
           rw e (⊎-elim (λ x. absurd (omega arith)) (λ x. x) (i .better))
       go false e = rw e (omega arith)
 
-  weight-le : (s : State) (r : Row) → Has rows r → Improves M s r → Sized n s → (c : ℕ) → weight M (store M s r) c ≤ weight M s c
+  weight-le : (s : State) (r : Row) → Has rows r → Improves M s r → Sized n s → (c : ℕ)
+      → weight M (store M s r) c ≤ weight M s c
   unfolding weight
   weight-le s r m i z c = go (ℕ-discrete c (r .output))
     where
@@ -76,10 +79,12 @@ module _ (M n : ℕ) (rows : List Row) (w : Within n rows) where
 
   pass-light : (s : State) → Sized n s → Light (total (weight M s) n + s .last) (pass M rows s)
   pass-light s z =
-      pass-keeps M rows (Light (total (weight M s) n + s .last)) (light-keeps (total (weight M s) n + s .last)) s (z, omega arith)
+      pass-keeps M rows (Light (total (weight M s) n + s .last)) (light-keeps (total (weight M s) n + s .last)) s
+      (z, omega arith)
 
   -- from p passes on, a pass that gives no rank comes
-  still-from : (k : ℕ) (s : State) (p : ℕ) → Sized n (passes M rows p s) → total (weight M (passes M rows p s)) n ≤ k → (q : ℕ) × Still s q
+  still-from : (k : ℕ) (s : State) (p : ℕ) → Sized n (passes M rows p s) → total (weight M (passes M rows p s)) n ≤ k
+      → (q : ℕ) × Still s q
   unfolding passes
   still-from zero s p z h = (p, omega (arith, pass-light (passes M rows p s) z .1))
   still-from (suc k) s p z h =
@@ -87,10 +92,12 @@ module _ (M n : ℕ) (rows : List Row) (w : Within n rows) where
       go (decLe (pass M rows (passes M rows p s) .last) (passes M rows p s .last)) (still-from k s (suc p) (l .0)) l
     where
       go : Dec (Still s p) → (total (weight M (pass M rows (passes M rows p s))) n ≤ k → (q : ℕ) × Still s q)
-          → Light (total (weight M (passes M rows p s)) n + passes M rows p s .last) (pass M rows (passes M rows p s)) → (q : ℕ) × Still s q
+          → Light (total (weight M (passes M rows p s)) n + passes M rows p s .last) (pass M rows (passes M rows p s))
+          → (q : ℕ) × Still s q
       go (yes e) later l = (p, e)
       go (no e) later l = later (omega (arith, l .1))
 
-  pub still-comes : (s : State) → Sized n s → (q : ℕ) × (pass M rows (passes M rows q s) .last ≤ passes M rows q s .last)
+  pub still-comes : (s : State) → Sized n s
+      → (q : ℕ) × (pass M rows (passes M rows q s) .last ≤ passes M rows q s .last)
   unfolding passes
   still-comes s z = still-from (total (weight M s) n) s 0 z (omega arith)

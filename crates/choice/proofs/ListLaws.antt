@@ -75,7 +75,8 @@ module _ {A : Type 0} where
     sum-le [] e = omega arith
     sum-le (x ∷ xs) e = omega (arith, sum-le xs (e .1))
 
-    pub sum-less : (a : A) (xs : List A) → List·Memᴰ a xs → Each (λ x. f x ≤ g x) xs → f a < g a → sumOf f xs < sumOf g xs
+    pub sum-less : (a : A) (xs : List A) → List·Memᴰ a xs → Each (λ x. f x ≤ g x) xs → f a < g a
+        → sumOf f xs < sumOf g xs
     unfolding sumOf
     sum-less a [] m e h = absurd (List·Memᴰ·not-nil m)
     sum-less a (x ∷ xs) m e h = ⊎-elim

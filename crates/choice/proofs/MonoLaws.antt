@@ -1,4 +1,4 @@
--- A pass never takes a cost away and never raises one, and after it no row that had a cost before is cheaper than its class.
+-- A pass takes no cost away and raises none, and after it no row that had a cost before is cheaper than its class.
 -- Assumes nothing.
 use mathlib.Core.Path.{_≡_}
 use mathlib.Core.List.{List, [], _∷_}
@@ -45,7 +45,8 @@ module _ (M : ℕ) (rows : List Row) (n : ℕ) (w : Within n rows) where
       v : ℕ
       v = rowCost M (s .costs) r
 
-      go : Dec (c ≡ r .output) → (0 < getD (store M s r .ranks) c 0) × (getD (store M s r .costs) c 0 ≤ getD (s .costs) c 0)
+      go : Dec (c ≡ r .output)
+          → (0 < getD (store M s r .ranks) c 0) × (getD (store M s r .costs) c 0 ≤ getD (s .costs) c 0)
       go (yes e) =
           let h′ = rw e at h in
           rw (
@@ -76,7 +77,8 @@ module _ (M : ℕ) (rows : List Row) (n : ℕ) (w : Within n rows) where
   rows-better (r ∷ rs) sub s z =
       let m = sub r (has-head r rs) in
       better-trans s (relax M s r) (pass M rs (relax M s r)) (relax-better s r m z)
-      (rows-better rs (λ q l. sub q (has-tail q r rs l)) (relax M s r) (relax-keeps M rows (Sized n) (sized-keeps M n rows) s r m z))
+      (rows-better rs (λ q l. sub q (has-tail q r rs l)) (relax M s r)
+      (relax-keeps M rows (Sized n) (sized-keeps M n rows) s r m z))
 
   pub pass-better : (s : State) → Sized n s → Better s (pass M rows s)
   pass-better s z = rows-better rows (λ q l. l) s z
@@ -85,7 +87,8 @@ module _ (M : ℕ) (rows : List Row) (n : ℕ) (w : Within n rows) where
   abbrev pub Served : State → State → Row → Type 0
   Served s u r = (0 < getD (u .ranks) (r .output) 0) × (getD (u .costs) (r .output) 0 ≤ rowCost M (s .costs) r)
 
-  relax-serves : (s : State) (r : Row) → Has rows r → Sized n s → AllPriced (s .ranks) (r .children) → Served s (relax M s r) r
+  relax-serves : (s : State) (r : Row) → Has rows r → Sized n s → AllPriced (s .ranks) (r .children)
+      → Served s (relax M s r) r
   relax-serves s r m z k = ⊎-elim
       (λ p.
       rw (
@@ -97,7 +100,8 @@ module _ (M : ℕ) (rows : List Row) (n : ℕ) (w : Within n rows) where
       (λ p. rw (p .1) (p .0 k))
       (relax-cases M s r)
 
-  rows-serve : (rs : List Row) → Part rs → (s : State) → Sized n s → (r : Row) → Has rs r → AllPriced (s .ranks) (r .children) → Served s (pass M rs s) r
+  rows-serve : (rs : List Row) → Part rs → (s : State) → Sized n s → (r : Row) → Has rs r
+      → AllPriced (s .ranks) (r .children) → Served s (pass M rs s) r
   unfolding pass rowCost
   rows-serve [] sub s z r m k = absurd (has-none r m)
   rows-serve (q ∷ rs) sub s z r m k =
@@ -114,5 +118,6 @@ module _ (M : ℕ) (rows : List Row) (n : ℕ) (w : Within n rows) where
       (λ m′. let g = rows-serve rs part t zt r m′ (mk .0) in (g .0, omega arith))
       (has-cases r q rs m)
 
-  pub pass-serves : (s : State) → Sized n s → (r : Row) → Has rows r → AllPriced (s .ranks) (r .children) → Served s (pass M rows s) r
+  pub pass-serves : (s : State) → Sized n s → (r : Row) → Has rows r → AllPriced (s .ranks) (r .children)
+      → Served s (pass M rows s) r
   pass-serves s z r m k = rows-serve rows (λ q l. l) s z r m k

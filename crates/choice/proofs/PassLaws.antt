@@ -1,10 +1,9 @@
 -- Passes: what each improvement keeps a pass keeps; a pass that gives no rank changes nothing. Assumes nothing.
 use mathlib.Core.Path.{_≡_, refl, ap, _∙_, subst}
 use mathlib.Core.List.{List, [], _∷_}
-use mathlib.Core.Logic.{⊎-elim, _≢_}
-use Prim.Native.Nat.{ℕ, suc, zero, _+_, _≤_, _<_}
+use mathlib.Core.Logic.{⊎-elim}
+use Prim.Native.Nat.{ℕ, suc, zero, _+_, _≤_}
 use native.Mathlib.Omega.{arith}
-use native.Mathlib.Decide.{decLt}
 use lib.ListN.{length, length-set}
 use Rattle.choice.specs.Rows.{Row}
 use Rattle.choice.specs.Run.{State, store, relax, pass, passes}
@@ -47,7 +46,8 @@ pub sized-keeps : (M n : ℕ) (rows : List Row) → Keeps M rows (Sized n)
 sized-keeps M n rows s r m i z = record { costs = simp length-set (z .costs); ranks = simp length-set (z .ranks) }
 
 module _ (M : ℕ) where
-  pub pass-last : (rs : List Row) (s : State) → (s .last ≤ pass M rs s .last) × (pass M rs s .last ≤ s .last + length rs)
+  pub pass-last : (rs : List Row) (s : State)
+      → (s .last ≤ pass M rs s .last) × (pass M rs s .last ≤ s .last + length rs)
   unfolding pass
   pass-last [] s = (omega arith, omega arith)
   pass-last (r ∷ rs) s =
@@ -76,11 +76,3 @@ module _ (M : ℕ) where
       absurd (⊎-elim (λ x. omega arith) (λ x. omega arith) (p .0 .better)))
       (λ p. ap (λ (u : State). pass M rs u) (p .1) ∙ ih)
       (relax-cases M s r)
-
-  -- a pass that changes something gives a rank
-  pub pass-changes : (rows : List Row) (s : State) → pass M rows s ≢ s → s .last < pass M rows s .last
-  pass-changes rows s d = go (decLt (s .last) (pass M rows s .last))
-    where
-      go : Dec (s .last < pass M rows s .last) → s .last < pass M rows s .last
-      go (yes h) = h
-      go (no h) = absurd (d (pass-still rows s (omega arith) .1))

@@ -3,16 +3,18 @@ use mathlib.Core.Path.{_≡_, subst}
 use mathlib.Core.List.{List}
 use Prim.Native.Nat.{ℕ}
 use Rattle.choice.specs.Rows.{Row, Within, class}
+use Rattle.choice.specs.Edges.{isEdge}
 use Rattle.choice.specs.Answer.{Answer, noTerm, tooDear, Right, answerOf}
 use Rattle.choice.specs.Promises.{ended, Promises}
 use Rattle.choice.proofs.RunLaws.{run-first-still, run-unique, run-any-fuel, run-passes-le, run-good, run-fixed}
-use Rattle.choice.proofs.EdgeLaws.{edge-of-fixed}
+use Rattle.choice.proofs.EdgeLaws.{edge-of-fixed, first-row-before}
 use Rattle.choice.proofs.ChosenLaws.{chosen-unique}
 use Rattle.choice.proofs.AnswerLaws.{right-of-fixed, right-unique, chosen-when-best}
 
 module _ (M : ℕ) (rows : List Row) (n : ℕ) (w : Within n rows) where
   right : (c : ℕ) → Right M rows c (answerOf M (ended M rows n) c)
-  right = let g = run-good M n rows w in right-of-fixed M rows (ended M rows n) (run-fixed M n rows w) (g .grounded) (g .sourced)
+  right = let g = run-good M n rows w in right-of-fixed M rows (ended M rows n) (run-fixed M n rows w) (g .grounded)
+      (g .sourced)
 
   -- an answer is given if and only if it is right
   told-by : (c : ℕ) (a : Answer) → Right M rows c a → answerOf M (ended M rows n) c ≡ a
@@ -36,4 +38,5 @@ module _ (M : ℕ) (rows : List Row) (n : ℕ) (w : Within n rows) where
     right = right;
     right-unique = right-unique M rows;
     edge = edge-of-fixed M rows (ended M rows n) (run-fixed M n rows w) (run-good M n rows w .sourced);
+    edge-first = λ c. first-row-before (isEdge M (ended M rows n .costs) (ended M rows n .ranks) c) rows;
   }

@@ -1,4 +1,5 @@
--- Ranks: at a fixpoint a class below saturation has a row with exactly its cost and children of lower rank. Assumes nothing.
+-- Ranks: at a fixpoint a class below saturation has a row with exactly its cost and children of lower rank.
+-- Assumes nothing.
 use mathlib.Core.Path.{_≡_, refl, ap, sym}
 use mathlib.Core.List.{List, [], _∷_, List·Memᴰ, List·Memᴰ·head, List·Memᴰ·tail}
 use mathlib.Core.Logic.{_⊎_, inl, inr, ⊎-elim, _≢_}
@@ -10,7 +11,8 @@ use lib.Seq.{getD-set-same, getD-set-other}
 use Rattle.choice.specs.Rows.{Child, literal, class, Row, Within, sumOf}
 use Rattle.choice.specs.Run.{State, childCost, rowCost, store}
 use Rattle.choice.specs.Edges.{childRank}
-use Rattle.choice.proofs.ListLaws.{Each, each-map, each-both, each-every, each-mem, sum-same, sum-less, mem-sum, Has}
+use Rattle.choice.proofs.ListLaws.{Each, each-map, each-both, each-every, each-mem, sum-same, sum-less}
+use Rattle.choice.proofs.ListLaws.{mem-sum, Has}
 use Rattle.choice.proofs.RelaxLaws.{Priced, AllPriced, Improves}
 use Rattle.choice.proofs.PassLaws.{Fixed, Sized}
 use Rattle.choice.proofs.SoundLaws.{has-within}
@@ -25,13 +27,15 @@ other-or-mem d [] = inr tt
 other-or-mem d (literal i ∷ ks) = ⊎-elim (λ m. inl (List·Memᴰ·tail m)) (λ a. inr (tt, a)) (other-or-mem d ks)
 other-or-mem d (class c ∷ ks) = go (ℕ-discrete c d) (other-or-mem d ks)
   where
-    go : Dec (c ≡ d) → List·Memᴰ (class d) ks ⊎ Each (Other d) ks → List·Memᴰ (class d) (class c ∷ ks) ⊎ Each (Other d) (class c ∷ ks)
+    go : Dec (c ≡ d) → List·Memᴰ (class d) ks ⊎ Each (Other d) ks
+        → List·Memᴰ (class d) (class c ∷ ks) ⊎ Each (Other d) (class c ∷ ks)
     go (yes e) q = inl (List·Memᴰ·head (ap class (sym e)))
     go (no n) (inl m) = inl (List·Memᴰ·tail m)
     go (no n) (inr a) = inr (n, a)
 
 -- what stands at one place after a store
-pub at-set : (l : List ℕ) (d v : ℕ) → d < length l → (P : ℕ → Type 0) (k : ℕ) → P v → P (getD l k 0) → P (getD (set l d v) k 0)
+pub at-set : (l : List ℕ) (d v : ℕ) → d < length l → (P : ℕ → Type 0) (k : ℕ) → P v → P (getD l k 0)
+    → P (getD (set l d v) k 0)
 at-set l d v h P k p q = go (ℕ-discrete k d)
   where
     go : Dec (k ≡ d) → P (getD (set l d v) k 0)
@@ -72,7 +76,8 @@ module _ (l : List ℕ) (d v : ℕ) where
         go (no n) = rw (getD-set-other l d c v 0 n) (omega arith)
 
     -- a sum falls where a class in it does
-    pub mem-sum-less : v < getD l d 0 → (ks : List Child) → List·Memᴰ (class d) ks → sumOf (childCost (set l d v)) ks < sumOf (childCost l) ks
+    pub mem-sum-less : v < getD l d 0 → (ks : List Child) → List·Memᴰ (class d) ks
+        → sumOf (childCost (set l d v)) ks < sumOf (childCost l) ks
     unfolding childCost
     mem-sum-less z ks m =
         sum-less (childCost (set l d v)) (childCost l) (class d) ks m
@@ -83,11 +88,14 @@ module _ (l : List ℕ) (d v : ℕ) where
 abbrev pub AllLower : ℕ → List ℕ → List Child → Type 0
 AllLower b ranks ks = Each (λ k. childRank ranks k < b) ks
 
-pub other-lower : (l : List ℕ) (d v b : ℕ) (ks : List Child) → Each (Other d) ks → AllLower b l ks → AllLower b (set l d v) ks
+pub other-lower : (l : List ℕ) (d v b : ℕ) (ks : List Child) → Each (Other d) ks → AllLower b l ks
+    → AllLower b (set l d v) ks
 other-lower l d v b ks a h =
-    each-both (Other d) (λ k. childRank l k < b) (λ k. childRank (set l d v) k < b) (λ k o p. rw (other-rank l d v k o) p) ks a h
+    each-both (Other d) (λ k. childRank l k < b) (λ k. childRank (set l d v) k < b)
+    (λ k o p. rw (other-rank l d v k o) p) ks a h
 
-pub lower-when-all : (b : ℕ) (ranks : List ℕ) → 0 < b → ((c : ℕ) → getD ranks c 0 < b) → (ks : List Child) → AllLower b ranks ks
+pub lower-when-all : (b : ℕ) (ranks : List ℕ) → 0 < b → ((c : ℕ) → getD ranks c 0 < b) → (ks : List Child)
+    → AllLower b ranks ks
 unfolding childRank
 lower-when-all b ranks z f ks = each-every (λ k. childRank ranks k < b) one ks
   where
@@ -107,7 +115,8 @@ module _ (M : ℕ) (rows : List Row) where
     pub output : row .output ≡ c
     pub all-priced : AllPriced (s .ranks) (row .children)
     pub cheap : rowCost M (s .costs) row ≤ getD (s .costs) c 0
-    pub lower : rowCost M (s .costs) row ≡ getD (s .costs) c 0 → AllLower (getD (s .ranks) c 0) (s .ranks) (row .children)
+    pub lower : rowCost M (s .costs) row ≡ getD (s .costs) c 0
+        → AllLower (getD (s .ranks) c 0) (s .ranks) (row .children)
 
   abbrev pub Sourced : State → Type 0
   Sourced s = (c : ℕ) → 0 < getD (s .ranks) c 0 → getD (s .costs) c 0 < M → Source s c
@@ -121,7 +130,8 @@ module _ (M : ℕ) (rows : List Row) where
 
     pub capped-keeps : Capped s → Capped (store M s r)
     capped-keeps b c =
-        at-set (s .ranks) (r .output) (suc (s .last)) in-ranks (λ x. x ≤ suc (s .last)) c (omega arith) (omega (arith, b c))
+        at-set (s .ranks) (r .output) (suc (s .last)) in-ranks (λ x. x ≤ suc (s .last)) c (omega arith)
+        (omega (arith, b c))
 
     -- below saturation the class itself is no child of the row that improves it
     new-other : rowCost M (s .costs) r < M → Each (Other (r .output)) (r .children)
@@ -146,7 +156,8 @@ module _ (M : ℕ) (rows : List Row) where
           row = r;
           has = m;
           output = refl;
-          all-priced = still-priced (s .ranks) (r .output) (suc (s .last)) in-ranks (omega arith) (r .children) (i .all-priced);
+          all-priced = still-priced (s .ranks) (r .output) (suc (s .last)) in-ranks (omega arith) (r .children)
+              (i .all-priced);
           cheap = omega arith;
           lower = λ _. rw re (other-lower (s .ranks) (r .output) (suc (s .last)) (suc (s .last)) (r .children) a
               (lower-when-all (suc (s .last)) (s .ranks) (omega arith) (λ c. omega (arith, b c)) (r .children)));
@@ -204,10 +215,19 @@ module _ (M : ℕ) (rows : List Row) where
     pub cost : rowCost M (s .costs) row ≡ getD (s .costs) c 0
     pub lower : AllLower (getD (s .ranks) c 0) (s .ranks) (row .children)
 
-  pub exact : (s : State) → Fixed M rows s → Sourced s → (c : ℕ) → 0 < getD (s .ranks) c 0 → getD (s .costs) c 0 < M → Exact s c
+  pub exact : (s : State) → Fixed M rows s → Sourced s → (c : ℕ) → 0 < getD (s .ranks) c 0 → getD (s .costs) c 0 < M
+      → Exact s c
   exact s fixed g c k h =
       let e = g c k h in
       let q : getD (s .costs) c 0 ≤ rowCost M (s .costs) (e .row) =
       omega (arith, fixed (e .row) (e .has) (e .all-priced) .1, ap (λ (x : ℕ). getD (s .costs) x 0) (e .output)) in
       let x : rowCost M (s .costs) (e .row) ≡ getD (s .costs) c 0 = omega (arith, e .cheap) in
-      record { row = e .row; has = e .has; output = e .output; all-priced = e .all-priced; cost = x; lower = e .lower x }
+      record {
+        row = e .row;
+        has = e .has;
+        output = e .output;
+        all-priced = e .all-priced;
+        cost = x;
+        lower =
+            e .lower x;
+      }

@@ -33,11 +33,13 @@ AllPriced ranks ks = Each (Priced ranks) ks
 
 pub row-priced-true : (ranks : List ℕ) (r : Row) → rowPriced ranks r ≡ true → AllPriced ranks (r .children)
 row-priced-true ranks r e =
-    each-map (λ k. priced ranks k ≡ true) (Priced ranks) (priced-true ranks) (r .children) (all-each (priced ranks) (r .children) e)
+    each-map (λ k. priced ranks k ≡ true) (Priced ranks) (priced-true ranks) (r .children)
+    (all-each (priced ranks) (r .children) e)
 
 pub true-row-priced : (ranks : List ℕ) (r : Row) → AllPriced ranks (r .children) → rowPriced ranks r ≡ true
 true-row-priced ranks r e =
-    each-all (priced ranks) (r .children) (each-map (Priced ranks) (λ k. priced ranks k ≡ true) (true-priced ranks) (r .children) e)
+    each-all (priced ranks) (r .children) (each-map (Priced ranks) (λ k. priced ranks k ≡ true) (true-priced ranks)
+    (r .children) e)
 
 module _ (M : ℕ) (s : State) (r : Row) where
   pub record Improves : Type 0 where

@@ -1,4 +1,5 @@
--- The run: it stops at the first pass that changes nothing, whatever fuel past the bound; there every row is settled. Assumes nothing.
+-- The run: it stops at the first pass that changes nothing, whatever fuel past the bound; there every row is settled.
+-- Assumes nothing.
 use mathlib.Core.Path.{_≡_, refl, ap, sym, _∙_}
 use mathlib.Core.Bool.{Bool, true, false}
 use mathlib.Core.List.{List}
@@ -14,7 +15,8 @@ use Rattle.choice.proofs.PassLaws.{Fixed, pass-still}
 use Rattle.choice.proofs.BoundLaws.{Good, Busy, good-blank, good-passes, busy-le-classes, busy-le-costed}
 
 module _ (M : ℕ) (rows : List Row) where
-  pub busy-more : (s : State) (p : ℕ) → Busy M rows s p → pass M rows (passes M rows p s) ≢ passes M rows p s → Busy M rows s (suc p)
+  pub busy-more : (s : State) (p : ℕ) → Busy M rows s p → pass M rows (passes M rows p s) ≢ passes M rows p s
+      → Busy M rows s (suc p)
   busy-more s p b d q l = go (ℕ-discrete q p)
     where
       go : Dec (q ≡ p) → pass M rows (passes M rows q s) ≢ passes M rows q s
@@ -46,7 +48,8 @@ module _ (M : ℕ) (rows : List Row) where
 
   -- with fuel for more than n passes, and never more than n that change something
   first-still-from : (start : State) (n : ℕ) → ((p : ℕ) → Busy M rows start p → p ≤ n)
-      → (fuel p : ℕ) → n < p + fuel → Busy M rows start p → FirstStill M rows start (runFrom M rows fuel (passes M rows p start) p)
+      → (fuel p : ℕ) → n < p + fuel → Busy M rows start p
+      → FirstStill M rows start (runFrom M rows fuel (passes M rows p start) p)
   unfolding passes
   first-still-from start n few zero p l b = absurd (omega (arith, few p b))
   first-still-from start n few (suc fuel) p l b =
@@ -54,7 +57,8 @@ module _ (M : ℕ) (rows : List Row) where
       (λ c. first-still-from start n few fuel (suc p) (omega arith) c)
     where
       go : (t : Bool) → eqb (pass M rows (passes M rows p start) .last) (passes M rows p start .last) ≡ t
-          → (Busy M rows start (suc p) → FirstStill M rows start (runFrom M rows fuel (pass M rows (passes M rows p start)) (suc p)))
+          → (Busy M rows start (suc p)
+          → FirstStill M rows start (runFrom M rows fuel (pass M rows (passes M rows p start)) (suc p)))
           → FirstStill M rows start (runFrom M rows (suc fuel) (passes M rows p start) p)
       go true e later =
           let h = eqb-true (pass M rows (passes M rows p start) .last) (passes M rows p start .last) e in
@@ -72,7 +76,8 @@ module _ (M n : ℕ) (rows : List Row) (w : Within n rows) where
 
   pub run-first-still-at : (fuel : ℕ) → n < fuel → FirstStill M rows (blank n) (runFrom M rows fuel (blank n) 0)
   unfolding passes
-  run-first-still-at fuel l = first-still-from M rows (blank n) n busy-blank fuel 0 (omega arith) (λ q k. absurd (omega arith))
+  run-first-still-at fuel l = first-still-from M rows (blank n) n busy-blank fuel 0 (omega arith)
+      (λ q k. absurd (omega arith))
 
   pub run-first-still : FirstStill M rows (blank n) (run M rows n)
   unfolding run
@@ -85,12 +90,14 @@ module _ (M n : ℕ) (rows : List Row) (w : Within n rows) where
   run-unique r x = first-still-unique M rows (blank n) _ _ x run-first-still
 
   pub run-good : Good M n rows (run M rows n .state)
-  run-good = rw (run-first-still .result) (good-passes M n rows w (run-first-still .before) (blank n) (good-blank M n rows w))
+  run-good =
+      rw (run-first-still .result) (good-passes M n rows w (run-first-still .before) (blank n) (good-blank M n rows w))
 
   pub run-fixed : Fixed M rows (run M rows n .state)
   run-fixed =
       rw (run-first-still .result)
-      (pass-still M rows (passes M rows (run-first-still .before) (blank n)) (omega (arith, ap (λ (u : State). u .last) (run-first-still .still))) .0)
+      (pass-still M rows (passes M rows (run-first-still .before) (blank n))
+      (omega (arith, ap (λ (u : State). u .last) (run-first-still .still))) .0)
 
   -- at most one more than the classes that end with a cost
   pub run-passes-le : run M rows n .passes ≤ costed (run M rows n .state .ranks) + 1

@@ -63,7 +63,8 @@ module _ (M : ℕ) (rows : List Row) where
         }
 
     -- a row whose children are priced derives its class
-    pub ground-row : (r : Row) → Has rows r → AllPriced (s .ranks) (r .children) → Ground (r .output) (rowCost M (s .costs) r)
+    pub ground-row : (r : Row) → Has rows r → AllPriced (s .ranks) (r .children)
+        → Ground (r .output) (rowCost M (s .costs) r)
     unfolding Derives treeCost rowCost
     ground-row r m h =
         let f = grove (r .children) h in
@@ -76,14 +77,16 @@ module _ (M : ℕ) (rows : List Row) where
               (sumOf (childCost (s .costs)) (r .children)) refl (f .cost));
         }
 
-  pub grounded-keeps : (n : ℕ) → Within n rows → (s : State) (r : Row) → Has rows r → Improves M s r → Sized n s → Grounded s → Grounded (store M s r)
+  pub grounded-keeps : (n : ℕ) → Within n rows → (s : State) (r : Row) → Has rows r → Improves M s r → Sized n s
+      → Grounded s → Grounded (store M s r)
   grounded-keeps n w s r m i z g c h = go (ℕ-discrete c (r .output))
     where
       inside : r .output < length (s .costs)
       inside = omega (arith, has-within n rows w r m, z .costs)
 
       go : Dec (c ≡ r .output) → Ground c (getD (set (s .costs) (r .output) (rowCost M (s .costs) r)) c 0)
-      go (yes e) = rw (e, getD-set-same (s .costs) (r .output) (rowCost M (s .costs) r) 0 inside) (ground-row s g r m (i .all-priced))
+      go (yes e) = rw (e, getD-set-same (s .costs) (r .output) (rowCost M (s .costs) r) 0 inside)
+          (ground-row s g r m (i .all-priced))
       go (no d) =
           rw (getD-set-other (s .costs) (r .output) c (rowCost M (s .costs) r) 0 d)
           (g c (rw (getD-set-other (s .ranks) (r .output) c (suc (s .last)) 0 d) at h))
@@ -93,7 +96,8 @@ module _ (M : ℕ) (rows : List Row) where
     mutual
       unfolding Derives treeCost childCost sumOf rowCost
 
-      pub least : (t : Tree) (k : Child) → Derives rows t k → Priced (s .ranks) k × (childCost (s .costs) k ≤ treeCost rows t)
+      pub least : (t : Tree) (k : Child) → Derives rows t k
+          → Priced (s .ranks) k × (childCost (s .costs) k ≤ treeCost rows t)
       least (leaf i) (literal j) d = (tt, omega arith)
       least (leaf i) (class c) d = absurd d
       least (node i f) (literal j) d = absurd d
@@ -102,7 +106,8 @@ module _ (M : ℕ) (rows : List Row) where
           let q = fixed (rowAt rows i) (i, d .0, refl) (a .0) in
           rw (← d .1) (q .0, omega arith)
 
-      pub least-all : (f : Forest) (ks : List Child) → DeriveAll rows f ks → AllPriced (s .ranks) ks × (sumOf (childCost (s .costs)) ks ≤ forestCost rows f)
+      pub least-all : (f : Forest) (ks : List Child) → DeriveAll rows f ks
+          → AllPriced (s .ranks) ks × (sumOf (childCost (s .costs)) ks ≤ forestCost rows f)
       least-all none [] d = (tt, omega arith)
       least-all none (k ∷ ks) d = absurd d
       least-all (more t f) [] d = absurd d
@@ -111,6 +116,7 @@ module _ (M : ℕ) (rows : List Row) where
           let b = least-all f ks (d .1) in
           ((a .0, b .0), omega arith)
 
-    pub least-class : (c : ℕ) (t : Tree) → Derives rows t (class c) → (0 < getD (s .ranks) c 0) × (getD (s .costs) c 0 ≤ treeCost rows t)
+    pub least-class : (c : ℕ) (t : Tree) → Derives rows t (class c)
+        → (0 < getD (s .ranks) c 0) × (getD (s .costs) c 0 ≤ treeCost rows t)
     unfolding childCost
     least-class c t d = least t (class c) d

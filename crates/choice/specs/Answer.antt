@@ -14,14 +14,16 @@ pub data Answer : Type 0 where
   tooDear : Answer
   best : ℕ → Answer
 
--- "a deriving term comes back; its exact cost is the number reported; none is cheaper; and .. no class is met twice on a path".
+-- "a deriving term comes back; its exact cost is the number reported; none is cheaper; and down its chosen rows
+-- no class is met twice on a path".
 pub record Best (rows : List Row) (c v : ℕ) (t : Tree) : Type 0 where
   pub derives : Derives rows t (class c)
   pub exact : treeCost rows t ≡ v
   pub least : (u : Tree) → Derives rows u (class c) → v ≤ treeCost rows u
   pub once : Once rows [] t
 
--- "If none derives the root, .. NoTerm. If some do but each costs 2^64-1 or more in exact whole numbers, .. TooDear. Otherwise" a best one.
+-- "If none derives the root, .. NoTerm. If some do but each costs 2^64-1 or more in exact whole numbers, .. TooDear.
+-- Otherwise" a best one.
 abbrev pub Right : ℕ → List Row → ℕ → Answer → Type 0
 Right M rows c noTerm = (t : Tree) → Derives rows t (class c) → ⊥
 Right M rows c tooDear =

@@ -16,13 +16,15 @@ mutual
     none : Forest
     more : Tree → Forest → Forest
 
--- "call a term deriving if it is finite and built from rows": a class is derived by a row with that output and a forest for its children.
+-- "call a term deriving if it is finite and built from rows": a class is derived by a row with that output
+-- and a forest for its children.
 unfoldable mutual
   pub Derives : List Row → Tree → Child → Type 0
   Derives rows (leaf i) (literal j) = i ≡ j
   Derives rows (leaf i) (class c) = ⊥
   Derives rows (node i f) (literal j) = ⊥
-  Derives rows (node i f) (class c) = (i < length rows) × (rowAt rows i .output ≡ c) × DeriveAll rows f (rowAt rows i .children)
+  Derives rows (node i f) (class c) =
+      (i < length rows) × (rowAt rows i .output ≡ c) × DeriveAll rows f (rowAt rows i .children)
 
   pub DeriveAll : List Row → Forest → List Child → Type 0
   DeriveAll rows none [] = Unit {0}

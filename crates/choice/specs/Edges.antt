@@ -1,4 +1,5 @@
--- A class's edge, and the tree that edges choose: document 01, 'Costs and choice', third paragraph. Assumes nothing: definitions.
+-- A class's edge, and the tree that edges choose: document 01, 'Costs and choice', third paragraph.
+-- Assumes nothing: definitions.
 use mathlib.Core.Path.{_≡_}
 use mathlib.Core.Bool.{Bool, true, false, _&&_}
 use mathlib.Core.List.{List, [], _∷_}
@@ -19,12 +20,12 @@ abbrev pub below : ℕ → List ℕ → Child → Bool
 below b ranks k = ltb (childRank ranks k) b
 
 -- A row of class c "with exactly its final cost and all child ranks strictly below its own".
-unfoldable pub isEdge : ℕ → State → ℕ → Row → Bool
-isEdge M s c r =
+unfoldable pub isEdge : ℕ → List ℕ → List ℕ → ℕ → Row → Bool
+isEdge M costs ranks c r =
     eqb (r .output) c
-    && (rowPriced (s .ranks) r
-    && (eqb (rowCost M (s .costs) r) (getD (s .costs) c 0)
-    && allOf (below (getD (s .ranks) c 0) (s .ranks)) (r .children)))
+    && (rowPriced ranks r
+    && (eqb (rowCost M costs r) (getD costs c 0)
+    && allOf (below (getD ranks c 0) ranks) (r .children)))
 
 -- The number of the first row with p; the number of rows where there is none.
 unfoldable pub firstRow : (Row → Bool) → List Row → ℕ
@@ -33,7 +34,7 @@ firstRow p (r ∷ rs) = elim (p r) [ true ↦ 0 | false ↦ suc (firstRow p rs) 
 
 -- "A class's edge is the first row in the same order".
 abbrev pub edgeOf : ℕ → State → List Row → ℕ → ℕ
-edgeOf M s rows c = firstRow (isEdge M s c) rows
+edgeOf M s rows c = firstRow (isEdge M (s .costs) (s .ranks) c) rows
 
 -- The edges of all classes.
 abbrev pub edgesOf : ℕ → State → List Row → List ℕ

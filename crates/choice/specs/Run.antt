@@ -1,4 +1,5 @@
--- The relaxation: document 01, 'Costs and choice', second paragraph; M is the number at which costs saturate. Assumes nothing: definitions.
+-- The relaxation: document 01, 'Costs and choice', second paragraph. M is the number at which costs saturate.
+-- Assumes nothing: definitions.
 use mathlib.Core.Path.{_≡_}
 use mathlib.Core.Bool.{Bool, true, false, cond, _&&_, _||_}
 use mathlib.Core.List.{List, [], _∷_}
@@ -35,7 +36,8 @@ rowCost M costs r = min M (r .head + sumOf (childCost costs) (r .children))
 -- "A strictly lower or first cost is stored".
 unfoldable pub improves : ℕ → State → Row → Bool
 improves M s r =
-    rowPriced (s .ranks) r && (eqb (getD (s .ranks) (r .output) 0) 0 || ltb (rowCost M (s .costs) r) (getD (s .costs) (r .output) 0))
+    rowPriced (s .ranks) r
+    && (eqb (getD (s .ranks) (r .output) 0) 0 || ltb (rowCost M (s .costs) r) (getD (s .costs) (r .output) 0))
 
 -- "and the class takes the next rank, from 1".
 abbrev pub store : ℕ → State → Row → State
@@ -80,7 +82,7 @@ runFrom M rows (suc fuel) s p =
 unfoldable pub run : ℕ → List Row → ℕ → Run
 run M rows n = runFrom M rows (suc n) (blank n) 0
 
--- "The answer carries the number of passes, the last and changeless one counted": all passes before it change something.
+-- "the number of passes, the last and changeless one counted": all passes before it change something.
 pub record FirstStill (M : ℕ) (rows : List Row) (start : State) (r : Run) : Type 0 where
   pub before : ℕ
   pub counted : r .passes ≡ suc before

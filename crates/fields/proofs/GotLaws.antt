@@ -36,6 +36,10 @@ module _ {A : Type 0} {P : A → ℕ → Type 0} where
   all-pick true g h p q = p refl
   all-pick false g h p q = q refl
 
+pub all-map : {A : Type 0} {P Q : A → ℕ → Type 0} {g : Got A} → ((a : A) (k : ℕ) → P a k → Q a k) → All P g → All Q g
+all-map f (all-got h) = all-got (f _ _ h)
+all-map f all-refused = all-refused
+
 -- What the start has and each thing keeps, all of them have.
 pub many-all : {A : Type 0} (f : List A → ℕ → Got A) (P : List A → ℕ → Type 0)
     → ((xs : List A) (p : ℕ) → P xs p → All (λ x q. P (xs ++ (x ∷ [])) q) (f xs p))
@@ -44,6 +48,19 @@ unfolding many
 many-all f P keep zero at xs h = all-got h
 many-all f P keep (suc n) at xs h =
     all-then (f xs at) _ (λ x p e. many-all f P keep n p (xs ++ (x ∷ [])) (all-at (rw e at (keep xs at h))))
+
+count-by : {A : Type 0} (f : List A → ℕ → Got A) (n m at : ℕ) (xs : List A) → length xs + n ≡ m
+    → All (λ ys k. length ys ≡ m) (many f n at xs)
+unfolding many
+count-by f zero m at xs e =
+    let h : length xs ≡ m = omega arith in
+    all-got h
+count-by f (suc n) m at xs e =
+    all-then (f xs at) _ (λ x p _. count-by f n m p (xs ++ (x ∷ [])) (simp length-append (omega arith)))
+
+-- As many things as were asked for.
+pub many-length : {A : Type 0} (f : List A → ℕ → Got A) (n at : ℕ) {xs : List A} {k : ℕ} → many f n at [] ≡ got xs k → length xs ≡ n
+many-length f n at e = all-at (rw e at (count-by f n n at [] (omega arith)))
 
 -- The loop over n things from position at: i of them, those of xs, are read up to p, and the rest gives what the whole gives.
 pub record Loop {A : Type 0} (f : List A → ℕ → Got A) (n at p i : ℕ) (xs : List A) : Type 0 where

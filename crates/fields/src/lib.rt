@@ -48,7 +48,7 @@ pub fn has(s: &[u8], at: usize, width: usize) -> bool
 }
 
 // The `width` bits from position `at` as a number, byte by byte.
-fn gather(s: &[u8], at: usize, width: usize) -> u64
+pub fn gather(s: &[u8], at: usize, width: usize) -> u64
     requires { ⌜ at + width < 2 ^ 63 ⌝ }
     requires { ⌜ at + width ≤ 8 * length (now s) ⌝ }
     requires { ⌜ width ≤ 64 ⌝ }

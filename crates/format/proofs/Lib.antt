@@ -2,3 +2,5 @@
 pub mod SignedLaws
 pub mod ArraysLaws
 pub mod ReadingLaws
+pub mod BlockLaws
+pub mod FunctionLaws

@@ -42,3 +42,13 @@ module _ {A : Type 0} {P : A → Type 0} where
 
   pub reads-not : {g : Got A} {r : Step} {x : Refusal} → Reads g r P → r ≡ Refused x → g ≡ refused x
   reads-not {g} h e = not-by g (sym e ∙ h .answer)
+
+weaken-by : {A : Type 0} {P Q : A → Type 0} (g : Got A) → OnGot g P → ((a : A) (k : ℕ) → g ≡ got a k → P a → Q a) → OnGot g Q
+unfolding OnGot
+weaken-by (got a k) h f = f a k refl h
+weaken-by (refused r) h f = tt
+
+-- What follows of what was read holds too.
+pub reads-weaken : {A : Type 0} {P Q : A → Type 0} {g h : Got A} {r : Step} → g ≡ h → Reads g r P
+    → ((a : A) (k : ℕ) → g ≡ got a k → P a → Q a) → Reads h r Q
+reads-weaken {g} e p f = rw (← e) (record { answer = p .answer; filled = weaken-by g (p .filled) f })

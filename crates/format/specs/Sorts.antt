@@ -1,11 +1,15 @@
 -- The sorts of a table file: document 01, 'The table file', its first two lines. Assumes nothing: definitions.
 use Prim.Native.Nat.{ℕ, _+_}
-use mathlib.Core.List.{List, [], _∷_}
+use mathlib.Core.List.{List, [], _∷_, map}
 use lib.Dec.{leb, eqb}
 use Rattle.refusals.specs.declared.Refusal.the-variants.{BadSize}
 use Rattle.fields.specs.Got.{Got, got, then, must, pick, many}
 use Rattle.fields.specs.Field.{field}
 use Rattle.format.specs.Table.{Sort}
+
+-- The kind of each sort.
+abbrev pub kindsOf : List Sort → List ℕ
+kindsOf xs = map (λ (x : Sort). x .kind) xs
 
 -- The classes of all sorts together.
 unfoldable pub classesOf : List Sort → ℕ

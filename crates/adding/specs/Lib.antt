@@ -1,0 +1,2 @@
+-- The definitions of the crate `adding`.
+pub mod Growing

@@ -1,0 +1,1 @@
+// What adding a term does to a well-formed store: definitions in specs/ and laws in proofs/, for every crate above. No code.

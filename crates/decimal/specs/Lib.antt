@@ -1,0 +1,3 @@
+-- The definitions of the crate `decimal`.
+pub mod Decimal
+pub mod Written

@@ -1,0 +1,3 @@
+-- The laws of the crate `demand`.
+pub mod OrderLaws
+pub mod DemandLaws

@@ -1,0 +1,3 @@
+-- The laws of the crate `function_fields`.
+pub mod StepLaws
+pub mod ArgumentLaws

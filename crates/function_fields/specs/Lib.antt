@@ -1,0 +1,2 @@
+-- The definitions of the crate `function_fields`.
+pub mod Put

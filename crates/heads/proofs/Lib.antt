@@ -1,0 +1,3 @@
+-- The laws of the crate `heads`.
+pub mod NodeLaws
+pub mod ReadableLaws

@@ -1,0 +1,2 @@
+-- The definitions of the crate `name_field`.
+pub mod Name

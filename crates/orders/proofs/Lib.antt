@@ -1,0 +1,3 @@
+-- The laws of the crate `orders`.
+pub mod OrderLaws
+pub mod WalkLaws

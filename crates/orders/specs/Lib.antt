@@ -1,0 +1,3 @@
+-- The definitions of the crate `orders`.
+pub mod Compare
+pub mod Lawful

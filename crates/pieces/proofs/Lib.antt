@@ -1,0 +1,2 @@
+-- The laws of the crate `pieces`.
+pub mod PieceLaws

@@ -1,0 +1,2 @@
+-- The definitions of the crate `pieces`.
+pub mod Pieces

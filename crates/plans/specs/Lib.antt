@@ -1,0 +1,2 @@
+-- The definitions of the crate `plans`: the plan that the builder goes by.
+pub mod Planning

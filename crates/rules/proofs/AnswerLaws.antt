@@ -1,0 +1,55 @@
+-- Demand 3 of document 00 holds of the run over any accepted table. Assumes nothing.
+use mathlib.Core.Path.{_≡_, refl, subst}
+use mathlib.Core.List.{List}
+use Prim.Native.Nat.{ℕ, _<_}
+use lib.ListN.{length}
+use Rattle.choice.specs.Rows.{class}
+use Rattle.choice.specs.Deriving.{Tree}
+use Rattle.choice.specs.Edges.{Chosen}
+use Rattle.choice.specs.Answer.{Answer, best}
+use Rattle.choice.proofs.Promises.{promises}
+use Rattle.demand.specs.Deriving.{Cheapest, Answered}
+use Rattle.demand.specs.Orders.{renumber}
+use Rattle.demand.proofs.DemandLaws.{answered-of-right, cheapest-of-best}
+use Rattle.format.specs.Table.{Table}
+use Rattle.rules.specs.Classes.{sortOf, classCount, flatClass}
+use Rattle.rules.specs.Rows.{tableRows, usable}
+use Rattle.rules.specs.Order.{scanOrder, scanned}
+use Rattle.rules.specs.Choosing.{limit, runOf, answerFor, edgeFor}
+use Rattle.rules.specs.Facts.{Known}
+use Rattle.rules.proofs.CoverLaws.{ReachedClass, scanOrder-covers, scanned-within, root-class}
+
+-- a cheapest deriving tree, and that it is the one that the edges choose
+pub record ChosenTree (t : Table) (root c w : ℕ) : Type 0 where
+  pub tree : Tree
+  pub chosen : Chosen (scanned t root) (edgeFor t root) tree (class c)
+  pub cheapest : Cheapest (tableRows t) (usable t) c w (renumber (scanOrder t root) tree)
+
+module _ (t : Table) (k : Known t) (root : ℕ) (h : root < length (t .sorts)) where
+  -- of every class that the root sort reaches
+  pub answered-of-reached :
+      (c : ℕ) → ReachedClass t root c → Answered limit (tableRows t) (usable t) c (answerFor t root c)
+  unfolding answerFor runOf scanned
+  answered-of-reached c r =
+      answered-of-right (tableRows t) (usable t) (scanOrder t root) (ReachedClass t root) (scanOrder-covers t k root h)
+      limit c r (answerFor t root c) (promises limit (scanned t root) (classCount t) (scanned-within t k root h) .right c)
+
+  -- "For any accepted table file .. and, as root, class of a constructor sort"
+  pub answered :
+      (v : ℕ) →
+      v < sortOf t root .classes →
+      Answered limit (tableRows t) (usable t) (flatClass t root v) (answerFor t root (flatClass t root v))
+  answered v l = answered-of-reached (flatClass t root v) (root-class t k root h v l)
+
+  -- the tree that the edges choose is a cheapest one, at the cost reported
+  pub chosen-tree : (c w : ℕ) → ReachedClass t root c → answerFor t root c ≡ best w → ChosenTree t root c w
+  unfolding answerFor edgeFor runOf scanned
+  chosen-tree c w r e =
+      let p = promises limit (scanned t root) (classCount t) (scanned-within t k root h) .cheapest c w e in
+      record {
+        tree = p .0;
+        chosen = p .1;
+        cheapest =
+            cheapest-of-best (tableRows t) (usable t) (scanOrder t root) (ReachedClass t root)
+            (scanOrder-covers t k root h) c r w (p .0) (p .2);
+      }

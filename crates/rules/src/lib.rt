@@ -1,0 +1,1 @@
+// What a table says to the extractor: definitions in specs/. No code.

@@ -1,0 +1,4 @@
+-- The laws of the crate `sorting`.
+pub mod CountLaws
+pub mod SortLaws
+pub mod ChooseLaws

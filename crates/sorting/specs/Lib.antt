@@ -1,0 +1,3 @@
+-- The definitions of the crate `sorting`.
+pub mod Sort
+pub mod Least

@@ -1,0 +1,1 @@
+// Sorted lists of numbers: definitions in specs/, theorems in proofs/. No code.

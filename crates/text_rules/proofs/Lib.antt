@@ -1,0 +1,3 @@
+-- The laws of the crate `text_rules`.
+pub mod FormLaws
+pub mod Cases

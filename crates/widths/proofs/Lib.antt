@@ -1,0 +1,3 @@
+-- The laws of the crate `widths`.
+pub mod WidthLaws
+pub mod FlatLaws

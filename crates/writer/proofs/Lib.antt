@@ -1,0 +1,4 @@
+-- The laws of the crate `writer`.
+pub mod PieceLaws
+pub mod WritingLaws
+pub mod MeasuringLaws
