@@ -62,11 +62,13 @@ entry-get (e ∷ es) (suc k) all h =
     ∙ entry-get es k (allWide-tail e es all) (omega arith)
 
 -- the first n entries of the flat table are the first n entries
-pub entriesIn-entriesOf : (es : List (List ℕ)) (n : ℕ) → AllWide es → n ≤ length es → entriesIn (entriesOf es) n ≡ take n es
+pub entriesIn-entriesOf : (es : List (List ℕ)) (n : ℕ) → AllWide es → n ≤ length es → entriesIn (entriesOf es) n ≡
+    take n es
 unfolding entriesIn
 entriesIn-entriesOf es zero all h = refl
 entriesIn-entriesOf es (suc n) all h =
-    rw (entriesIn-entriesOf es n all (omega arith), entry-get es n all (omega arith)) (sym (take-suc es n [] (omega arith)))
+    rw (entriesIn-entriesOf es n all (omega arith), entry-get es n all (omega arith)) (sym (take-suc es n [] (omega
+    arith)))
 
 pub entriesIn-length : (bs : List ℕ) (n : ℕ) → length (entriesIn bs n) ≡ n
 unfolding entriesIn
@@ -124,7 +126,8 @@ unfolding entriesOf AllWide
 copied-none ns bs = record { bytes = refl; wide = λ k h. absurd (omega arith) }
 
 wide-more :
-    (ns : List (List ℕ)) (i : ℕ) → i < length ns → AllWide (take i ns) → length (getD ns i []) ≡ 32 → AllWide (take (suc i) ns)
+    (ns : List (List ℕ)) (i : ℕ) → i < length ns → AllWide (take i ns) → length (getD ns i []) ≡ 32 → AllWide (take
+    (suc i) ns)
 unfolding AllWide
 wide-more ns i l all e j h = elim (eq-or-lt-of-le before) [ inl s ↦ new s | inr s ↦ old s ]
   where
@@ -212,7 +215,11 @@ putTo-more ns bs e k l is =
     ∙ ap (λ (i : ℕ). entriesIn bs i ++ drop i ns) (sym (add-one k))
 
 pub putTo-length : (ns : List (List ℕ)) (bs : List ℕ) (k : ℕ) → k ≤ length ns → length (putTo ns bs k) ≡ length ns
-putTo-length ns bs k l = length-append (entriesIn bs k) (drop k ns) ∙ omega (arith, entriesIn-length bs k, length-drop k ns)
+putTo-length ns bs k l = length-append (entriesIn bs k) (drop k ns) ∙ omega (
+  arith,
+  entriesIn-length bs k,
+  length-drop k ns,
+)
 
 pub putTo-whole :
     (ns : List (List ℕ)) (bs : List ℕ) (n : ℕ) → n ≡ min 128 (length ns) → putTo ns bs n ≡ entriesAfter ns bs

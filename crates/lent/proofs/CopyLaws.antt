@@ -119,6 +119,7 @@ putTo-more ys rs ls i l =
     ∙ sym (append-assoc (recordsIn rs ls i) (recordIn rs ls i ∷ []) (drop (suc i) ys))
     ∙ ap (λ (k : ℕ). recordsIn rs ls k ++ drop k ys) (sym (add-one i))
 
-pub putTo-length : (ys : List Term) (rs : List ℕ) (ls : List ℤ) (i : ℕ) → i ≤ length ys → length (putTo ys rs ls i) ≡ length ys
+pub putTo-length : (ys : List Term) (rs : List ℕ) (ls : List ℤ) (i : ℕ) → i ≤ length ys → length (putTo ys rs ls i) ≡
+    length ys
 putTo-length ys rs ls i l =
     length-append (recordsIn rs ls i) (drop i ys) ∙ omega (arith, recordsIn-length rs ls i, length-drop i ys)

@@ -62,7 +62,8 @@ use denote.Steps.{owned, peeks, only}
 
 -- a constant of 256 or more is `intBig` in MIR
 pub big-lit :
-    {M : Type 1} {𝓤 : URA M} {H : Heap 𝓤} {A : Atoms 𝓤} {K : Type 0} {W : Given 𝓤 H A} {Γ : List (Item 𝓤)} {E : Env 𝓤 H} →
+    {M : Type 1} {𝓤 : URA M} {H : Heap 𝓤} {A : Atoms 𝓤} {K : Type 0} {W : Given 𝓤 H A} {Γ : List (Item 𝓤)} {E : Env 𝓤
+    H} →
     K → {w : Width} {n : ℕ} → Fits w n → Opd K W Γ E (intBig w n) (vint w n)
 big-lit {𝓤 = 𝓤} t {w} {n} z = record { go = λ Kt h. via 𝓤 (Kt (vint w n)) h (guardI 𝓤 (Fits w n) (Kt (vint w n)) z) }
 
@@ -84,7 +85,8 @@ abbrev pub KeptShown : (R : RattleType) → Lft → Lft → Share → ℕ → �
 KeptShown R κ κ′ q b o γ ys =
     fsep (flent κ′ (arr-parts (shares R) (length ys) .part fullShare ys b o)) (Open R κ q b o γ ys)
 
-module _ {M : Type 1} {𝓤 : URA M} {H : Heap 𝓤} {A : Atoms 𝓤} {K : Type 0} {W : Given 𝓤 H A} {Γ : List (Item 𝓤)} {G : Goal 𝓤 H} where
+module _ {M : Type 1} {𝓤 : URA M} {H : Heap 𝓤} {A : Atoms 𝓤} {K : Type 0} {W : Given 𝓤 H A} {Γ : List (Item 𝓤)} {G :
+    Goal 𝓤 H} where
   -- ---- a local array
   -- its cell, as the row of its elements
   array-opens :
@@ -94,7 +96,8 @@ module _ {M : Type 1} {𝓤 : URA M} {H : Heap 𝓤} {A : Atoms 𝓤} {K : Type 
       Seq K W (‵ (fat fullShare (tyArray (lone (R .mir)) n) b 0 w) ∷ Γ) G
   unfolding partOf
   array-opens t R one n b mk xs w is k =
-      use1 W (‵ (cellAt fullShare (Array R n .mir) (w ∷ []) b 0)) (W .laws .at-raw fullShare (tyArray (lone (R .mir)) n) b 0 w) $
+      use1 W (‵ (cellAt fullShare (Array R n .mir) (w ∷ []) b 0)) (W .laws .at-raw fullShare (tyArray (lone (R .mir))
+      n) b 0 w) $
       owned t (Array R n) (Is (Array R n)) mk xs (w ∷ []) is $ move t (1 ∷ 0 ∷ []) $ fjoin t $
       fpack t (List Val) (λ us. fsep (cellAt fullShare (Array R n .mir) us b 0) (Array R n .own xs us)) (w ∷ []) $
       use1 W (‵ (arr-parts (shares R) n .part fullShare xs b 0)) (array-apart 𝓤 H A W R fullShare one n xs b 0) $
@@ -111,15 +114,18 @@ module _ {M : Type 1} {𝓤 : URA M} {H : Heap 𝓤} {A : Atoms 𝓤} {K : Type 
   array-closes t R n b vals tl xs e k =
       feqI t ℕ (length xs) n e $ fjoin t $
       use1 W (‵ (partAt (Array R n) fullShare xs b 0)) (array-whole 𝓤 H A W R fullShare n xs b 0) $ fpick t (λ vs.
-      fsplit t $ move t (1 ∷ []) $ peeks t (Array R n) (Is (Array R n)) (shows 𝓤 H A (Array R n)) xs vs (λ is. drop t $
-      rewrite t 0 (λ (us : List Val). ‵ (cellAt fullShare (Array R n .mir) us b 0)) (array-tells R vals tl n xs vs is) refl $
+      fsplit t $ move t (1 ∷ []) $ peeks t (Array R n) (Is (Array R n)) (shows 𝓤 H A (Array R n)) xs vs (λ is. drop t
+      $
+      rewrite t 0 (λ (us : List Val). ‵ (cellAt fullShare (Array R n .mir) us b 0)) (array-tells R vals tl n xs vs
+      is) refl $
       use1 W (‵ (fat fullShare (tyArray (lone (R .mir)) n) b 0 (only (array-vals vals xs))))
       (W .laws .raw-at fullShare (tyArray (lone (R .mir)) n) b 0 (only (array-vals vals xs))) $
       k (subst (Is (Array R n) xs) (array-tells R vals tl n xs vs is) is)))
 
   pub array-lent :
       K → Soaks G → (R : RattleType) → Single (R .mir) → (n b : ℕ) (ℓ : Lifetime) →
-      Makes 𝓤 H A (Array R n) (Is (Array R n)) → Room R n → (xs : List (R .Denot)) (w : Val) → Is (Array R n) xs (w ∷ []) →
+      Makes 𝓤 H A (Array R n) (Is (Array R n)) → Room R n → (xs : List (R .Denot)) (w : Val) → Is (Array R n) xs (w ∷
+      []) →
       ((ν : ℕ) (δ : GName) →
       Seq K W (‵ (flft (ν ∷ []) fullShare) ∷ ‵ (MutSlice ℓ (ν ∷ []) R .own (ref b 0 δ xs) (sliceVal (b, 0) n ∷ []))
       ∷ ‵ (flent (ν ∷ []) (Held R n b 0 δ)) ∷ Γ) G) →
@@ -127,7 +133,8 @@ module _ {M : Type 1} {𝓤 : URA M} {H : Heap 𝓤} {A : Atoms 𝓤} {K : Type 
   array-lent t a R one n b ℓ mk room xs w is k =
       array-opens t R one n b mk xs w is (λ e. lft-new t a (λ ν. move t (1 ∷ []) $
       use1 W (‵ (cells (mem R) xs b 0)) (whole-in 𝓤 H A W R xs b 0) $
-      use1 W (later (some (λ (δ : GName). ‵ (MutSlice ℓ (ν ∷ []) R .own (ref b 0 δ xs) (sliceVal (b, 0) (length xs) ∷ []))
+      use1 W (later (some (λ (δ : GName). ‵ (MutSlice ℓ (ν ∷ []) R .own (ref b 0 δ xs) (sliceVal (b, 0) (length xs) ∷
+      []))
       ⊛ ‵ (flent (ν ∷ []) (Held R (length xs) b 0 δ)))))
       (lends-slice 𝓤 H A W R ℓ (ν ∷ []) xs b 0 (subst (Room R) (sym e) room)) $ await t a $ pick t (λ δ. split t $
       rewrite t 0 (λ (m : ℕ). ‵ (MutSlice ℓ (ν ∷ []) R .own (ref b 0 δ xs) (sliceVal (b, 0) m ∷ []))) e refl $
@@ -140,13 +147,15 @@ module _ {M : Type 1} {𝓤 : URA M} {H : Heap 𝓤} {A : Atoms 𝓤} {K : Type 
       Seq K W (‵ (fat fullShare (tyArray (lone (R .mir)) n) b 0 (only (array-vals vals zs))) ∷ Γ) G) →
       Seq K W (‵ (flft (ν ∷ []) fullShare) ∷ ‵ (flent (ν ∷ []) (Held R n b 0 δ)) ∷ ‵ (finally R δ zs) ∷ Γ) G
   array-back t a R n b vals tl {ν} {δ} zs k =
-      lft-end t a $ use3 W (later (‵ (Arr (mem R) n .lies zs b 0))) (elements-back 𝓤 H A W R (ν ∷ []) δ zs n b 0) $ await t a $
+      lft-end t a $ use3 W (later (‵ (Arr (mem R) n .lies zs b 0))) (elements-back 𝓤 H A W R (ν ∷ []) δ zs n b 0) $
+      await t a $
       fsplit t $ feqL t (λ e. use1 W (‵ (row R fullShare zs b 0)) (whole-out 𝓤 H A W R zs b 0) $
       array-closes t R n b vals tl zs e k)
 
   pub array-shown :
       K → Soaks G → (R : RattleType) → Single (R .mir) → (n b : ℕ) (ℓ : Lifetime) →
-      Makes 𝓤 H A (Array R n) (Is (Array R n)) → Room R n → (xs : List (R .Denot)) (w : Val) → Is (Array R n) xs (w ∷ []) →
+      Makes 𝓤 H A (Array R n) (Is (Array R n)) → Room R n → (xs : List (R .Denot)) (w : Val) → Is (Array R n) xs (w ∷
+      []) →
       ((ν : ℕ) (δ : GName) →
       Seq K W (‵ (flft (ν ∷ []) fullShare) ∷ ‵ (ShrSlice ℓ (ν ∷ []) R .own (ref b 0 δ xs) (sliceVal (b, 0) n ∷ []))
       ∷ ‵ (flent (ν ∷ []) (arr-parts (shares R) n .part fullShare xs b 0)) ∷ Γ) G) →
@@ -154,11 +163,14 @@ module _ {M : Type 1} {𝓤 : URA M} {H : Heap 𝓤} {A : Atoms 𝓤} {K : Type 
   array-shown t a R one n b ℓ mk room xs w is k =
       array-opens t R one n b mk xs w is (λ e. lft-new t a (λ ν. move t (1 ∷ []) $
       feqI t ℕ (length xs) (length xs) refl $ fjoin t $
-      use1 W (later (some (λ (δ : GName). ‵ (ShrSlice ℓ (ν ∷ []) R .own (ref b 0 δ xs) (sliceVal (b, 0) (length xs) ∷ []))
+      use1 W (later (some (λ (δ : GName). ‵ (ShrSlice ℓ (ν ∷ []) R .own (ref b 0 δ xs) (sliceVal (b, 0) (length xs) ∷
+      []))
       ⊛ ‵ (flent (ν ∷ []) (arr-parts (shares R) (length xs) .part fullShare xs b 0)))))
-      (lends-shr-slice 𝓤 H A W R ℓ (ν ∷ []) fullShare xs b 0 (subst (Room R) (sym e) room)) $ await t a $ pick t (λ δ. split t $
+      (lends-shr-slice 𝓤 H A W R ℓ (ν ∷ []) fullShare xs b 0 (subst (Room R) (sym e) room)) $ await t a $ pick t
+      (λ δ. split t $
       rewrite t 0 (λ (m : ℕ). ‵ (ShrSlice ℓ (ν ∷ []) R .own (ref b 0 δ xs) (sliceVal (b, 0) m ∷ []))) e refl $
-      rewrite t 1 (λ (m : ℕ). ‵ (flent (ν ∷ []) (arr-parts (shares R) m .part fullShare xs b 0))) e refl $ move t (2 ∷ []) $ k ν δ)))
+      rewrite t 1 (λ (m : ℕ). ‵ (flent (ν ∷ []) (arr-parts (shares R) m .part fullShare xs b 0))) e refl $ move t (2
+      ∷ []) $ k ν δ)))
 
   pub array-unshown :
       K → Soaks G → (R : RattleType) (n b : ℕ) (vals : R .Denot → List Val) → Tells R (Is R) vals →
@@ -173,16 +185,19 @@ module _ {M : Type 1} {𝓤 : URA M} {H : Heap 𝓤} {A : Atoms 𝓤} {K : Type 
   -- ---- a `&mut [T]`, with the count m in its machine value
   -- it is opened: the row of its elements, and its borrow
   slice-opens :
-      K → Soaks G → (R : RattleType) (ℓ : Lifetime) (κ : Lft) (q : Share) (b o : ℕ) (γ : GName) (ys : List (R .Denot)) (m : ℕ) →
+      K → Soaks G → (R : RattleType) (ℓ : Lifetime) (κ : Lft) (q : Share) (b o : ℕ) (γ : GName) (ys : List (R
+      .Denot)) (m : ℕ) →
       (Room R (length ys) → Seq K W (‵ (row R fullShare ys b o) ∷ ‵ (Open R κ q b o γ ys) ∷ Γ) G) →
       Seq K W (‵ (MutSlice ℓ κ R .own (ref b o γ ys) (sliceVal (b, o) m ∷ [])) ∷ ‵ (flft κ q) ∷ Γ) G
   slice-opens t a R ℓ κ q b o γ ys m k =
-      fsplit t $ pureL t (at-slice R (ref b o γ ys) (sliceVal (b, o) m ∷ [])) (λ p. fsplit t $ opens-slice t a R ys b o $
+      fsplit t $ pureL t (at-slice R (ref b o γ ys) (sliceVal (b, o) m ∷ [])) (λ p. fsplit t $ opens-slice t a R ys b
+      o $
       move t (2 ∷ 3 ∷ []) $ fjoin t $ move t (2 ∷ 0 ∷ []) $ fjoin t $ move t (1 ∷ []) $ k (p .1))
 
   -- it is closed at a list of the same length
   slice-closes :
-      K → Soaks G → (R : RattleType) (ℓ : Lifetime) (κ : Lft) (q : Share) (b o : ℕ) (γ : GName) (ys zs : List (R .Denot)) (m : ℕ) →
+      K → Soaks G → (R : RattleType) (ℓ : Lifetime) (κ : Lft) (q : Share) (b o : ℕ) (γ : GName) (ys zs : List (R
+      .Denot)) (m : ℕ) →
       Room R m → length ys ≡ m → length zs ≡ length ys →
       Step K W (‵ (MutSlice ℓ κ R .own (ref b o γ zs) (sliceVal (b, o) m ∷ [])) ∷ ‵ (flft κ q) ∷ Γ) G
       (‵ (row R fullShare zs b o) ∷ ‵ (Open R κ q b o γ ys) ∷ Γ) G
@@ -198,7 +213,8 @@ module _ {M : Type 1} {𝓤 : URA M} {H : Heap 𝓤} {A : Atoms 𝓤} {K : Type 
       same-as p r = rw r p
 
   pub slice-lent :
-      K → Soaks G → (R : RattleType) (ℓ ℓ′ : Lifetime) (κ : Lft) (q : Share) (b o : ℕ) (γ : GName) (ys : List (R .Denot)) (m : ℕ) →
+      K → Soaks G → (R : RattleType) (ℓ ℓ′ : Lifetime) (κ : Lft) (q : Share) (b o : ℕ) (γ : GName) (ys : List (R
+      .Denot)) (m : ℕ) →
       length ys ≡ m →
       ((ν : ℕ) (δ : GName) →
       Seq K W (‵ (flft (ν ∷ []) fullShare) ∷ ‵ (MutSlice ℓ′ (ν ∷ []) R .own (ref b o δ ys) (sliceVal (b, o) m ∷ []))
@@ -207,25 +223,29 @@ module _ {M : Type 1} {𝓤 : URA M} {H : Heap 𝓤} {A : Atoms 𝓤} {K : Type 
   slice-lent t a R ℓ ℓ′ κ q b o γ ys m e k =
       slice-opens t a R ℓ κ q b o γ ys m (λ room. lft-new t a (λ ν. move t (1 ∷ []) $
       use1 W (‵ (cells (mem R) ys b o)) (whole-in 𝓤 H A W R ys b o) $
-      use1 W (later (some (λ (δ : GName). ‵ (MutSlice ℓ′ (ν ∷ []) R .own (ref b o δ ys) (sliceVal (b, o) (length ys) ∷ []))
+      use1 W (later (some (λ (δ : GName). ‵ (MutSlice ℓ′ (ν ∷ []) R .own (ref b o δ ys) (sliceVal (b, o) (length ys)
+      ∷ []))
       ⊛ ‵ (flent (ν ∷ []) (Held R (length ys) b o δ)))))
       (lends-slice 𝓤 H A W R ℓ′ (ν ∷ []) ys b o room) $ await t a $ pick t (λ δ. split t $
       rewrite t 0 (λ (c : ℕ). ‵ (MutSlice ℓ′ (ν ∷ []) R .own (ref b o δ ys) (sliceVal (b, o) c ∷ []))) e refl $
       move t (1 ∷ 3 ∷ []) $ fjoin t $ move t (2 ∷ 1 ∷ 0 ∷ []) $ k ν δ)))
 
   pub slice-back :
-      K → Soaks G → (R : RattleType) (ℓ : Lifetime) (κ : Lft) (q : Share) (b o : ℕ) (γ : GName) (ys zs : List (R .Denot)) (m : ℕ) →
+      K → Soaks G → (R : RattleType) (ℓ : Lifetime) (κ : Lft) (q : Share) (b o : ℕ) (γ : GName) (ys zs : List (R
+      .Denot)) (m : ℕ) →
       Room R m → length ys ≡ m → length zs ≡ length ys → {ν : ℕ} {δ : GName} →
       Step K W (‵ (MutSlice ℓ κ R .own (ref b o γ zs) (sliceVal (b, o) m ∷ [])) ∷ ‵ (flft κ q) ∷ Γ) G
       (‵ (flft (ν ∷ []) fullShare) ∷ ‵ (Kept R κ (ν ∷ []) q b o γ ys δ) ∷ ‵ (finally R δ zs) ∷ Γ) G
   slice-back t a R ℓ κ q b o γ ys zs m room e same {ν} {δ} = step (λ s.
       lft-end t a $ move t (1 ∷ []) $ fsplit t $ move t (2 ∷ 0 ∷ 3 ∷ []) $
-      use3 W (later (‵ (Arr (mem R) (length ys) .lies zs b o))) (elements-back 𝓤 H A W R (ν ∷ []) δ zs (length ys) b o) $ await t a $
+      use3 W (later (‵ (Arr (mem R) (length ys) .lies zs b o))) (elements-back 𝓤 H A W R (ν ∷ []) δ zs (length ys) b
+      o) $ await t a $
       fsplit t $ drop t $ use1 W (‵ (row R fullShare zs b o)) (whole-out 𝓤 H A W R zs b o) $
       slice-closes t a R ℓ κ q b o γ ys zs m room e same $ s)
 
   pub slice-shown :
-      K → Soaks G → (R : RattleType) (ℓ ℓ′ : Lifetime) (κ : Lft) (q : Share) (b o : ℕ) (γ : GName) (ys : List (R .Denot)) (m : ℕ) →
+      K → Soaks G → (R : RattleType) (ℓ ℓ′ : Lifetime) (κ : Lft) (q : Share) (b o : ℕ) (γ : GName) (ys : List (R
+      .Denot)) (m : ℕ) →
       length ys ≡ m →
       ((ν : ℕ) (δ : GName) →
       Seq K W (‵ (flft (ν ∷ []) fullShare) ∷ ‵ (ShrSlice ℓ′ (ν ∷ []) R .own (ref b o δ ys) (sliceVal (b, o) m ∷ []))
@@ -234,14 +254,16 @@ module _ {M : Type 1} {𝓤 : URA M} {H : Heap 𝓤} {A : Atoms 𝓤} {K : Type 
   slice-shown t a R ℓ ℓ′ κ q b o γ ys m e k =
       slice-opens t a R ℓ κ q b o γ ys m (λ room. lft-new t a (λ ν. move t (1 ∷ []) $
       feqI t ℕ (length ys) (length ys) refl $ fjoin t $
-      use1 W (later (some (λ (δ : GName). ‵ (ShrSlice ℓ′ (ν ∷ []) R .own (ref b o δ ys) (sliceVal (b, o) (length ys) ∷ []))
+      use1 W (later (some (λ (δ : GName). ‵ (ShrSlice ℓ′ (ν ∷ []) R .own (ref b o δ ys) (sliceVal (b, o) (length ys)
+      ∷ []))
       ⊛ ‵ (flent (ν ∷ []) (arr-parts (shares R) (length ys) .part fullShare ys b o)))))
       (lends-shr-slice 𝓤 H A W R ℓ′ (ν ∷ []) fullShare ys b o room) $ await t a $ pick t (λ δ. split t $
       rewrite t 0 (λ (c : ℕ). ‵ (ShrSlice ℓ′ (ν ∷ []) R .own (ref b o δ ys) (sliceVal (b, o) c ∷ []))) e refl $
       move t (1 ∷ 3 ∷ []) $ fjoin t $ move t (2 ∷ 1 ∷ 0 ∷ []) $ k ν δ)))
 
   pub slice-unshown :
-      K → Soaks G → (R : RattleType) (ℓ : Lifetime) (κ : Lft) (q : Share) (b o : ℕ) (γ : GName) (ys : List (R .Denot)) (m : ℕ) →
+      K → Soaks G → (R : RattleType) (ℓ : Lifetime) (κ : Lft) (q : Share) (b o : ℕ) (γ : GName) (ys : List (R
+      .Denot)) (m : ℕ) →
       Room R m → length ys ≡ m → {ν : ℕ} →
       Step K W (‵ (MutSlice ℓ κ R .own (ref b o γ ys) (sliceVal (b, o) m ∷ [])) ∷ ‵ (flft κ q) ∷ Γ) G
       (‵ (flft (ν ∷ []) fullShare) ∷ ‵ (KeptShown R κ (ν ∷ []) q b o γ ys) ∷ Γ) G

@@ -29,7 +29,8 @@ abbrev pub term : ℕ → ℕ → ℕ → ℤ → List ℕ → Term
 term k s c z ks = record { kind = k; symbol = s; count = c; literal = z; children = ks }
 
 pub same-fields :
-    {k k′ s s′ c c′ : ℕ} {ks ks′ : List ℕ} (z : ℤ) → k ≡ k′ → s ≡ s′ → c ≡ c′ → ks ≡ ks′ → term k s c z ks ≡ term k′ s′ c′ z ks′
+    {k k′ s s′ c c′ : ℕ} {ks ks′ : List ℕ} (z : ℤ) → k ≡ k′ → s ≡ s′ → c ≡ c′ → ks ≡ ks′ → term k s c z ks ≡ term k′
+    s′ c′ z ks′
 same-fields z p q r t = λ i. term (p i) (q i) (r i) z (t i)
 
 pub numbers-length : (t : Term) → Eight t → length (numbers t) ≡ 11
@@ -38,7 +39,8 @@ numbers-length t e = ap (λ (n : ℕ). suc (suc (suc n))) e
 pub flat-append : (ts us : List Term) → flat (ts ++ us) ≡ flat ts ++ flat us
 unfolding flat
 flat-append [] us = refl
-flat-append (t ∷ ts) us = ap (λ (l : List ℕ). numbers t ++ l) (flat-append ts us) ∙ sym (append-assoc (numbers t) (flat ts) (flat us))
+flat-append (t ∷ ts) us = ap (λ (l : List ℕ). numbers t ++ l) (flat-append ts us) ∙ sym (append-assoc (numbers t)
+    (flat ts) (flat us))
 
 pub literalsOf-append : (ts us : List Term) → literalsOf (ts ++ us) ≡ literalsOf ts ++ literalsOf us
 unfolding literalsOf
@@ -67,7 +69,8 @@ flat-length (t ∷ ts) all =
 
 -- record i + 1 is record i of what follows the first record
 recordIn-suc :
-    (a rs : List ℕ) (z : ℤ) (ls : List ℤ) (i : ℕ) → length a ≡ 11 → recordIn (a ++ rs) (z ∷ ls) (suc i) ≡ recordIn rs ls i
+    (a rs : List ℕ) (z : ℤ) (ls : List ℤ) (i : ℕ) → length a ≡ 11 → recordIn (a ++ rs) (z ∷ ls) (suc i) ≡ recordIn rs
+    ls i
 unfolding recordIn
 recordIn-suc a rs z ls i e =
     let at : (k : ℕ) → getD (a ++ rs) (suc i * 11 + k) 0 ≡ getD rs (i * 11 + k) 0 = λ k.
@@ -86,7 +89,8 @@ pub recordIn-flat :
     (ts : List Term) (i : ℕ) → AllEight ts → i < length ts → recordIn (flat ts) (literalsOf ts) i ≡ getD ts i noTerm
 unfolding flat literalsOf recordIn
 recordIn-flat [] i all h = absurd (omega arith)
-recordIn-flat (t ∷ ts) zero all h = ap (term (t .kind) (t .symbol) (t .count) (t .literal)) (take-at (t .children) (flat ts) 8 (allEight-head t ts all))
+recordIn-flat (t ∷ ts) zero all h = ap (term (t .kind) (t .symbol) (t .count) (t .literal)) (take-at (t .children)
+    (flat ts) 8 (allEight-head t ts all))
 recordIn-flat (t ∷ ts) (suc i) all h =
     recordIn-suc (numbers t) (flat ts) (t .literal) (literalsOf ts) i (numbers-length t (allEight-head t ts all))
     ∙ recordIn-flat ts i (allEight-tail t ts all) (omega arith)
@@ -97,7 +101,8 @@ pub recordsIn-flat :
 unfolding recordsIn
 recordsIn-flat ts zero all h = refl
 recordsIn-flat ts (suc n) all h =
-    rw (recordsIn-flat ts n all (omega arith), recordIn-flat ts n all (omega arith)) (sym (take-suc ts n noTerm (omega arith)))
+    rw (recordsIn-flat ts n all (omega arith), recordIn-flat ts n all (omega arith)) (sym (take-suc ts n noTerm
+    (omega arith)))
 
 pub recordsIn-length : (rs : List ℕ) (ls : List ℤ) (n : ℕ) → length (recordsIn rs ls n) ≡ n
 unfolding recordsIn
@@ -124,7 +129,8 @@ drop-three rs a h =
 
 -- the eleven numbers of record n are those that stand there
 pub numbers-recordIn :
-    (rs : List ℕ) (ls : List ℤ) (n : ℕ) → n * 11 + 11 ≤ length rs → numbers (recordIn rs ls n) ≡ take 11 (drop (n * 11) rs)
+    (rs : List ℕ) (ls : List ℤ) (n : ℕ) → n * 11 + 11 ≤ length rs → numbers (recordIn rs ls n) ≡ take 11 (drop (n *
+    11) rs)
 unfolding recordIn
 numbers-recordIn rs ls n h = sym (ap (take 11) (drop-three rs (n * 11) h))
 
@@ -136,7 +142,12 @@ flat-recordsIn rs ls zero h = refl
 flat-recordsIn rs ls (suc n) h =
     let e : n * 11 + 11 ≡ suc n * 11 = omega arith in
     flat-append (recordsIn rs ls n) (recordIn rs ls n ∷ [])
-    ∙ rw (flat-recordsIn rs ls n (omega arith), append-nil (numbers (recordIn rs ls n)), numbers-recordIn rs ls n (omega arith)) refl
+    ∙ rw (
+      flat-recordsIn rs ls n (omega arith),
+      append-nil (numbers (recordIn rs ls n)),
+      numbers-recordIn rs ls n
+          (omega arith),
+    ) refl
     ∙ sym (take-add (n * 11) 11 rs)
     ∙ ap (λ (k : ℕ). take k rs) e
 

@@ -37,6 +37,18 @@ pub loaded-store :
 unfolding storeIn lentStore
 loaded-store ts ns f n m l = rw (l .numbers, l .literals)
 
+-- as many records as were copied can be put back
+pub loaded-fits :
+    (ts : List Term) (f g : Flat) → Loaded ts f → g .room ≡ f .room → (g .room ≤ length ts) × (g .room ≤ 1024)
+loaded-fits ts f g l e = (omega (arith, e, l .room), omega (arith, e, l .room))
+
+-- the same with the names copied too
+pub storeIn-is :
+    (f : Flat) (ns : List (List ℕ)) (n m : ℕ) (bs : List ℕ) → bs ≡ entriesOf (take 128 ns) →
+    store (take (f .room * 11) (f .records)) (take (f .room) (f .literals)) bs n m ≡ storeIn f ns n m
+unfolding storeIn
+storeIn-is f ns n m bs e = rw e
+
 -- the records of the store are the lent records
 pub lentStore-record :
     (ts : List Term) (ns : List (List ℕ)) (n m i : ℕ) → AllEight (take 1024 ts) → i < length (take 1024 ts) →
@@ -56,7 +68,8 @@ lentStore-symbol ts ns n m k all h short =
 
 -- a store that is as it was leaves the records as they were
 pub recordsAfter-same :
-    (ts : List Term) (ns : List (List ℕ)) (n m : ℕ) → AllEight (take 1024 ts) → recordsAfter ts (lentStore ts ns n m) ≡ ts
+    (ts : List Term) (ns : List (List ℕ)) (n m : ℕ) → AllEight (take 1024 ts) → recordsAfter ts (lentStore ts ns n m)
+    ≡ ts
 unfolding recordsAfter lentStore
 recordsAfter-same ts ns n m all =
     let e : min 1024 (length ts) ≡ length (take 1024 ts) = sym (length-take 1024 ts) in
@@ -130,7 +143,8 @@ recordIn-take rs ls n k h =
     same-fields (getD (take n ls) k (pos 0)) (getD-take (n * 11) rs (k * 11) 0 (omega arith))
     (getD-take (n * 11) rs (k * 11 + 1) 0 (omega arith)) (getD-take (n * 11) rs (k * 11 + 2) 0 (omega arith))
     (part-take rs (n * 11) (k * 11 + 3) 8 (omega arith))
-    ∙ ap (λ (z : ℤ). term (getD rs (k * 11) 0) (getD rs (k * 11 + 1) 0) (getD rs (k * 11 + 2) 0) z (take 8 (drop (k * 11 + 3) rs)))
+    ∙ ap (λ (z : ℤ). term (getD rs (k * 11) 0) (getD rs (k * 11 + 1) 0) (getD rs (k * 11 + 2) 0) z (take 8 (drop (k *
+    11 + 3) rs)))
     (getD-take n ls k (pos 0) h)
 
 -- the first k records need no more than their numbers and literals
@@ -146,7 +160,9 @@ pub recordsAfter-storeIn :
     recordsIn (f .records) (f .literals) (f .room) ++ drop (f .room) ts ≡ recordsAfter ts (storeIn f ns n m)
 unfolding recordsAfter storeIn
 recordsAfter-storeIn ts ns f n m e =
-    ap (λ (l : List Term). l ++ drop (f .room) ts) (sym (recordsIn-take (f .records) (f .literals) (f .room) (f .room) (omega arith)))
+    ap (λ (l : List Term). l ++ drop (f .room) ts) (sym (recordsIn-take (f .records) (f .literals) (f .room) (f
+    .room) (omega arith)))
     ∙ ap (λ (k : ℕ). recordsIn (take (f .room * 11) (f .records)) (take (f .room) (f .literals)) k ++ drop k ts) e
-    ∙ ap (λ (l : List Term). recordsIn (take (f .room * 11) (f .records)) (take (f .room) (f .literals)) (min 1024 (length ts)) ++ l)
+    ∙ ap (λ (l : List Term). recordsIn (take (f .room * 11) (f .records)) (take (f .room) (f .literals)) (min 1024
+    (length ts)) ++ l)
     (drop-min 1024 ts)

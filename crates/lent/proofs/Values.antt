@@ -36,7 +36,8 @@ module _ (f : Flat) (vs : List Val) (is : Is F.the-row f vs) where
   -- its literals an array of 1,024
   pub literals-of : Is (Array i64 1024) (f .literals) (array-vals (sint-vals w64) (f .literals))
   literals-of =
-      subst (λ (xs : List (i64 .Denot)). Is (Array i64 1024) xs (array-vals (sint-vals w64) xs)) (map-same (f .literals))
+      subst (λ (xs : List (i64 .Denot)). Is (Array i64 1024) xs (array-vals (sint-vals w64) xs)) (map-same (f
+      .literals))
       (LL.owed F.the-type F′.the-laws f vs is .1 .0)
 
   -- its count a machine word

@@ -48,7 +48,8 @@ loop-again c =
         omega arith,
         (
           simp length-set (l .inv .1 .1 .0),
-          entry-more (g .names .now) (l .e) (g .k * 32) (l .j) (omega arith) (omega arith) (omega arith) (l .inv .1 .1 .1),
+          entry-more (g .names .now) (l .e) (g .k * 32) (l .j) (omega arith) (omega arith) (omega arith) (l .inv .1
+              .1 .1),
         ),
       ),
     )

@@ -26,8 +26,17 @@ room-of-requires : tie.Need-room-of-requires Inv-loop μ-loop
 room-of-requires c κs = search needs
 
 loop-holds : tie.Need-loop-holds Inv-loop μ-loop
-loop-holds c =
-    (c .room-of .ensures, (omega arith, (refl, copied-none (c .before .before .args .ns .now) (c .before .before .args .names .now))))
+loop-holds c = (
+  c .room-of .ensures,
+  (
+    omega arith,
+    (
+      refl,
+      copied-none (c .before .before .args .ns .now) (c .before .before
+          .args .names .now),
+    ),
+  ),
+)
 
 name-at-requires : tie.Need-name-at-requires Inv-loop μ-loop
 name-at-requires c κs = search needs
@@ -50,11 +59,13 @@ loop-again c =
     let l = c .before .before .before .before .before .before .before .loop in
     let e = c .before .before .before .before .before .name-at in
     let put = c .before .before .put-entry in
-    let less : l .k < c .before .before .before .before .before .before .before .before .room-of .result = omega arith in
+    let less : l .k < c .before .before .before .before .before .before .before .before .room-of .result = omega
+    arith in
     let fits : l .k * 32 + 32 ≤ length (l .names) = omega arith in
     let wide : length (e .result) ≡ 32 = e .ensures .1 in
     let copied : CopiedNames (g .ns .now) (l .k + 1) (paste (l .names) (l .k * 32) (e .result) 32) =
-    copied-more (g .ns .now) (l .k) (l .names) (e .result) (omega arith) (e .ensures .0) wide fits (l .inv .1 .1 .1) in
+    copied-more (g .ns .now) (l .k) (l .names) (e .result) (omega arith) (e .ensures .0) wide fits (l .inv .1 .1 .1)
+    in
     let long : length (paste (l .names) (l .k * 32) (e .result) 32) ≡ length (l .names) =
     length-paste (l .names) (l .k * 32) (e .result) 32 fits (omega arith) in (
       l .inv .0,

@@ -48,7 +48,8 @@ loop-again c =
       (
         omega arith,
         (
-          rw (l .inv .1 .1 .0) (rw add-one (paste-suc (g .names .now) (g .k * 32) (g .e .now) (l .j) 0 (omega arith) (omega arith))),
+          rw (l .inv .1 .1 .0) (rw add-one (paste-suc (g .names .now) (g .k * 32) (g .e .now) (l .j) 0 (omega arith)
+              (omega arith))),
           simp length-set (l .inv .1 .1 .1),
         ),
       ),

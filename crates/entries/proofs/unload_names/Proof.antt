@@ -53,7 +53,8 @@ loop-again c =
         (
           length-set (l .ns) (l .k) (c .entry-of .result) ∙ l .inv .1 .1 .0,
           ap (λ (t : List (List ℕ)). set t (l .k) (c .entry-of .result)) (l .inv .1 .1 .1)
-              ∙ putTo-more (g .ns .now) (g .names .now) (c .entry-of .result) (l .k) (omega arith) (c .entry-of .ensures),
+              ∙ putTo-more (g .ns .now) (g .names .now) (c .entry-of .result) (l .k) (omega arith) (c .entry-of
+              .ensures),
         ),
       ),
     )

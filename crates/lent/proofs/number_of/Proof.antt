@@ -38,7 +38,8 @@ shared-slice-read-result c = search needs
 returns-4 : tie.Need-returns-4
 returns-4 c =
     let g = c .before .before .before .before .args in
-    number-of-child (g .kind) (g .symbol) (g .count) (g .children .now) (g .j) (λ e. omega (arith, e)) (λ e. omega (arith, e)) (λ e. omega (arith, e))
+    number-of-child (g .kind) (g .symbol) (g .count) (g .children .now) (g .j) (λ e. omega (arith, e)) (λ e. omega
+    (arith, e)) (λ e. omega (arith, e))
 
 pub number-of-spec : {M : Type 1} → statement M
 number-of-spec =

@@ -16,7 +16,8 @@ use Rattle.lent.proofs.number_of.Reads as number-of-reads
 
 abbrev Inv-loop : tie.InvT-loop
 Inv-loop records₀ literals i t literal children at j₀ records j =
-    (at ≡ i * 11) × ((j ≤ 11) × ((records ≡ paste records₀ (i * 11) (numbers t) j) × ((length records ≡ length records₀) × (children ≡ t .children))))
+    (at ≡ i * 11) × ((j ≤ 11) × ((records ≡ paste records₀ (i * 11) (numbers t) j) × ((length records ≡ length
+    records₀) × (children ≡ t .children))))
 
 abbrev μ-loop : tie.MeasureT-loop
 μ-loop records₀ literals i t literal children at j₀ records j = 11 - j
@@ -60,8 +61,21 @@ loop-again : tie.Need-loop-again Inv-loop μ-loop
 loop-again c =
     let g = c .before .before .before .before .before .before .before .args in
     let l = c .before .before .before .loop in
-    let h : l .j < length (numbers (g .t)) = omega (arith, numbers-length (g .t) (c .before .before .before .before .before .before .before .pre .1)) in
-    (refl, (omega arith, (rw (l .inv .1 .1 .0, c .number-of .ensures) (rw add-one (paste-suc (g .records .now) (g .i * 11) (numbers (g .t)) (l .j) 0 (omega arith) h)), (simp length-set (l .inv .1 .1 .1 .0), refl))))
+    let h : l .j < length (numbers (g .t)) = omega (
+      arith,
+      numbers-length (g .t) (c .before .before .before .before
+          .before .before .before .pre .1),
+    ) in (
+      refl,
+      (
+        omega arith,
+        (
+          rw (l .inv .1 .1 .0, c .number-of .ensures) (rw add-one (paste-suc (g .records .now) (g .i
+              * 11) (numbers (g .t)) (l .j) 0 (omega arith) h)),
+          (simp length-set (l .inv .1 .1 .1 .0), refl),
+        ),
+      ),
+    )
 
 same-length : tie.Need-same-length Inv-loop μ-loop
 same-length c = search needs
