@@ -14,15 +14,11 @@ pub fn meet(
     i: usize,
     t: usize,
 ) -> usize
-    requires {
-        ⌜ Ready (now records) (now wanted) (now places) (now terms) (now indents) n m i t ⌝
-    }
-    ensures {
-        λ r. ⌜
-            Done (now (records .entry)) (now (wanted .entry)) (now (terms .entry)) (now (indents .entry)) m i t
-            (now (places .exit)) (now (terms .exit)) (now (indents .exit)) r
-        ⌝
-    }
+    requires { ⌜ Ready (now records) (now wanted) (now places) (now terms) (now indents) n m i t ⌝ }
+    ensures { λ r. ⌜
+        Done (now (records .entry)) (now (wanted .entry)) (now (terms .entry)) (now (indents .entry)) m i t
+        (now (places .exit)) (now (terms .exit)) (now (indents .exit)) r
+        ⌝ }
 {
     if 0 < places[t] {
         return m;
@@ -33,7 +29,17 @@ pub fn meet(
     let mut b = m;
     let mut j = 0;
     while j < ks.len() {
-        b = meet(records, wanted, places, terms, indents, n, b, i + 2, ks[j] as usize);
+        b = meet(
+            records,
+            wanted,
+            places,
+            terms,
+            indents,
+            n,
+            b,
+            i + 2,
+            ks[j] as usize,
+        );
         j += 1;
     }
     if wanted[t] == 0 {

@@ -54,21 +54,31 @@ ownIn-full : (name : List ℕ) (c : ℕ) (me rs : List ℕ) (ls : List ℤ) (ns 
 unfolding ownIn
 ownIn-full name c me rs ls ns = refl
 
-module _ (p : Plan) (s : State) (c r : ℕ) where
-  pub exact-of-kept : 0 < getD (s .memo) c 0 → Exact p r s c (done (getD (s .memo) c 0 - 1) s)
+module _ (p : Plan) (s : State) (c : ℕ) where
+  pub buildIn-when-kept : (f : ℕ) → 0 < getD (s .memo) c 0 → buildIn p (suc f) s c ≡ done (getD (s .memo) c 0 - 1) s
   unfolding buildIn
-  exact-of-kept l (suc f) h = rw (lt-ltb _ _ l, buildIn)
-  exact-of-kept l zero h = absurd (omega arith)
+  buildIn-when-kept f l = rw (lt-ltb _ _ l, buildIn)
 
-  -- a class that the memo does not name is built by its children
-  exact-of-children :
-      (o : Out ℕ) →
+  pub buildIn-when-new :
+      (f : ℕ) →
       getD (s .memo) c 0 ≤ 0 →
-      ((f : ℕ) → r ≤ f → ownIn (p .name c) c (childrenIn (buildIn p f) s [] (p .children c)) ≡ o) →
-      Exact p r s c o
+      buildIn p (suc f) s c ≡ ownIn (p .name c) c (childrenIn (buildIn p f) s [] (p .children c))
   unfolding buildIn
-  exact-of-children o z e (suc f) h = rw (le-ltb _ _ z, buildIn) (e f (omega arith))
-  exact-of-children o z e zero h = absurd (omega arith)
+  buildIn-when-new f z = rw (le-ltb _ _ z, buildIn)
+
+  module _ (r : ℕ) where
+    pub exact-of-kept : 0 < getD (s .memo) c 0 → Exact p r s c (done (getD (s .memo) c 0 - 1) s)
+    exact-of-kept l (suc f) h = buildIn-when-kept f l
+    exact-of-kept l zero h = absurd (omega arith)
+
+    -- a class that the memo does not name is built by its children
+    exact-of-children :
+        (o : Out ℕ) →
+        getD (s .memo) c 0 ≤ 0 →
+        ((f : ℕ) → r ≤ f → ownIn (p .name c) c (childrenIn (buildIn p f) s [] (p .children c)) ≡ o) →
+        Exact p r s c o
+    exact-of-children o z e (suc f) h = buildIn-when-new f z ∙ e f (omega arith)
+    exact-of-children o z e zero h = absurd (omega arith)
 
 -- The child x of class c is built, by a call or as a literal.
 pub record Made (p : Plan) (r : ℕ) (s : State) (x : Child) (o : Out ℕ) : Type 0 where

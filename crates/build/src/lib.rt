@@ -96,7 +96,7 @@ fn own_term(
 
 // The term of class `c`: its children first, left to right, then the term itself, once per class (src/extract.rs,
 // reconstruct_termdag_node_helper). Each call is on a class of a lower rank, so there are at most as many calls inside
-// one another as classes.
+// one another as classes. The ranks are the measure, and no code reads them.
 pub fn build(
     plan: &[u64],
     ranks: &[u64],

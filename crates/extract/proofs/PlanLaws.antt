@@ -4,7 +4,7 @@ use mathlib.Core.Bool.{Bool, true, false}
 use mathlib.Core.List.{List, [], _∷_, map}
 use Prim.Native.Nat.{ℕ, zero, suc, _+_, _<_, _≤_}
 use native.Mathlib.Omega.{arith}
-use borrow.Author.Tests.{ltb-true, ltb-false, lt-ltb}
+use borrow.Author.Tests.{ltb-true, ltb-false, lt-ltb, le-ltb}
 use lib.Dec.{ltb}
 use lib.ListN.{length, getD}
 use Rattle.orders.proofs.OrderLaws.{cases}
@@ -38,6 +38,15 @@ module _ (t : Table) (root c : ℕ) where
   pub buildRank-below : costOf t root c < limit → buildRank t root c ≡ rankFor t root c
   unfolding buildRank
   buildRank-below h = rw (lt-ltb (costOf t root c) limit h, buildRank)
+
+  pub buildRank-unranked : rankFor t root c ≡ 0 → buildRank t root c ≡ 0
+  unfolding buildRank
+  buildRank-unranked h =
+      cases (ltb (costOf t root c) limit) (λ e. rw (e, buildRank) h) (λ e. rw (e, buildRank) refl)
+
+  pub buildRank-dear : limit ≤ costOf t root c → buildRank t root c ≡ 0
+  unfolding buildRank
+  buildRank-dear h = rw (le-ltb (costOf t root c) limit h, buildRank) refl
 
   pub below-of-buildRank : 0 < buildRank t root c → costOf t root c < limit
   unfolding buildRank
