@@ -1,0 +1,20 @@
+-- An accepted table in the arrays that a call is lent, with its counts. Assumes nothing: definitions.
+use Prim.Native.Nat.{ℕ}
+use mathlib.Core.Path.{_≡_}
+use mathlib.Core.List.{List}
+use lib.ListN.{length}
+use Rattle.format.specs.Table.{Table}
+use Rattle.format.specs.Accepted.{Accepted}
+use Rattle.format.specs.Arrays.{HoldsSorts}
+
+-- Some table is as P says.
+pub record Some (P : Table → Type 0) : Type 0 where
+  pub table : Table
+  pub is : P table
+
+-- The sorts of an accepted table stand in the two arrays; how many sorts and literals it has.
+pub record SortsStand (sorts literals : ℕ) (kinds classes : List ℕ) (t : Table) : Type 0 where
+  pub accepted : Accepted t
+  pub sorts-are : length (t .sorts) ≡ sorts
+  pub literals-are : length (t .literals) ≡ literals
+  pub held : HoldsSorts kinds classes (t .sorts)
