@@ -1,2 +1,3 @@
 -- The laws of the crate `prepare`.
 pub mod RootLaws
+pub mod FlatLaws

@@ -6,6 +6,7 @@ use lib.ListN.{length}
 use Rattle.format.specs.Table.{Table}
 use Rattle.format.specs.Accepted.{Accepted}
 use Rattle.format.specs.Arrays.{HoldsSorts}
+use Rattle.held.specs.Held.{Holds}
 
 -- Some table is as P says.
 pub record Some (P : Table → Type 0) : Type 0 where
@@ -18,3 +19,15 @@ pub record SortsStand (sorts literals : ℕ) (kinds classes : List ℕ) (t : Tab
   pub sorts-are : length (t .sorts) ≡ sorts
   pub literals-are : length (t .literals) ≡ literals
   pub held : HoldsSorts kinds classes (t .sorts)
+
+-- An accepted table stands in the arrays, its functions' names in one of their own; how many sorts, functions and rows it has.
+pub record Stands (sorts functions rows : ℕ)
+    (kinds classes declared costs unextractable hidden : List ℕ)
+    (outputs arities arguments rowFunctions subsumed cells : List ℕ) (t : Table) : Type 0 where
+  pub accepted : Accepted t
+  pub sorts-are : length (t .sorts) ≡ sorts
+  pub functions-are : length (t .functions) ≡ functions
+  pub rows-are : length (t .rows) ≡ rows
+  pub names : List ℕ
+  pub held :
+      Holds t kinds classes names declared costs unextractable hidden outputs arities arguments rowFunctions subsumed cells

@@ -1,7 +1,9 @@
 // What the extractor goes by, out of the arrays of a table: its root, and the rows that its root sort reaches.
 // From src/extract.rs: the maps by sort name and value (costs, topo_rnk) become flat class numbers.
-ghost use Rattle.prepare.specs.Standing.{Some, SortsStand};
+ghost use Prim.Native.Nat.{_<_};
+ghost use Rattle.prepare.specs.Standing.{Some, SortsStand, Stands};
 ghost use Rattle.prepare.specs.Rooted.{RootIs};
+ghost use Rattle.prepare.specs.Flattened.{Space, Flattens};
 
 // A root: out of the table's range, a flat class, or the index of a literal.
 pub enum Root {
@@ -38,4 +40,82 @@ pub fn root_of(
     let mut bases: [u64; 32] = [0; 32];
     flatrows::classes::number_sorts(sorts, classes, &mut bases);
     Root::Class(bases[s] + value)
+}
+
+// How many rows the root sort reaches, and how many children they have in all.
+pub struct Flat {
+    pub rows: usize,
+    pub children: usize,
+}
+
+// The rows that the root sort reaches, in scan order: their numbers in the file, and as flat rows.
+pub fn flatten(
+    sorts: usize,
+    functions: usize,
+    rows: usize,
+    root: u64,
+    kinds: &[u64],
+    classes: &[u64],
+    declared: &[u64],
+    costs: &[u64],
+    unextractable: &[u64],
+    hidden: &[u64],
+    outputs: &[u64],
+    arities: &[u64],
+    arguments: &[u64],
+    rowfunctions: &[u64],
+    subsumed: &[u64],
+    cells: &[u64],
+    order: &mut [u64],
+    flat: &mut [u64],
+    heads: &mut [u64],
+    starts: &mut [usize],
+    children: &mut [u64],
+) -> Flat
+    requires { ⌜ Some (Stands sorts functions rows (now kinds) (now classes) (now declared) (now costs) (now unextractable)
+        (now hidden) (now outputs) (now arities) (now arguments) (now rowfunctions) (now subsumed) (now cells)) ⌝ }
+    requires { ⌜ root < sorts ⌝ }
+    requires { ⌜ Space (now order) (now flat) (now heads) (now starts) (now children) ⌝ }
+    ensures { λ r. ⌜ Flattens sorts functions rows root (now (kinds .entry)) (now (classes .entry)) (now (declared .entry))
+        (now (costs .entry)) (now (unextractable .entry)) (now (hidden .entry)) (now (outputs .entry))
+        (now (arities .entry)) (now (arguments .entry)) (now (rowfunctions .entry)) (now (subsumed .entry))
+        (now (cells .entry)) (r .rows) (r .children) (now (order .exit)) (now (flat .exit)) (now (heads .exit))
+        (now (starts .exit)) (now (children .exit)) ⌝ }
+{
+    let mut bases: [u64; 32] = [0; 32];
+    flatrows::classes::number_sorts(sorts, classes, &mut bases);
+    let n = scan::scan_rows(
+        sorts,
+        functions,
+        rows,
+        root,
+        outputs,
+        arities,
+        arguments,
+        unextractable,
+        hidden,
+        rowfunctions,
+        subsumed,
+        order,
+    );
+    let m = flatrows::rows::lay(
+        &order[..n],
+        kinds,
+        &bases,
+        declared,
+        costs,
+        outputs,
+        arities,
+        arguments,
+        rowfunctions,
+        cells,
+        flat,
+        heads,
+        starts,
+        children,
+    );
+    Flat {
+        rows: n,
+        children: m,
+    }
 }
