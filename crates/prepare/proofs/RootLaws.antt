@@ -4,6 +4,7 @@ use mathlib.Core.Path.{_≡_, refl, ap, sym, _∙_}
 use mathlib.Core.Bool.{true, false, _&&_}
 use mathlib.Core.List.{List, map}
 use native.Mathlib.Omega.{arith}
+use native.Mathlib.Decide.{decLt}
 use borrow.Author.Tests.{eq-eqb, ne-eqb, lt-ltb, le-ltb}
 use lib.ListN.{length, getD}
 use Rattle.names.specs.Entries.{entry}
@@ -144,3 +145,16 @@ module _ (sorts literals : ℕ) (kinds classes : List ℕ) (t : Table) (h : Sort
                 ne-eqb (sortOf t s .kind) 0 eq,
                 rootOf,
               )
+
+-- A root that is a class has a sort of the table.
+pub root-sort : (t : Table) (s v c : ℕ) → Class c ≡ rootOf t s v → s < length (t .sorts)
+unfolding rootOf isRoot
+root-sort t s v c e = go (decLt s (length (t .sorts)))
+  where
+    go : Dec (s < length (t .sorts)) → s < length (t .sorts)
+    go (yes l) = l
+    go (no n) =
+        let z : isRoot t s v ≡ false = rw (le-ltb s (length (t .sorts)) (omega arith)) in
+        let b : rootOf t s v ≡ Bad = rw (z, rootOf) in
+        let o : _≡_ {A = ℕ} 0 1 = cc in
+        absurd (omega arith)

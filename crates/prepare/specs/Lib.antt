@@ -2,3 +2,4 @@
 pub mod Standing
 pub mod Rooted
 pub mod Flattened
+pub mod Opening

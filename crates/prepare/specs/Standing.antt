@@ -31,3 +31,12 @@ pub record Stands (sorts functions rows : ℕ)
   pub names : List ℕ
   pub held :
       Holds t kinds classes names declared costs unextractable hidden outputs arities arguments rowFunctions subsumed cells
+
+-- The same of its sorts and the number of its literals.
+pub record StandsWhole (sorts literals functions rows : ℕ)
+    (kinds classes declared costs unextractable hidden : List ℕ)
+    (outputs arities arguments rowFunctions subsumed cells : List ℕ) (t : Table) : Type 0 where
+  pub sorts-stand : SortsStand sorts literals kinds classes t
+  pub stands :
+      Stands sorts functions rows kinds classes declared costs unextractable hidden outputs arities arguments rowFunctions
+      subsumed cells t
