@@ -1,11 +1,12 @@
 -- Laws of what a reader of a part promises. Assumes nothing.
 use Prim.Native.Nat.{ℕ}
 use mathlib.Core.List.{List}
-use mathlib.Core.Path.{_≡_, refl, sym, _∙_}
+use mathlib.Core.Path.{_≡_, refl, sym, ap, _∙_}
 use native.Mathlib.Omega.{arith}
 use lib.ListN.{length}
 use Rattle.refusals.specs.declared.Refusal.{Refusal}
 use Rattle.fields.specs.Got.{Got, got, refused, then}
+use Rattle.format.specs.declared.Counted.{Counted}
 use Rattle.format.specs.declared.Part.{Part}
 use Rattle.format.specs.declared.Step.{Step}
 use Rattle.format.specs.declared.Step.the-variants.{Done, Refused}
@@ -72,11 +73,11 @@ pub reads-via : {A B : Type 0} {P : A → Type 0} {Q : B → Type 0} {g : Got A}
     → h ≡ then g (λ a k. got (f a) k) → Reads g r P → ((a : A) (k : ℕ) → g ≡ got a k → P a → Q (f a)) → Reads h r Q
 reads-via {g = g} f e p h = rw e (via-by g f p h)
 
--- Some things were read up to k, n of them, and P holds of them.
-pub record Counted-to {A : Type 0} (g : Got (List A)) (n k : ℕ) (P : List A → Type 0) : Type 0 where
+-- Some things were read and counted, and P holds of them.
+pub record Counted-as {A : Type 0} (g : Got (List A)) (c : Counted) (P : List A → Type 0) : Type 0 where
   pub what : List A
-  pub is : g ≡ got what k
-  pub count : length what ≡ n
+  pub is : g ≡ got what (c .next)
+  pub size : length what ≡ c .count
   pub has : P what
 
 part-not-by : {A : Type 0} (g : Got (List A)) {x : Refusal} → Part.Refused x ≡ partOf g → g ≡ refused x
@@ -86,7 +87,7 @@ part-not-by (refused y) e = cc
 module _ {A : Type 0} {P : List A → Type 0} where
   -- The reader of many things counts them.
   pub counts-of-done : {g : Got (List A)} {n k : ℕ} → Read-to g k P → (d : (xs : List A) (j : ℕ) → g ≡ got xs j → length xs ≡ n)
-      → Counts g (Part.Done n k) P
+      → Counts g (Part.Done (record { count = n; next = k })) P
   unfolding OnGot
   counts-of-done {n = n} {k = k} r d =
       let m : length (r .what) ≡ n = d (r .what) k (r .is) in
@@ -96,18 +97,17 @@ module _ {A : Type 0} {P : List A → Type 0} where
   unfolding OnGot
   counts-refused e = rw e (record { answer = refl; filled = tt })
 
-  part-by : (g : Got (List A)) {n k : ℕ} → Part.Done n k ≡ partOf g → OnGot g P → Counted-to g n k P
+  part-by : (g : Got (List A)) {c : Counted} → Part.Done c ≡ partOf g → OnGot g P → Counted-as g c P
   unfolding OnGot
-  part-by (got xs j) {n} {k} e h =
-      let d : k ≡ j = cc in
-      let m : n ≡ length xs = cc in
-      record { what = xs; is = rw d; count = sym m; has = h }
+  part-by (got xs j) {c} e h =
+      let d : c ≡ record { count = length xs; next = j } = cc in
+      record { what = xs; is = ap (λ (x : Counted). got xs (x .next)) (sym d); size = ap (λ (x : Counted). x .count) (sym d); has = h }
   part-by (refused x) e h =
       let z : _≡_ {A = ℕ} 0 1 = cc in
       let n : ⊥ = omega arith in
       absurd n
 
-  pub counts-done : {g : Got (List A)} {r : Part} {n k : ℕ} → Counts g r P → r ≡ Part.Done n k → Counted-to g n k P
+  pub counts-done : {g : Got (List A)} {r : Part} {c : Counted} → Counts g r P → r ≡ Part.Done c → Counted-as g c P
   counts-done {g} h e = part-by g (sym e ∙ h .answer) (h .filled)
 
   pub counts-not : {g : Got (List A)} {r : Part} {x : Refusal} → Counts g r P → r ≡ Part.Refused x → g ≡ refused x

@@ -5,7 +5,7 @@ use mathlib.Core.List.{List, [], _∷_, _++_, map}
 use lib.IntN.{ℤ, pos}
 use lib.ListN.{length, replicate}
 use Rattle.names.specs.Entries.{entry}
-use Rattle.format.specs.Table.{Sort, Function, Row}
+use Rattle.format.specs.Table.{Sort, Function, Row, Table}
 use Rattle.format.specs.Sorts.{kindsOf}
 
 -- A list, and z up to n elements.
@@ -46,3 +46,11 @@ pub record HoldsRows (functions subsumed cells : List ℕ) (rows : List Row) : T
   pub functions-are : functions ≡ pad 1024 (map (λ (r : Row). r .function) rows)
   pub subsumed-are : subsumed ≡ pad 1024 (map (λ (r : Row). r .subsumed) rows)
   pub cells-are : cells ≡ pad 9216 (blocks (λ (r : Row). pad 9 (r .cells)) rows)
+
+-- A table in its fourteen arrays.
+pub record Holds (kinds classes : List ℕ) (literals : List ℤ)
+    (names declared costs unextractable hidden outputs arities arguments functions subsumed cells : List ℕ) (t : Table) : Type 0 where
+  pub sorts-held : HoldsSorts kinds classes (t .sorts)
+  pub literals-held : HoldsLiterals literals (t .literals)
+  pub functions-held : HoldsFunctions names declared costs unextractable hidden outputs arities arguments (t .functions)
+  pub rows-held : HoldsRows functions subsumed cells (t .rows)

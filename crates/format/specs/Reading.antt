@@ -25,7 +25,7 @@ pub record Reads {A : Type 0} (g : Got A) (r : Step) (P : A → Type 0) : Type 0
 
 -- The code's answer for a reading of many things: how many, and the position after them.
 abbrev pub partOf : {A : Type 0} → Got (List A) → Part
-partOf (got xs k) = Part.Done (length xs) k
+partOf (got xs k) = Part.Done (record { count = length xs; next = k })
 partOf (refused r) = Part.Refused r
 
 pub record Counts {A : Type 0} (g : Got (List A)) (r : Part) (P : List A → Type 0) : Type 0 where

@@ -10,9 +10,15 @@ pub enum Step {
     Refused(Refusal),
 }
 
-// How many things were read and the position after them, or the first fault.
+// How many things were read, and the position after them.
+pub struct Counted {
+    pub count: usize,
+    pub next: usize,
+}
+
+// What was counted, or the first fault.
 pub enum Part {
-    Done(usize, usize),
+    Done(Counted),
     Refused(Refusal),
 }
 

@@ -6,11 +6,12 @@ use mathlib.Core.Path.{_≡_, refl, sym, _∙_}
 use native.Mathlib.Omega.{arith}
 use lib.Dec.{leb}
 use lib.ListN.{length}
-use borrow.Author.Tests.{le-leb, lt-leb, eq-eqb, ne-eqb}
+use borrow.Author.Tests.{leb-true, le-leb, lt-leb, eq-eqb, ne-eqb}
 use Rattle.refusals.specs.declared.Refusal.the-variants.{Short, BadVersion, BadSize, Trailing}
 use Rattle.fields.specs.Got.{Got, got, refused, then, must}
 use Rattle.fields.specs.Field.{field}
 use Rattle.fields.proofs.FieldLaws.{field-read}
+use Rattle.fields.proofs.GotLaws.{All, all-at, all-of, all-then, all-must}
 use Rattle.format.specs.Table.{Sort, Function, Row}
 use Rattle.format.specs.Sorts.{sortsAt}
 use Rattle.format.specs.Literals.{literalsAt}
@@ -18,7 +19,8 @@ use Rattle.format.specs.Functions.{functionsAt}
 use Rattle.format.specs.File.{versionAt, sortsPart, literalsPart, functionsPart, padBits, endAt}
 use Rattle.format.specs.declared.Part.{Part}
 use Rattle.format.specs.Reading.{Counts}
-use Rattle.rows.specs.In.{rowsIn}
+use Rattle.rows.specs.In.{rowsIn, Sound}
+use Rattle.rows.proofs.RowLaws.{rowsIn-near}
 use Rattle.parts.specs.Parts.{rowsPartIn}
 
 pub counts-along : {A : Type 0} {P : List A → Type 0} {g h : Got (List A)} {r : Part} → h ≡ g → Counts g r P → Counts h r P
@@ -101,3 +103,21 @@ module _ (s : List ℕ) (at : ℕ) where
       end-here o =
           let d : p ≡ 8 * length s = omega (arith, whole) in
           rw (e, eq-eqb _ _ z, eq-eqb _ _ d)
+
+near-by : (s kinds classes : List ℕ) (l count : ℕ) (outputs arities arguments : List ℕ) (at : ℕ) → Sound outputs arities arguments
+    → All (λ rows q. q ≤ at + 91147) (rowsPartIn s kinds classes l count outputs arities arguments at)
+unfolding rowsPartIn
+near-by s kinds classes l count outputs arities arguments at sound =
+    all-then (field s at 11) _ (λ n p e.
+    let f = field-read s at 11 e in
+    all-must _ _ _ (λ b.
+    let m : n ≤ 1024 = leb-true _ _ b in
+    all-of _ (λ rows q d.
+    let k = rowsIn-near s kinds classes l count outputs arities arguments sound n p d in
+    omega (arith, f .end))))
+
+-- The rows with their count take at most 91,147 bits.
+pub rows-near : (s kinds classes : List ℕ) (l count : ℕ) (outputs arities arguments : List ℕ) (at : ℕ) → Sound outputs arities arguments
+    → {rows : List Row} {q : ℕ} → rowsPartIn s kinds classes l count outputs arities arguments at ≡ got rows q → q ≤ at + 91147
+rows-near s kinds classes l count outputs arities arguments at sound e =
+    all-at (rw e at (near-by s kinds classes l count outputs arities arguments at sound))

@@ -10,6 +10,7 @@ ghost use Rattle.functions.specs.Put.{Zeros};
 ghost use Rattle.rows.specs.In.{Sound, Zeros as RowZeros};
 ghost use Rattle.parts.specs.Parts.{Any, rowsPartIn};
 use fields::Field;
+use format::Counted;
 use format::Part;
 use format::Step;
 use refusals::Refusal;
@@ -43,7 +44,7 @@ pub fn read_sorts(s: &[u8], at: usize, kinds: &mut [u64; 32], classes: &mut [u64
     let x = sorts::read_sorts(s, p, n, kinds, classes);
     match x {
         Step::Refused(r) => Part::Refused(r),
-        Step::Done(q) => Part::Done(n, q),
+        Step::Done(q) => Part::Done(Counted { count: n, next: q }),
     }
 }
 
@@ -61,7 +62,7 @@ pub fn read_literals(s: &[u8], at: usize, literals: &mut [i64; 512]) -> Part
     let x = literals::read_literals(s, p, n, literals);
     match x {
         Step::Refused(r) => Part::Refused(r),
-        Step::Done(q) => Part::Done(n, q),
+        Step::Done(q) => Part::Done(Counted { count: n, next: q }),
     }
 }
 
@@ -110,7 +111,7 @@ pub fn read_functions(
     );
     match x {
         Step::Refused(r) => Part::Refused(r),
-        Step::Done(q) => Part::Done(count, q),
+        Step::Done(q) => Part::Done(Counted { count, next: q }),
     }
 }
 
@@ -162,7 +163,7 @@ pub fn read_rows(
     );
     match x {
         Step::Refused(r) => Part::Refused(r),
-        Step::Done(q) => Part::Done(n, q),
+        Step::Done(q) => Part::Done(Counted { count: n, next: q }),
     }
 }
 

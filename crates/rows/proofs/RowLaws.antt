@@ -182,3 +182,19 @@ pub rowsIn-length : (s kinds classes : List ℕ) (l count : ℕ) (outputs aritie
     → rowsIn s kinds classes l count outputs arities arguments n at ≡ got rows q → length rows ≡ n
 unfolding rowsIn
 rowsIn-length s kinds classes l count outputs arities arguments n at e = many-length _ n at e
+
+-- n rows take at most 89 n bits.
+pub rowsIn-near : (s kinds classes : List ℕ) (l count : ℕ) (outputs arities arguments : List ℕ) → Sound outputs arities arguments
+    → (n at : ℕ) {rows : List Row} {q : ℕ} → rowsIn s kinds classes l count outputs arities arguments n at ≡ got rows q → q ≤ at + 89 * n
+unfolding rowsIn
+rowsIn-near s kinds classes l count outputs arities arguments sound n at {rows} {q} e =
+    let c : length rows ≡ n = many-length _ n at e in
+    let b : q ≤ at + 89 * length rows = all-at (rw e at (many-all _ (λ rows q. q ≤ at + 89 * length rows)
+    (λ rows p h.
+    all-map
+    (λ r q k.
+    let b : p ≤ at + 89 * length rows = h in
+    simp length-append (omega (arith, k .1)))
+    (row-kept s kinds classes l outputs arities arguments sound count p))
+    n at [] (omega arith))) in
+    omega arith
