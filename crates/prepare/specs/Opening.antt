@@ -1,0 +1,43 @@
+-- A root and the rows that its sort reaches. Assumes nothing: definitions.
+use Prim.{Unit}
+use Prim.Native.Nat.{ℕ}
+use mathlib.Core.Path.{_≡_}
+use mathlib.Core.List.{List}
+use Rattle.format.specs.Table.{Table}
+use Rattle.prepare.specs.Standing.{StandsWhole}
+use Rattle.prepare.specs.Rooted.{rootOf}
+use Rattle.prepare.specs.Flattened.{Flattened}
+use Rattle.prepare.specs.declared.Root.{Root}
+use Rattle.prepare.specs.declared.Root.the-variants.{Bad as NoRoot, Class as RootClass, Literal as RootLiteral}
+use Rattle.prepare.specs.declared.Opened.{Opened}
+use Rattle.prepare.specs.declared.Opened.the-variants.{Bad, Class, Literal}
+
+-- The root of an answer.
+abbrev pub rootIn : Opened → Root
+rootIn Bad = NoRoot
+rootIn (Literal i) = RootLiteral i
+rootIn (Class c n m) = RootClass c
+
+-- P of the numbers of rows and children, where the answer is a class.
+abbrev pub OnClass : Opened → (ℕ → ℕ → Type 0) → Type 0
+OnClass Bad P = Unit {0}
+OnClass (Literal i) P = Unit {0}
+OnClass (Class c n m) P = P n m
+
+-- The answer is the table's root, and the lists hold the rows that its sort reaches.
+pub record OpenedOf (t : Table) (s v : ℕ) (r : Opened) (order flat heads starts children : List ℕ) : Type 0 where
+  pub root-is : rootIn r ≡ rootOf t s v
+  pub reached : OnClass r (λ n m. Flattened t s n m order flat heads starts children)
+
+-- So of every table that stands in the arrays.
+abbrev pub Opens :
+    ℕ → ℕ → ℕ → ℕ → ℕ → ℕ →
+    List ℕ → List ℕ → List ℕ → List ℕ → List ℕ → List ℕ →
+    List ℕ → List ℕ → List ℕ → List ℕ → List ℕ → List ℕ →
+    Opened → List ℕ → List ℕ → List ℕ → List ℕ → List ℕ → Type 0
+Opens sorts literals functions rows s v kinds classes declared costs unextractable hidden outputs arities arguments
+    rowFunctions subsumed cells r order flat heads starts children =
+    (t : Table) →
+    StandsWhole sorts literals functions rows kinds classes declared costs unextractable hidden outputs arities arguments
+    rowFunctions subsumed cells t →
+    OpenedOf t s v r order flat heads starts children
