@@ -1,17 +1,17 @@
 use native.Mathlib.Omega.{arith}
--- `lent_terms::check_in` meets its contract. Assumes nothing.
-use mathlib.Core.Path.{_≡_, sym, ap, _∙_}
+-- `lent_terms::size_in` meets its contract. Assumes nothing.
 use Prim.Native.Nat.{_*_}
+use mathlib.Core.Path.{_≡_, sym, ap, _∙_}
 use lib.Seq.{length-take-le}
-use Rattle.store.specs.WellFormed.{wellFormed}
+use Rattle.terms.specs.Calls.{sizeOf}
 use Rattle.lent.proofs.StoreLaws.{storeIn-is}
 use borrow.Author.Needs.{needs}
-use Rattle.lent_terms.proofs.check_in.Statement.{statement}
-use Rattle.lent_terms.proofs.check_in.Tie as tie
-use Rattle.lent_terms.proofs.check_in.Reads as reads
-use Rattle.lent_terms.proofs.check_in.Lts as lts
+use Rattle.lent_terms.proofs.size_in.Statement.{statement}
+use Rattle.lent_terms.proofs.size_in.Tie as tie
+use Rattle.lent_terms.proofs.size_in.Reads as reads
+use Rattle.lent_terms.proofs.size_in.Lts as lts
 use Rattle.entries.proofs.load_names.Reads as load-names-reads
-use Rattle.records.proofs.check.Reads as check-reads
+use Rattle.terms.proofs.size.Reads as size-reads
 
 mul-e : tie.Need-mul-e
 mul-e c = search needs
@@ -28,43 +28,39 @@ mul-b c = search needs
 array-share-prefix-records : tie.Need-array-share-prefix-records
 array-share-prefix-records c = search needs
 
-slice-aggregate-check : tie.Need-slice-aggregate-check
-slice-aggregate-check c =
+slice-aggregate-size : tie.Need-slice-aggregate-size
+slice-aggregate-size c =
     sym (length-take-le (c .before .before .before .before .before .before .args .f .room * 11) (c .before .before
-    .before .before .before .before .args .f .records) (omega arith))
+        .before .before .before .before .args .f .records) (omega arith))
 
 array-share-prefix-literals : tie.Need-array-share-prefix-literals
 array-share-prefix-literals c = search needs
 
-slice-aggregate-check-2 : tie.Need-slice-aggregate-check-2
-slice-aggregate-check-2 c =
+slice-aggregate-size-2 : tie.Need-slice-aggregate-size-2
+slice-aggregate-size-2 c =
     sym (length-take-le (c .before .before .before .before .before .before .before .args .f .room) (c .before .before
-    .before .before .before .before .before .args .f .literals) (omega arith))
+        .before .before .before .before .before .args .f .literals) (omega arith))
 
 array-share-prefix-names : tie.Need-array-share-prefix-names
 array-share-prefix-names c = search needs
 
-slice-aggregate-check-3 : tie.Need-slice-aggregate-check-3
-slice-aggregate-check-3 c =
+slice-aggregate-size-3 : tie.Need-slice-aggregate-size-3
+slice-aggregate-size-3 c =
     let names = c .before .before .before .before .load-names in
-    sym (length-take-le (names .result * 32) (names .last .1 .0) (omega (
-      arith,
-      names .ensures .room,
-      names .ensures
-          .long,
-    )))
+    sym (length-take-le (names .result * 32) (names .last .1 .0) (omega (arith, names .ensures .room, names .ensures
+        .long)))
 
-check-requires : tie.Need-check-requires
-check-requires c κs = search needs
+size-requires : tie.Need-size-requires
+size-requires c κs = search needs
 
 returns : tie.Need-returns
 returns c =
     let g = c .before .before .before .before .before .before .before .before .before .args in
-    c .check .ensures ∙ ap wellFormed (storeIn-is (g .f) (g .ns .now) (g .terms) (g .symbols) _ (c .before .before
-    .before .before .before .load-names .ensures .bytes))
+    c .size .ensures ∙ ap sizeOf (storeIn-is (g .f) (g .ns .now) (g .terms) (g .symbols) _ (c .before .before .before
+        .before .before .load-names .ensures .bytes))
 
-pub check-in-spec : {M : Type 1} → statement M
-check-in-spec =
+pub size-in-spec : {M : Type 1} → statement M
+size-in-spec =
     tie.close
     (tie.spec
     mul-e
@@ -72,10 +68,10 @@ check-in-spec =
     load-names-requires
     mul-b
     array-share-prefix-records
-    slice-aggregate-check
+    slice-aggregate-size
     array-share-prefix-literals
-    slice-aggregate-check-2
+    slice-aggregate-size-2
     array-share-prefix-names
-    slice-aggregate-check-3
-    check-requires
+    slice-aggregate-size-3
+    size-requires
     returns)
