@@ -7,8 +7,7 @@ use lib.ListN.{length, getD}
 use Rattle.store.specs.Lent.{Store}
 use Rattle.store.specs.Nodes.{literal, variable, application, nodeAt, Tree, number, named, applied, Trees, none, more, Means, isNumber, isNamed, isApplied, MeansAll, isNone, isMore}
 use Rattle.store.specs.Facts.{Sound}
-use Rattle.growth.specs.Growth.{Grows}
-use Rattle.growth.proofs.NodeLaws.{literal-variable, literal-application, variable-application, literal-same, variable-same, name-same, children-same, node-lower, node-once}
+use Rattle.meaning.proofs.NodeLaws.{literal-variable, literal-application, variable-application, literal-same, variable-same, name-same, children-same, node-lower, node-once}
 
 -- every number of the list is below n
 abbrev pub Below : ℕ → List ℕ → Type 0
@@ -123,23 +122,3 @@ module _ (s : Store) where
         let b : t ≡ u = means-one t u j (p′ .0) (rw a (q′ .0)) in
         let c : ts ≡ us = means-all-one ts us js ks (tail-same e) (p′ .1) (q′ .1) in
         cc
-
--- "old numbers keep their terms"
-module _ (s t : Store) (w : Sound s) (g : Grows s t) where
-  mutual
-    pub means-kept : (u : Tree) (i : ℕ) → i < s .terms → Means s i u → Means t i u
-    means-kept (number z) i h m = isNumber z (g .node i h ∙ says s m)
-    means-kept (named n) i h m = isNamed n (g .node i h ∙ says s m)
-    means-kept (applied n us) i h m =
-        let p = says s m in
-        isApplied n (p .0) us (g .node i h ∙ p .1)
-        (means-all-kept us (p .0) (λ j l. omega (arith, node-lower s w i h n (p .0) (p .1) j l)) (p .2))
-
-    means-all-kept : (us : Trees) (ks : List ℕ) → Below (s .terms) ks → MeansAll s ks us → MeansAll t ks us
-    means-all-kept none [] b m = isNone
-    means-all-kept none (k ∷ ks) b m = absurd (says-all s m)
-    means-all-kept (more u us) [] b m = absurd (says-all s m)
-    means-all-kept (more u us) (k ∷ ks) b m =
-        let p = says-all s m in
-        isMore (means-kept u k (below-head (s .terms) k ks b) (p .0))
-        (means-all-kept us ks (below-tail (s .terms) k ks b) (p .1))

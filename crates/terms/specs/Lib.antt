@@ -1,0 +1,3 @@
+-- The definitions of the crate `terms`.
+pub mod Answers
+pub mod Calls
