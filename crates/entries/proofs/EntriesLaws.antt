@@ -249,13 +249,13 @@ entriesIn-front a b zero h = refl
 entriesIn-front a b (suc k) h =
     let at : k * 32 ≤ length a = omega arith in
     let part : take 32 (drop (k * 32) (a ++ b)) ≡ take 32 (drop (k * 32) a) =
-      ap (take 32) (drop-append-le (k * 32) a b at)
-      ∙ take-append-le 32 (drop (k * 32) a) b (omega (arith, length-drop (k * 32) a)) in
+    ap (take 32) (drop-append-le (k * 32) a b at)
+    ∙ take-append-le 32 (drop (k * 32) a) b (omega (arith, length-drop (k * 32) a)) in
     rw (entriesIn-front a b k at, part)
 
 pub entriesAfter-front :
     (ns : List (List ℕ)) (a b : List ℕ) → length a ≡ min 128 (length ns) * 32 → entriesAfter ns (a ++ b) ≡
-        entriesAfter ns a
+    entriesAfter ns a
 unfolding entriesAfter
 entriesAfter-front ns a b e =
     ap (λ (l : List (List ℕ)). l ++ drop 128 ns) (entriesIn-front a b (min 128 (length ns)) (omega (arith, e)))

@@ -9,7 +9,15 @@ use lib.IntN.{ℤ}
 use Rattle.names.specs.Entries.{lengthAt}
 use Rattle.store.specs.Lent.{store, recordIn}
 use Rattle.store.specs.Facts.{
-  Sound, SoundName, SoundRecord, IsLiteral, IsVariable, IsApplication, aLiteral, aVariable, anApplication,
+  Sound,
+  SoundName,
+  SoundRecord,
+  IsLiteral,
+  IsVariable,
+  IsApplication,
+  aLiteral,
+  aVariable,
+  anApplication,
 }
 use Rattle.heads.specs.Readable.{kindAt, symbolNo, arityAt, kidsAt, Inside, Readable}
 
@@ -49,11 +57,11 @@ reads rs ls symbols t (anApplication r) = record {
   arity = r .count;
   leaf = λ (l : kindAt rs t < 2). let z : ⊥ = omega (arith, r .kind) in absurd z;
   lower = λ i l.
-    let c : i < arityAt rs t = omega (arith, kids-length rs t) in
-    let e : getD (kidsAt rs t) i 0 ≡ getD (take 8 (drop (t * 11 + 3) rs)) i 0 =
-          getD-take (t * 11 + 3 + arityAt rs t - (t * 11 + 3)) (drop (t * 11 + 3) rs) i 0 (omega arith)
-          ∙ sym (getD-take 8 (drop (t * 11 + 3) rs) i 0 (omega (arith, r .count))) in
-    rw e (r .lower i c);
+      let c : i < arityAt rs t = omega (arith, kids-length rs t) in
+      let e : getD (kidsAt rs t) i 0 ≡ getD (take 8 (drop (t * 11 + 3) rs)) i 0 =
+      getD-take (t * 11 + 3 + arityAt rs t - (t * 11 + 3)) (drop (t * 11 + 3) rs) i 0 (omega arith)
+      ∙ sym (getD-take 8 (drop (t * 11 + 3) rs) i 0 (omega (arith, r .count))) in
+      rw e (r .lower i c);
   symbol = λ (l : 0 < kindAt rs t). r .symbol;
 }
 

@@ -48,7 +48,7 @@ Given f bs n m = store (take (f .room * 11) (f .records)) (take (f .room) (f .li
 -- the work answers as the flat call does, whose lists rs, ls and bs stand in front of the rest of the arrays
 added-in :
     (f : Flat) (ns ns′ : List (List ℕ)) (n m : ℕ) (wanted : Answer ℕ × Store) (r : Added) (rs bs : List ℕ) (ls : List
-        ℤ) →
+    ℤ) →
     length rs ≡ f .room * 11 → length ls ≡ f .room → AllWide (take 128 ns) → ns′ ≡ entriesAfter ns bs →
     seenAdded r rs ls bs n m ≡ wanted →
     AddedIn f ns n m wanted record {
@@ -61,17 +61,17 @@ added-in :
     } ns′
 added-in f ns ns′ n m wanted r rs bs ls long wide all after e =
     let records : rs ≡ wanted .1 .records = sym (seen-records rs ls bs n m r) ∙ ap (λ (w : Answer ℕ × Store). w .1
-        .records) e in
+    .records) e in
     let literals : ls ≡ wanted .1 .literals =
-      sym (seen-literals rs ls bs n m r) ∙ ap (λ (w : Answer ℕ × Store). w .1 .literals) e in
+    sym (seen-literals rs ls bs n m r) ∙ ap (λ (w : Answer ℕ × Store). w .1 .literals) e in
     let names : bs ≡ wanted .1 .names = sym (seen-names rs ls bs n m r) ∙ ap (λ (w : Answer ℕ × Store). w .1 .names)
-        e in
+    e in
     record {
       room = refl;
       answer =
-        subst (λ (k : List ℕ). seenAdded r k (wanted .1 .literals) (wanted .1 .names) n m ≡ wanted) records
-        (subst (λ (k : List ℤ). seenAdded r rs k (wanted .1 .names) n m ≡ wanted) literals
-        (subst (λ (k : List ℕ). seenAdded r rs ls k n m ≡ wanted) names e));
+          subst (λ (k : List ℕ). seenAdded r k (wanted .1 .literals) (wanted .1 .names) n m ≡ wanted) records
+          (subst (λ (k : List ℤ). seenAdded r rs k (wanted .1 .names) n m ≡ wanted) literals
+          (subst (λ (k : List ℕ). seenAdded r rs ls k n m ≡ wanted) names e));
       records = take-at rs (drop (f .room * 11) (f .records)) (f .room * 11) long ∙ records;
       literals = take-at ls (drop (f .room) (f .literals)) (f .room) wide ∙ literals;
       entries = after ∙ ap (entriesAfter ns) names;
@@ -98,12 +98,12 @@ module _ (f : Flat) (ns : List (List ℕ)) (n m : ℕ) (model : Store → Answer
   added-same-names e =
       added-in f ns ns n m (model (storeIn f ns n m)) r rs bs ls long wide all
       (sym (entriesAfter-same ns all) ∙ ap (entriesAfter ns) (sym copied)) (e ∙ ap model (storeIn-is f ns n m bs
-          copied))
+      copied))
 
   -- a call that leaves the bytes bs′ in front of the rest of its own
   pub added-names :
       (bs′ rest : List ℕ) (ns′ : List (List ℕ)) → length bs′ ≡ min 128 (length ns) * 32 → ns′ ≡ entriesAfter ns (bs′
-          ++ rest) →
+      ++ rest) →
       seenAdded r rs ls bs′ n m ≡ model (Given f bs n m) → AddedIn f ns n m (model (storeIn f ns n m)) Left ns′
   added-names bs′ rest ns′ size after e =
       added-in f ns ns′ n m (model (storeIn f ns n m)) r rs bs′ ls long wide all
@@ -112,7 +112,7 @@ module _ (f : Flat) (ns : List (List ℕ)) (n m : ℕ) (model : Store → Answer
 -- the call on lent lists answers as the work does on what was copied of them
 pub lent-added :
     (ts ts′ : List Term) (ns ns′ : List (List ℕ)) (f : Flat) (n m : ℕ) (model : Store → Answer ℕ × Store) (r :
-        Adding) →
+    Adding) →
     Loaded ts f → AddedIn f ns n m (model (storeIn f ns n m)) r ns′ →
     ts′ ≡ recordsIn (r .flat .records) (r .flat .literals) (r .flat .room) ++ drop (r .flat .room) ts →
     LentAdded ts ns n m (model (lentStore ts ns n m)) (r .added) ts′ ns′
@@ -120,11 +120,11 @@ unfolding lentStore
 lent-added ts ts′ ns ns′ f n m model r l a back =
     let same : storeIn f ns n m ≡ lentStore ts ns n m = loaded-store ts ns f n m l in
     let b : AddedIn f ns n m (model (lentStore ts ns n m)) r ns′ =
-      subst (λ (s : Store). AddedIn f ns n m (model s) r ns′) same a in
+    subst (λ (s : Store). AddedIn f ns n m (model s) r ns′) same a in
     let records : ts′ ≡ recordsAfter ts (model (lentStore ts ns n m) .1) =
-      back
-      ∙ recordsAfter-storeIn ts ns (r .flat) n m (b .room ∙ l .room)
-      ∙ recordsAfter-lists ts (r .flat) ns n m (model (lentStore ts ns n m) .1) (b .records) (b .literals) in
+    back
+    ∙ recordsAfter-storeIn ts ns (r .flat) n m (b .room ∙ l .room)
+    ∙ recordsAfter-lists ts (r .flat) ns n m (model (lentStore ts ns n m) .1) (b .records) (b .literals) in
     record {
       answer = b .answer;
       records = records;

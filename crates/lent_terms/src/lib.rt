@@ -15,11 +15,13 @@ ghost use Rattle.terms.specs.Calls.{
 ghost use Rattle.lent.specs.Records.{lentStore};
 ghost use Rattle.lent.specs.Copies.{Whole, storeIn};
 ghost use Rattle.lent_terms.specs.Lists.{LentAdded, AddedIn};
-
 use entries::Name;
 use lent::Flat;
 use store::Term;
-use terms::{Added, Looked, Counted, Got};
+use terms::Added;
+use terms::Counted;
+use terms::Got;
+use terms::Looked;
 
 // A call's own copy of the records after it, and what it answers.
 pub struct Adding {
@@ -38,7 +40,13 @@ fn size_in(f: Flat, ns: &[Name], terms: usize, symbols: usize) -> Counted
     let mut names = [0u8; 4096];
     let k = entries::load_names(ns, &mut names);
     let b = k * 32;
-    terms::size(&records[..e], &literals[..room], &names[..b], terms, symbols)
+    terms::size(
+        &records[..e],
+        &literals[..room],
+        &names[..b],
+        terms,
+        symbols,
+    )
 }
 
 // How many terms there are.
@@ -80,7 +88,13 @@ fn add_literal_in(f: Flat, ns: &[Name], terms: usize, symbols: usize, literal: i
 }
 
 // Gives the literal's number, and adds it if it is not there: `lit` of src/termdag.rs.
-pub fn add_literal(ts: &mut [Term], ns: &[Name], terms: usize, symbols: usize, literal: i64) -> Added
+pub fn add_literal(
+    ts: &mut [Term],
+    ns: &[Name],
+    terms: usize,
+    symbols: usize,
+    literal: i64,
+) -> Added
     ensures { λ r. ⌜
         LentAdded (now (ts .entry)) (now (ns .entry)) terms symbols
         (addLiteral (lentStore (now (ts .entry)) (now (ns .entry)) terms symbols) literal) r (now (ts .exit))
@@ -91,4 +105,255 @@ pub fn add_literal(ts: &mut [Term], ns: &[Name], terms: usize, symbols: usize, l
     let w = add_literal_in(f, ns, terms, symbols, literal);
     lent::unload(ts, w.flat);
     w.added
+}
+
+fn add_variable_in(f: Flat, ns: &mut [Name], terms: usize, symbols: usize, name: &[u8]) -> Adding
+    requires { ⌜ Whole f ⌝ }
+    ensures { λ r. ⌜
+        AddedIn f (now (ns .entry)) terms symbols
+        (addVariable (storeIn f (now (ns .entry)) terms symbols) (now (name .entry))) r (now (ns .exit))
+        ⌝ }
+{
+    let mut records = f.records;
+    let mut literals = f.literals;
+    let room = f.room;
+    let e = room * 11;
+    let mut names = [0u8; 4096];
+    let k = entries::load_names(ns, &mut names);
+    let b = k * 32;
+    let added = terms::add_variable(
+        &mut records[..e],
+        &mut literals[..room],
+        &mut names[..b],
+        terms,
+        symbols,
+        name,
+    );
+    entries::unload_names(ns, &names);
+    let flat = Flat {
+        records,
+        literals,
+        room,
+    };
+    Adding { flat, added }
+}
+
+// Gives the variable's number, and adds it if it is not there: `var` of src/termdag.rs.
+pub fn add_variable(
+    ts: &mut [Term],
+    ns: &mut [Name],
+    terms: usize,
+    symbols: usize,
+    name: &[u8],
+) -> Added
+    ensures { λ r. ⌜
+        LentAdded (now (ts .entry)) (now (ns .entry)) terms symbols
+        (addVariable (lentStore (now (ts .entry)) (now (ns .entry)) terms symbols) (now (name .entry))) r
+        (now (ts .exit)) (now (ns .exit))
+        ⌝ }
+{
+    let f = lent::load(ts);
+    let w = add_variable_in(f, ns, terms, symbols, name);
+    lent::unload(ts, w.flat);
+    w.added
+}
+
+fn add_application_in(
+    f: Flat,
+    ns: &mut [Name],
+    terms: usize,
+    symbols: usize,
+    name: &[u8],
+    children: &[u64],
+) -> Adding
+    requires { ⌜ Whole f ⌝ }
+    ensures { λ r. ⌜
+        AddedIn f (now (ns .entry)) terms symbols
+        (addApplication (storeIn f (now (ns .entry)) terms symbols) (now (name .entry)) (now (children .entry))) r (now (ns .exit))
+        ⌝ }
+{
+    let mut records = f.records;
+    let mut literals = f.literals;
+    let room = f.room;
+    let e = room * 11;
+    let mut names = [0u8; 4096];
+    let k = entries::load_names(ns, &mut names);
+    let b = k * 32;
+    let added = terms::add_application(
+        &mut records[..e],
+        &mut literals[..room],
+        &mut names[..b],
+        terms,
+        symbols,
+        name,
+        children,
+    );
+    entries::unload_names(ns, &names);
+    let flat = Flat {
+        records,
+        literals,
+        room,
+    };
+    Adding { flat, added }
+}
+
+// Gives the application's number, and adds it if it is not there: `app` of src/termdag.rs.
+pub fn add_application(
+    ts: &mut [Term],
+    ns: &mut [Name],
+    terms: usize,
+    symbols: usize,
+    name: &[u8],
+    children: &[u64],
+) -> Added
+    ensures { λ r. ⌜
+        LentAdded (now (ts .entry)) (now (ns .entry)) terms symbols
+        (addApplication (lentStore (now (ts .entry)) (now (ns .entry)) terms symbols) (now (name .entry)) (now (children .entry))) r
+        (now (ts .exit)) (now (ns .exit))
+        ⌝ }
+{
+    let f = lent::load(ts);
+    let w = add_application_in(f, ns, terms, symbols, name, children);
+    lent::unload(ts, w.flat);
+    w.added
+}
+
+fn find_literal_in(f: Flat, ns: &[Name], terms: usize, symbols: usize, literal: i64) -> Looked
+    requires { ⌜ Whole f ⌝ }
+    ensures { λ r. ⌜ seenFound r ≡ findLiteral (storeIn f (now (ns .entry)) terms symbols) literal ⌝ }
+{
+    let records = f.records;
+    let literals = f.literals;
+    let room = f.room;
+    let e = room * 11;
+    let mut names = [0u8; 4096];
+    let k = entries::load_names(ns, &mut names);
+    let b = k * 32;
+    terms::find_literal(
+        &records[..e],
+        &literals[..room],
+        &names[..b],
+        terms,
+        symbols,
+        literal,
+    )
+}
+
+// The number of the literal.
+pub fn find_literal(ts: &[Term], ns: &[Name], terms: usize, symbols: usize, literal: i64) -> Looked
+    ensures { λ r. ⌜
+        seenFound r
+        ≡ findLiteral (lentStore (now (ts .entry)) (now (ns .entry)) terms symbols) literal
+        ⌝ }
+{
+    let f = lent::load(ts);
+    find_literal_in(f, ns, terms, symbols, literal)
+}
+
+fn find_variable_in(f: Flat, ns: &[Name], terms: usize, symbols: usize, name: &[u8]) -> Looked
+    requires { ⌜ Whole f ⌝ }
+    ensures { λ r. ⌜ seenFound r ≡ findVariable (storeIn f (now (ns .entry)) terms symbols) (now (name .entry)) ⌝ }
+{
+    let records = f.records;
+    let literals = f.literals;
+    let room = f.room;
+    let e = room * 11;
+    let mut names = [0u8; 4096];
+    let k = entries::load_names(ns, &mut names);
+    let b = k * 32;
+    terms::find_variable(
+        &records[..e],
+        &literals[..room],
+        &names[..b],
+        terms,
+        symbols,
+        name,
+    )
+}
+
+// The number of the variable.
+pub fn find_variable(ts: &[Term], ns: &[Name], terms: usize, symbols: usize, name: &[u8]) -> Looked
+    ensures { λ r. ⌜
+        seenFound r
+        ≡ findVariable (lentStore (now (ts .entry)) (now (ns .entry)) terms symbols) (now (name .entry))
+        ⌝ }
+{
+    let f = lent::load(ts);
+    find_variable_in(f, ns, terms, symbols, name)
+}
+
+fn find_application_in(
+    f: Flat,
+    ns: &[Name],
+    terms: usize,
+    symbols: usize,
+    name: &[u8],
+    children: &[u64],
+) -> Looked
+    requires { ⌜ Whole f ⌝ }
+    ensures { λ r. ⌜ seenFound r ≡ findApplication (storeIn f (now (ns .entry)) terms symbols) (now (name .entry)) (now (children .entry)) ⌝ }
+{
+    let records = f.records;
+    let literals = f.literals;
+    let room = f.room;
+    let e = room * 11;
+    let mut names = [0u8; 4096];
+    let k = entries::load_names(ns, &mut names);
+    let b = k * 32;
+    terms::find_application(
+        &records[..e],
+        &literals[..room],
+        &names[..b],
+        terms,
+        symbols,
+        name,
+        children,
+    )
+}
+
+// The number of the application.
+pub fn find_application(
+    ts: &[Term],
+    ns: &[Name],
+    terms: usize,
+    symbols: usize,
+    name: &[u8],
+    children: &[u64],
+) -> Looked
+    ensures { λ r. ⌜
+        seenFound r
+        ≡ findApplication (lentStore (now (ts .entry)) (now (ns .entry)) terms symbols) (now (name .entry)) (now (children .entry))
+        ⌝ }
+{
+    let f = lent::load(ts);
+    find_application_in(f, ns, terms, symbols, name, children)
+}
+
+fn get_in(f: Flat, ns: &[Name], terms: usize, symbols: usize, i: usize) -> Got
+    requires { ⌜ Whole f ⌝ }
+    ensures { λ r. ⌜ r ≡ getTerm (storeIn f (now (ns .entry)) terms symbols) i ⌝ }
+{
+    let records = f.records;
+    let literals = f.literals;
+    let room = f.room;
+    let e = room * 11;
+    let mut names = [0u8; 4096];
+    let k = entries::load_names(ns, &mut names);
+    let b = k * 32;
+    terms::get(
+        &records[..e],
+        &literals[..room],
+        &names[..b],
+        terms,
+        symbols,
+        i,
+    )
+}
+
+// Term `i`.
+pub fn get(ts: &[Term], ns: &[Name], terms: usize, symbols: usize, i: usize) -> Got
+    ensures { λ r. ⌜ r ≡ getTerm (lentStore (now (ts .entry)) (now (ns .entry)) terms symbols) i ⌝ }
+{
+    let f = lent::load(ts);
+    get_in(f, ns, terms, symbols, i)
 }

@@ -24,10 +24,10 @@ lineIn-called node c d e zero t = refl
 lineIn-called node c d e (suc f) t =
     form-same (32 ∷ []) (childText c (lineIn node c f)) (childText d (lineIn node d f)) (node t)
     (λ j l.
-      childText-is c (lineIn node c f) (getD (children (node t)) j 0)
-      ∙ (ap (λ (x : Called). shown x (lineIn node c f (getD (children (node t)) j 0))) (e (getD (children (node t)) j 0))
-      ∙ (ap (shown (d (getD (children (node t)) j 0))) (lineIn-called node c d e f (getD (children (node t)) j 0))
-      ∙ sym (childText-is d (lineIn node d f) (getD (children (node t)) j 0)))))
+    childText-is c (lineIn node c f) (getD (children (node t)) j 0)
+    ∙ (ap (λ (x : Called). shown x (lineIn node c f (getD (children (node t)) j 0))) (e (getD (children (node t)) j 0))
+    ∙ (ap (shown (d (getD (children (node t)) j 0))) (lineIn-called node c d e f (getD (children (node t)) j 0))
+    ∙ sym (childText-is d (lineIn node d f) (getD (children (node t)) j 0)))))
 
 pub line-called :
     (node : ℕ → Node) (c d : ℕ → Called) → ((k : ℕ) → c k ≡ d k) → (t : ℕ) → line node c t ≡ line node d t
@@ -44,22 +44,22 @@ module _
     (lower : Lower v n)
     (unnamed : (t : ℕ) → v .place t ≡ 0)
     (narrow : (t : ℕ) → t < n → 4096 + v .wide t ≤ v .limit)
-    where
-  bodyIn-flat :
-      (f m i t : ℕ) →
-      t < n →
-      t < f →
-      i + 2 * t ≤ 4096 →
-      bodyIn v f m i t ≡ lineIn (v .node) (λ (k : ℕ). byText) f t
-  unfolding bodyIn lineIn shownIn
-  bodyIn-flat zero m i t k p l = let z : ⊥ = omega arith in absurd z
-  bodyIn-flat (suc f) m i t k p l =
-      let g : gapOf v m i t ≡ 32 ∷ [] =
-            gapText-narrow (v .limit) (i + v .wide t) (m + i + 2) (omega (arith, narrow t k)) in
-      rw g
-      (form-same (32 ∷ []) (shownIn v (bodyIn v f m (i + 2)))
-      (childText (λ (k : ℕ). byText) (lineIn (v .node) (λ (k : ℕ). byText) f)) (v .node t)
-      (λ j lj.
+  where
+    bodyIn-flat :
+        (f m i t : ℕ) →
+        t < n →
+        t < f →
+        i + 2 * t ≤ 4096 →
+        bodyIn v f m i t ≡ lineIn (v .node) (λ (k : ℕ). byText) f t
+    unfolding bodyIn lineIn shownIn
+    bodyIn-flat zero m i t k p l = let z : ⊥ = omega arith in absurd z
+    bodyIn-flat (suc f) m i t k p l =
+        let g : gapOf v m i t ≡ 32 ∷ [] =
+        gapText-narrow (v .limit) (i + v .wide t) (m + i + 2) (omega (arith, narrow t k)) in
+        rw g
+        (form-same (32 ∷ []) (shownIn v (bodyIn v f m (i + 2)))
+        (childText (λ (k : ℕ). byText) (lineIn (v .node) (λ (k : ℕ). byText) f)) (v .node t)
+        (λ j lj.
         let h : getD (children (v .node t)) j 0 < t = lower t k j lj in
         let u : v .place (getD (children (v .node t)) j 0) ≤ 0 = omega (arith, unnamed (getD (children (v .node t)) j 0)) in
         shownAbove-text v 0 (getD (children (v .node t)) j 0)
@@ -70,8 +70,8 @@ module _
         (childText-is (λ (k : ℕ). byText) (lineIn (v .node) (λ (k : ℕ). byText) f)
         (getD (children (v .node t)) j 0))))))
 
-  pub piece-flat :
-      (lim m i t : ℕ) → t < n → i + 2 * t ≤ 4096 → piece v lim m i t ≡ line (v .node) (λ (k : ℕ). byText) t
-  unfolding piece body line
-  piece-flat lim m i t k l =
-      shownAbove-text v lim t (body v m i t) (omega (arith, unnamed t)) ∙ bodyIn-flat (suc t) m i t k (omega arith) l
+    pub piece-flat :
+        (lim m i t : ℕ) → t < n → i + 2 * t ≤ 4096 → piece v lim m i t ≡ line (v .node) (λ (k : ℕ). byText) t
+    unfolding piece body line
+    piece-flat lim m i t k l =
+        shownAbove-text v lim t (body v m i t) (omega (arith, unnamed t)) ∙ bodyIn-flat (suc t) m i t k (omega arith) l

@@ -18,13 +18,57 @@ use ghost.Atoms.{Atoms}
 use contract.Monad.{Fun}
 use contract.Running.{givenOf, tables, tablesOf}
 use types.Kit.{
-  Given, Item, ‵, raw, group, _⊛_, ⋆, _$_, _∵_, !, qed, by, move, keep, use1, use2, split, join, rewrite, fsplit,
-  fjoin, feqL, suffices, frame, done,
+  Given,
+  Item,
+  ‵,
+  raw,
+  group,
+  _⊛_,
+  ⋆,
+  _$_,
+  _∵_,
+  !,
+  qed,
+  by,
+  move,
+  keep,
+  use1,
+  use2,
+  split,
+  join,
+  rewrite,
+  fsplit,
+  fjoin,
+  feqL,
+  suffices,
+  frame,
+  done,
 }
 use types.Part.{agg, whole, sub, look-in}
 use types.Run.{
-  look, init, forget, stop, hop, fld, from, load, addr, of-opd, and-then, no-more, assigns, land, returns, enter,
-  alloc1, alloc0, params1, pass1, pass0, free1, free0,
+  look,
+  init,
+  forget,
+  stop,
+  hop,
+  fld,
+  from,
+  load,
+  addr,
+  of-opd,
+  and-then,
+  no-more,
+  assigns,
+  land,
+  returns,
+  enter,
+  alloc1,
+  alloc0,
+  params1,
+  pass1,
+  pass0,
+  free1,
+  free0,
 }
 use sound.WpLaws.{FmC, fmOf, WpFn-mono}
 use denote.RattleType.{RattleType, owns}
@@ -43,7 +87,17 @@ use denote.Triple.Spec.{Meets, tripleOf}
 use denote.Triple.Statement.{Triple}
 use denote.Triple.Table.{entered, cited}
 use denote.Triple.Walked.{
-  says, Stays, stay-dropped, walkOf, goes-dropped, gave-slice, goes-gave-slice, Walks, ends-at, walked, walk-meets,
+  says,
+  Stays,
+  stay-dropped,
+  walkOf,
+  goes-dropped,
+  gave-slice,
+  goes-gave-slice,
+  Walks,
+  ends-at,
+  walked,
+  walk-meets,
 }
 use denote.Exit.{yes}
 use denote.Struct.Laws as LL
@@ -91,9 +145,20 @@ abbrev Entry : RattleType
 Entry = Array u8 32
 
 abbrev stayed : Stays (it.ended .signature .params) (it.ended .kept)
-stayed = (gave-slice (0 ∷ []) tt (plain (λ _. T.the-row)), (stay-dropped (shrSliceOf (1 ∷ []) tt (arrayOf (plain
-    (λ _. u8)) 32)) yes, (stay-dropped (plain (λ _. usize)) yes, (stay-dropped (plain (λ _. usize)) yes,
-    (stay-dropped (plain (λ _. i64)) yes, tt)))))
+stayed = (
+  gave-slice (0 ∷ []) tt (plain (λ _. T.the-row)),
+  (
+    stay-dropped (shrSliceOf (1 ∷ []) tt (arrayOf (plain
+        (λ _. u8)) 32)) yes,
+    (
+      stay-dropped (plain (λ _. usize)) yes,
+      (
+        stay-dropped (plain (λ _. usize)) yes,
+        (stay-dropped (plain (λ _. i64)) yes, tt),
+      ),
+    ),
+  ),
+)
 
 -- of the work's struct: its machine value, its copy of the records, and its answer
 spelled : (r : Adding) (u : Val) → Is D.the-row r (u ∷ []) → u ≡ D′.lowered r
@@ -117,46 +182,98 @@ module _ {M : Type 1} (𝓤 : URA M) (H : Heap 𝓤) (A : Atoms 𝓤) (W : Given
     (κ₀ κ₁ : Lft) (q₀ q₁ : Share)
     (ts : RefT (List Term)) (ns : RefT (List (List ℕ))) (terms : ℕ) (symbols : ℕ) (literal : ℤ)
     (room-ts : Room T.the-row (length (ts .now))) (room-ns : Room Entry (length (ns .now))) (is-terms : Is usize
-        terms (only (uint-vals w64 terms) ∷ [])) (is-symbols : Is usize symbols (only (uint-vals w64 symbols) ∷ []))
-        (is-literal : Is i64 literal (only (sint-vals w64 literal) ∷ [])) where
+    terms (only (uint-vals w64 terms) ∷ [])) (is-symbols : Is usize symbols (only (uint-vals w64 symbols) ∷ []))
+    (is-literal : Is i64 literal (only (sint-vals w64 literal) ∷ [])) where
   abbrev at : Vals it.signature (κ₀, (κ₁, tt))
-  at = ((sliceVal (ts .ptr) (length (ts .now)) ∷ []), ((sliceVal (ns .ptr) (length (ns .now)) ∷ []), ((only
-      (uint-vals w64 terms) ∷ []), ((only (uint-vals w64 symbols) ∷ []), ((only (sint-vals w64 literal) ∷ []), tt)))))
+  at = (
+    (sliceVal (ts .ptr) (length (ts .now)) ∷ []),
+    (
+      (sliceVal (ns .ptr) (length (ns .now)) ∷ []),
+      (
+        (only
+            (uint-vals w64 terms) ∷ []),
+        ((only (uint-vals w64 symbols) ∷ []), ((only (sint-vals w64 literal) ∷ []), tt)),
+      ),
+    ),
+  )
 
   abbrev Post : Val → SProp 𝓤
-  Post = walkOf 𝓤 H A it.ended stayed (it.clauses 𝓤 H A mem run) .post (((κ₀, (κ₁, tt)), (q₀, (q₁, tt)), tt, (ts,
-      (ns, (terms, (symbols, (literal, tt))))), at), tt)
+  Post = walkOf 𝓤 H A it.ended stayed (it.clauses 𝓤 H A mem run) .post (
+    (
+      (κ₀, (κ₁, tt)),
+      (q₀, (q₁, tt)),
+      tt,
+      (
+        ts,
+        (ns, (terms, (symbols, (literal, tt)))),
+      ),
+      at,
+    ),
+    tt,
+  )
 
   abbrev Toks : Item 𝓤
   Toks = ‵ (flft κ₀ q₀) ⊛ ‵ (flft κ₁ q₁) ⊛ ‵ ftrue
 
   -- the calls: what each is passed, and what it asks
   abbrev to-lod : ℕ → GName → Of 𝓤 H A lod.ended (lod.clauses 𝓤 H A mem run) .Ghost
-  to-lod ν δ = (((ν ∷ [], tt), (fullShare, tt), tt, (ref (ts .ptr .0) (ts .ptr .1) δ (ts .now), tt), (sliceVal (ts
-      .ptr) (length (ts .now)) ∷ [], tt)), tt)
+  to-lod ν δ = (
+    (
+      (ν ∷ [], tt),
+      (fullShare, tt),
+      tt,
+      (ref (ts .ptr .0) (ts .ptr .1) δ (ts .now), tt),
+      (
+        sliceVal (ts
+            .ptr) (length (ts .now)) ∷ [],
+        tt,
+      ),
+    ),
+    tt,
+  )
 
   goes-lod :
       (ν : ℕ) (δ : GName) →
       ent 𝓤 (⋆ 𝓤 H A ((‵ (flft (ν ∷ []) fullShare) ⊛ ‵ ftrue) ∷ ‵ (ShrSlice (named 0) (ν ∷ []) T.the-row .own (ref
-          (ts .ptr .0) (ts .ptr .1) δ (ts .now)) (sliceVal (ts .ptr) (length (ts .now)) ∷ [])) ∷ []))
+      (ts .ptr .0) (ts .ptr .1) δ (ts .now)) (sliceVal (ts .ptr) (length (ts .now)) ∷ [])) ∷ []))
       (Of 𝓤 H A lod.ended (lod.clauses 𝓤 H A mem run) .pre (to-lod ν δ))
   goes-lod ν δ =
       qed W ((‵ (flft (ν ∷ []) fullShare) ⊛ ‵ ftrue) ∷ ‵ (ShrSlice (named 0) (ν ∷ []) T.the-row .own (ref (ts .ptr
-          .0) (ts .ptr .1) δ (ts .now)) (sliceVal (ts .ptr) (length (ts .now)) ∷ [])) ∷ []) ∵
+      .0) (ts .ptr .1) δ (ts .now)) (sliceVal (ts .ptr) (length (ts .now)) ∷ [])) ∷ []) ∵
       nothing ! $ move ! (2 ∷ 0 ∷ []) $ fjoin ! $ move ! (1 ∷ 0 ∷ []) $ join ! $ frame ! $ done !
 
   abbrev to-wrk : Flat → Val → Of 𝓤 H A wrk.ended (wrk.clauses 𝓤 H A mem run) .Ghost
-  to-wrk f v = (((κ₁, tt), (q₁, tt), tt, (f, (ns, (terms, (symbols, (literal, tt))))), ((v ∷ []), ((sliceVal (ns
-      .ptr) (length (ns .now)) ∷ []), ((only (uint-vals w64 terms) ∷ []), ((only (uint-vals w64 symbols) ∷ []),
-      ((only (sint-vals w64 literal) ∷ []), tt)))))), tt)
+  to-wrk f v = (
+    (
+      (κ₁, tt),
+      (q₁, tt),
+      tt,
+      (f, (ns, (terms, (symbols, (literal, tt))))),
+      (
+        (v ∷ []),
+        (
+          (sliceVal (ns
+              .ptr) (length (ns .now)) ∷ []),
+          (
+            (only (uint-vals w64 terms) ∷ []),
+            (
+              (only (uint-vals w64 symbols) ∷ []),
+              ((only (sint-vals w64 literal) ∷ []), tt),
+            ),
+          ),
+        ),
+      ),
+    ),
+    tt,
+  )
 
   goes-wrk :
       (f : Flat) (v : Val) → Is F.the-row f (v ∷ []) → Whole f →
       ent 𝓤 (⋆ 𝓤 H A (‵ (flft κ₁ q₁) ∷ ‵ (ShrSlice (named 0) κ₁ Entry .own ns (sliceVal (ns .ptr) (length (ns .now))
-          ∷ [])) ∷ [])) (Of 𝓤 H A wrk.ended (wrk.clauses 𝓤 H A mem run) .pre (to-wrk f v))
+      ∷ [])) ∷ [])) (Of 𝓤 H A wrk.ended (wrk.clauses 𝓤 H A mem run) .pre (to-wrk f v))
   goes-wrk f v is asked =
       qed W (‵ (flft κ₁ q₁) ∷ ‵ (ShrSlice (named 0) κ₁ Entry .own ns (sliceVal (ns .ptr) (length (ns .now)) ∷ [])) ∷
-          []) ∵
+      []) ∵
       says ! asked $ nothing ! $ move ! (1 ∷ 0 ∷ []) $ join ! $ frame ! $ nothing ! $
       owned ! i64 (Is i64) (sint-makes 𝓤 H A W w64) literal _ is-literal $ fjoin ! $
       owned ! usize (Is usize) (uint-makes 𝓤 H A W w64) symbols _ is-symbols $ fjoin ! $
@@ -164,17 +281,32 @@ module _ {M : Type 1} (𝓤 : URA M) (H : Heap 𝓤) (A : Atoms 𝓤) (W : Given
       owned ! F.the-row (Is F.the-row) (LL.makes F.the-type F′.the-plain 𝓤 H A) f _ is $ fjoin ! $ done !
 
   abbrev to-unl : Adding → Of 𝓤 H A unl.ended (unl.clauses 𝓤 H A mem run) .Ghost
-  to-unl r = (((κ₀, tt), (q₀, tt), tt, (ts, (r .flat, tt)), (sliceVal (ts .ptr) (length (ts .now)) ∷ [], (F′.lowered
-      (r .flat) ∷ [], tt))), tt)
+  to-unl r = (
+    (
+      (κ₀, tt),
+      (q₀, tt),
+      tt,
+      (ts, (r .flat, tt)),
+      (
+        sliceVal (ts .ptr) (length (ts .now)) ∷ [],
+        (
+          F′.lowered
+              (r .flat) ∷ [],
+          tt,
+        ),
+      ),
+    ),
+    tt,
+  )
 
   goes-unl :
       (r : Adding) → Is F.the-row (r .flat) (F′.lowered (r .flat) ∷ []) →
       (r .flat .room ≤ length (ts .now)) × (r .flat .room ≤ 1024) →
       ent 𝓤 (⋆ 𝓤 H A ((‵ (flft κ₀ q₀) ⊛ ‵ ftrue) ∷ ‵ (MutSlice (named 0) κ₀ T.the-row .own ts (sliceVal (ts .ptr)
-          (length (ts .now)) ∷ [])) ∷ [])) (Of 𝓤 H A unl.ended (unl.clauses 𝓤 H A mem run) .pre (to-unl r))
+      (length (ts .now)) ∷ [])) ∷ [])) (Of 𝓤 H A unl.ended (unl.clauses 𝓤 H A mem run) .pre (to-unl r))
   goes-unl r is asked =
       qed W ((‵ (flft κ₀ q₀) ⊛ ‵ ftrue) ∷ ‵ (MutSlice (named 0) κ₀ T.the-row .own ts (sliceVal (ts .ptr) (length (ts
-          .now)) ∷ [])) ∷ []) ∵
+      .now)) ∷ [])) ∷ []) ∵
       says ! asked $ frame ! $ nothing ! $
       owned ! F.the-row (Is F.the-row) (LL.makes F.the-type F′.the-plain 𝓤 H A) (r .flat) _ is $ fjoin ! $
       move ! (1 ∷ 0 ∷ []) $ fjoin ! $ done !
@@ -183,13 +315,32 @@ module _ {M : Type 1} (𝓤 : URA M) (H : Heap 𝓤) (A : Atoms 𝓤) (W : Given
       (r : Adding) → Is R.the-row (r .added) (answer-val r ∷ []) →
       (zs-ts : List Term) → length zs-ts ≡ length (ts .now) →
       LentAdded (ts .now) (ns .now) terms symbols (addLiteral (lentStore (ts .now) (ns .now) terms symbols) literal)
-          (r .added) zs-ts (ns .now) → ent 𝓤 (⋆ 𝓤 H A ((Toks) ∷ ‵ (finally T.the-row (ts .name) zs-ts) ∷ [])) (Post
-          (answer-val r))
+      (r .added) zs-ts (ns .now) → ent 𝓤 (⋆ 𝓤 H A ((Toks) ∷ ‵ (finally T.the-row (ts .name) zs-ts) ∷ [])) (Post
+      (answer-val r))
   exits r is zs-ts same-ts e =
       qed W ((Toks) ∷ ‵ (finally T.the-row (ts .name) zs-ts) ∷ []) ∵
-      suffices ! _ (ends-at 𝓤 H A it.ended stayed (it.clauses 𝓤 H A mem run) W (((κ₀, (κ₁, tt)), (q₀, (q₁, tt)), tt,
-          (ts, (ns, (terms, (symbols, (literal, tt))))), at), tt) (answer-val r) (r .added) (zs-ts, (tt, (tt, (tt,
-          (tt, tt))))) (same-ts, (tt, (tt, (tt, (tt, tt)))))) $
+      suffices ! _ (ends-at 𝓤 H A it.ended stayed (it.clauses 𝓤 H A mem run) W (
+        (
+          (κ₀, (κ₁, tt)),
+          (q₀, (q₁, tt)),
+          tt,
+          (ts, (ns, (terms, (symbols, (literal, tt))))),
+          at,
+        ),
+        tt,
+      ) (answer-val r) (r .added) (
+        zs-ts,
+        (
+          tt,
+          (
+            tt,
+            (
+              tt,
+              (tt, tt),
+            ),
+          ),
+        ),
+      ) (same-ts, (tt, (tt, (tt, (tt, tt)))))) $
       says ! e $ frame ! $ nothing ! $ nothing ! $ fjoin ! $ nothing ! $ fjoin ! $ nothing ! $ fjoin ! $ nothing ! $
       fjoin ! $ move ! (1 ∷ 0 ∷ []) $ fjoin ! $ frame ! $
       owned ! R.the-row (Is R.the-row) (EL.makes R.the-type R′.the-plain 𝓤 H A) (r .added) _ is $ done !
@@ -297,23 +448,46 @@ module _ {M : Type 1} (𝓤 : URA M) (H : Heap 𝓤) (A : Atoms 𝓤) (W : Given
   walks =
       walked 𝓤 H A it.ended stayed (it.clauses 𝓤 H A mem run) (WpFn 𝓤 H (𝓣 .C) (𝓣 .Λ) code.function)
       (λ κs. (slice-vals, (slice-vals, ((uint-vals w64), ((uint-vals w64), ((sint-vals w64), tt))))))
-      (λ κs. (mut-slice-tells (named 0) (κs .0) T.the-row, (shr-slice-tells (named 1) (κs .1 .0) Entry, (uint-tells
-          w64, (uint-tells w64, (sint-tells w64, tt))))))
+      (λ κs. (
+        mut-slice-tells (named 0) (κs .0) T.the-row,
+        (
+          shr-slice-tells (named 1) (κs .1 .0) Entry,
+          (
+            uint-tells
+                w64,
+            (uint-tells w64, (sint-tells w64, tt)),
+          ),
+        ),
+      ))
       (λ κs qs bounds a g are. via 𝓤 _ (fst∗ 𝓤 _ (emp 𝓤))
       (walk 𝓤 H A W mem run (κs .0) (κs .1 .0) (qs .0) (qs .1 .0)
       (a .0) (a .1 .0) (a .1 .1 .0) (a .1 .1 .1 .0) (a .1 .1 .1 .1 .0)
       (are .0 .0 .1) (are .1 .0 .0 .1) (are .1 .1 .0) (are .1 .1 .1 .0) (are .1 .1 .1 .1 .0) 𝓣 known-lod known-wrk
-          known-unl))
+      known-unl))
 
   meets : Meets 𝓤 H A it.signature (WpFn 𝓤 H (𝓣 .C) (𝓣 .Λ) code.function) (it.spec 𝓤 H A mem run)
   meets =
-      walk-meets 𝓤 H A it.ended stayed W
-      (goes-gave-slice 𝓤 H A W 2 0 tt (plain (λ _. T.the-row)), (goes-dropped 𝓤 H A W 2 (shrSliceOf (1 ∷ []) tt
-          (arrayOf (plain (λ _. u8)) 32)) yes (λ κs x f. refl), (goes-dropped 𝓤 H A W 2 (plain (λ _. usize)) yes
-          (λ κs x f. refl), (goes-dropped 𝓤 H A W 2 (plain (λ _. usize)) yes (λ κs x f. refl), (goes-dropped 𝓤 H A W
-          2 (plain (λ _. i64)) yes (λ κs x f. refl), tt)))))
+      walk-meets 𝓤 H A it.ended stayed W (
+        goes-gave-slice 𝓤 H A W 2 0 tt (plain (λ _. T.the-row)),
+        (
+          goes-dropped 𝓤 H A W 2 (shrSliceOf (1 ∷ []) tt
+              (arrayOf (plain (λ _. u8)) 32)) yes (λ κs x f. refl),
+          (
+            goes-dropped 𝓤 H A W 2 (plain (λ _. usize)) yes
+                (λ κs x f. refl),
+            (
+              goes-dropped 𝓤 H A W 2 (plain (λ _. usize)) yes (λ κs x f. refl),
+              (
+                goes-dropped 𝓤 H A W
+                    2 (plain (λ _. i64)) yes (λ κs x f. refl),
+                tt,
+              ),
+            ),
+          ),
+        ),
+      )
       (it.clauses 𝓤 H A mem run) (WpFn 𝓤 H (𝓣 .C) (𝓣 .Λ) code.function) (WpFn-mono 𝓤 H (W .laws) 𝓣 code.function)
-          walks
+      walks
 
 pub add-literal-spec : {M : Type 1} → stated.statement M
 unfolding code.routine tablesOf

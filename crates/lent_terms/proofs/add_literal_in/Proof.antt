@@ -12,10 +12,6 @@ use Rattle.terms.specs.Calls.{addLiteral}
 use borrow.Author.Needs.{needs}
 use Rattle.lent_terms.proofs.add_literal_in.Statement.{statement}
 use Rattle.lent_terms.proofs.add_literal_in.Tie as tie
-use Rattle.lent_terms.proofs.add_literal_in.Reads as reads
-use Rattle.lent_terms.proofs.add_literal_in.Lts as lts
-use Rattle.entries.proofs.load_names.Reads as load-names-reads
-use Rattle.terms.proofs.add_literal.Reads as add-literal-reads
 
 mul-e : tie.Need-mul-e
 mul-e c = search needs
@@ -35,7 +31,7 @@ array-borrow-prefix-records c = search needs
 slice-aggregate-add-literal : tie.Need-slice-aggregate-add-literal
 slice-aggregate-add-literal c =
     sym (length-take-le (c .before .before .before .before .before .before .args .f .room * 11) (c .before .before
-        .before .before .before .before .args .f .records) (omega arith))
+    .before .before .before .before .args .f .records) (omega arith))
 
 array-borrow-prefix-literals : tie.Need-array-borrow-prefix-literals
 array-borrow-prefix-literals c = search needs
@@ -43,7 +39,7 @@ array-borrow-prefix-literals c = search needs
 slice-aggregate-add-literal-2 : tie.Need-slice-aggregate-add-literal-2
 slice-aggregate-add-literal-2 c =
     sym (length-take-le (c .before .before .before .before .before .before .before .args .f .room) (c .before .before
-        .before .before .before .before .before .args .f .literals) (omega arith))
+    .before .before .before .before .before .args .f .literals) (omega arith))
 
 array-share-prefix-names : tie.Need-array-share-prefix-names
 array-share-prefix-names c = search needs
@@ -51,8 +47,12 @@ array-share-prefix-names c = search needs
 slice-aggregate-add-literal-3 : tie.Need-slice-aggregate-add-literal-3
 slice-aggregate-add-literal-3 c =
     let names = c .before .before .before .before .load-names in
-    sym (length-take-le (names .result * 32) (names .last .1 .0) (omega (arith, names .ensures .room, names .ensures
-        .long)))
+    sym (length-take-le (names .result * 32) (names .last .1 .0) (omega (
+      arith,
+      names .ensures .room,
+      names .ensures
+          .long,
+    )))
 
 add-literal-requires : tie.Need-add-literal-requires
 add-literal-requires c κs = search needs
@@ -64,12 +64,12 @@ returns c =
     let call = c .before .before .add-literal in
     let names = c .before .before .before .before .before .before .before .load-names .ensures in
     let long : length (call .last .0) ≡ f .room * 11 = c .before .records3 .given ∙ length-take-le (f .room * 11) (f
-        .records) (omega arith) in
+    .records) (omega arith) in
     let wide : length (call .last .1 .0) ≡ f .room = c .literals3 .given ∙ length-take-le (f .room) (f .literals)
-        (omega arith) in
+    (omega arith) in
     let exact : toZ w64 (ofZ w64 (g .literal)) ≡ g .literal = search needs in
     added-same-names f (g .ns .now) (g .terms) (g .symbols) (λ (s : Store). addLiteral s (g .literal)) (call .result)
-        (call .last .0) _
+    (call .last .0) _
     (call .last .1 .0) long wide (names .bytes) (names .wide) (rw exact at (call .ensures))
 
 pub add-literal-in-spec : {M : Type 1} → statement M

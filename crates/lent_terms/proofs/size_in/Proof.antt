@@ -8,10 +8,6 @@ use Rattle.lent.proofs.StoreLaws.{storeIn-is}
 use borrow.Author.Needs.{needs}
 use Rattle.lent_terms.proofs.size_in.Statement.{statement}
 use Rattle.lent_terms.proofs.size_in.Tie as tie
-use Rattle.lent_terms.proofs.size_in.Reads as reads
-use Rattle.lent_terms.proofs.size_in.Lts as lts
-use Rattle.entries.proofs.load_names.Reads as load-names-reads
-use Rattle.terms.proofs.size.Reads as size-reads
 
 mul-e : tie.Need-mul-e
 mul-e c = search needs
@@ -31,7 +27,7 @@ array-share-prefix-records c = search needs
 slice-aggregate-size : tie.Need-slice-aggregate-size
 slice-aggregate-size c =
     sym (length-take-le (c .before .before .before .before .before .before .args .f .room * 11) (c .before .before
-        .before .before .before .before .args .f .records) (omega arith))
+    .before .before .before .before .args .f .records) (omega arith))
 
 array-share-prefix-literals : tie.Need-array-share-prefix-literals
 array-share-prefix-literals c = search needs
@@ -39,7 +35,7 @@ array-share-prefix-literals c = search needs
 slice-aggregate-size-2 : tie.Need-slice-aggregate-size-2
 slice-aggregate-size-2 c =
     sym (length-take-le (c .before .before .before .before .before .before .before .args .f .room) (c .before .before
-        .before .before .before .before .before .args .f .literals) (omega arith))
+    .before .before .before .before .before .args .f .literals) (omega arith))
 
 array-share-prefix-names : tie.Need-array-share-prefix-names
 array-share-prefix-names c = search needs
@@ -47,8 +43,12 @@ array-share-prefix-names c = search needs
 slice-aggregate-size-3 : tie.Need-slice-aggregate-size-3
 slice-aggregate-size-3 c =
     let names = c .before .before .before .before .load-names in
-    sym (length-take-le (names .result * 32) (names .last .1 .0) (omega (arith, names .ensures .room, names .ensures
-        .long)))
+    sym (length-take-le (names .result * 32) (names .last .1 .0) (omega (
+      arith,
+      names .ensures .room,
+      names .ensures
+          .long,
+    )))
 
 size-requires : tie.Need-size-requires
 size-requires c κs = search needs
@@ -57,7 +57,7 @@ returns : tie.Need-returns
 returns c =
     let g = c .before .before .before .before .before .before .before .before .before .args in
     c .size .ensures ∙ ap sizeOf (storeIn-is (g .f) (g .ns .now) (g .terms) (g .symbols) _ (c .before .before .before
-        .before .before .load-names .ensures .bytes))
+    .before .before .load-names .ensures .bytes))
 
 pub size-in-spec : {M : Type 1} → statement M
 size-in-spec =
