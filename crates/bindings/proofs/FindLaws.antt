@@ -36,7 +36,7 @@ find-last t i n (b ∷ bs) e = by (find-last t i (n + 1) bs) (ℕ-discrete (b .t
         find t n ((b ∷ bs) ++ one t i) ≡ place (n + length (b ∷ bs))
     by ih (yes q) =
         let w : place n ≡ nowhere =
-              sym (subst (λ (x : ℕ). find x n (b ∷ bs) ≡ place n) q (find-hit (b .term) n (b .indent) bs)) ∙ e in
+        sym (subst (λ (x : ℕ). find x n (b ∷ bs) ≡ place n) q (find-hit (b .term) n (b .indent) bs)) ∙ e in
         let z : _≡_ {A = ℕ} 0 1 = cc in absurd (omega arith)
     by ih (no q) =
         find-miss t n b (bs ++ one t i) q ∙ (ih (sym (find-miss t n b bs q) ∙ e) ∙ ap place (omega arith))

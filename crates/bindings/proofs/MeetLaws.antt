@@ -82,8 +82,8 @@ module _ (kids : ℕ → List ℕ) (wanted : ℕ → Bool) where
         ∙ (ap (λ (x : List Bound). whether (find t 0 bs) bs (bind (wanted t) t i x))
         (turn-same (meetIn kids wanted f (i + 2)) (meetIn kids wanted g (i + 2)) (kids t) bs
         (λ j l cs.
-          let h : getD (kids t) j 0 < t = lower t k j l in
-          meetIn-enough f g (i + 2) (getD (kids t) j 0) cs (omega arith) (omega arith) (omega arith)))
+        let h : getD (kids t) j 0 < t = lower t k j l in
+        meetIn-enough f g (i + 2) (getD (kids t) j 0) cs (omega arith) (omega arith) (omega arith)))
         ∙ sym (meetIn-step g i t bs))
 
     met-by :
@@ -97,8 +97,8 @@ module _ (kids : ℕ → List ℕ) (wanted : ℕ → Bool) where
         ∙ ap (λ (x : List Bound). whether (find t 0 bs) bs (bind (wanted t) t i x))
         (turn-same (meetIn kids wanted t (i + 2)) (metAt kids wanted (i + 2)) (kids t) bs
         (λ j l cs.
-          let h : getD (kids t) j 0 < t = lower t k j l in
-          meetIn-enough t (suc (getD (kids t) j 0)) (i + 2) (getD (kids t) j 0) cs (omega arith) h (omega arith)))
+        let h : getD (kids t) j 0 < t = lower t k j l in
+        meetIn-enough t (suc (getD (kids t) j 0)) (i + 2) (getD (kids t) j 0) cs (omega arith) h (omega arith)))
 
     pub met-old :
         (i t : ℕ) (bs : List Bound) (p : ℕ) → t < n → find t 0 bs ≡ place p → metAt kids wanted i t bs ≡ bs
@@ -141,8 +141,8 @@ module _ (kids : ℕ → List ℕ) (wanted : ℕ → Bool) where
         (above-by f u i t bs l e
         (turn-keeps (λ (x : List Bound). find u 0 x ≡ nowhere) (meetIn kids wanted f (i + 2)) (kids t) bs
         (λ j lj cs ec.
-          let h : getD (kids t) j 0 < t = lower t k j lj in
-          meetIn-above f u (i + 2) (getD (kids t) j 0) cs (omega arith) (omega arith) (omega arith) ec) e)
+        let h : getD (kids t) j 0 < t = lower t k j lj in
+        meetIn-above f u (i + 2) (getD (kids t) j 0) cs (omega arith) (omega arith) (omega arith) ec) e)
         (find t 0 bs))
 
     -- meeting t binds nothing above t
@@ -172,6 +172,6 @@ meetIn-wanted kids v w n lower e (suc f) i t bs k =
     ∙ (ap (λ (x : List Bound). whether (find t 0 bs) bs (bind (w t) t i x))
     (turn-same (meetIn kids v f (i + 2)) (meetIn kids w f (i + 2)) (kids t) bs
     (λ j l cs.
-      let h : getD (kids t) j 0 < t = lower t k j l in
-      meetIn-wanted kids v w n lower e f (i + 2) (getD (kids t) j 0) cs (omega arith)))
+    let h : getD (kids t) j 0 < t = lower t k j l in
+    meetIn-wanted kids v w n lower e f (i + 2) (getD (kids t) j 0) cs (omega arith)))
     ∙ sym (meetIn-step kids w f i t bs)))

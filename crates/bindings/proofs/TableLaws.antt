@@ -119,8 +119,8 @@ module _ (places terms indents : List ℕ) (m t i : ℕ) (v : Met places terms i
       let s : m + 1 ≡ suc m = add-one m in
       record {
         right = λ u lu.
-          rw bounds-more
-          (right-by u (subst (λ (x : ℕ). u < x) (length-set places t (m + 1)) lu) (ℕ-discrete u t));
+            rw bounds-more
+            (right-by u (subst (λ (x : ℕ). u < x) (length-set places t (m + 1)) lu) (ℕ-discrete u t));
         free = rw (length-set terms m t, s) (omega (arith, v .free, zeros-set places t m l z));
         long = length-set indents m i ∙ (v .long ∙ sym (length-set terms m t));
       }
@@ -164,8 +164,8 @@ module _ (kids : ℕ → List ℕ) (wanted : ℕ → Bool) (n : ℕ) (lower : (t
     same =
         subst
         (λ (x : List Bound).
-          inTurn (metAt kids wanted (i + 2)) (drop (j + 1) ks) x
-          ≡ inTurn (metAt kids wanted (i + 2)) ks (bounds terms₀ indents₀ m)) (sym e)
+        inTurn (metAt kids wanted (i + 2)) (drop (j + 1) ks) x
+        ≡ inTurn (metAt kids wanted (i + 2)) ks (bounds terms₀ indents₀ m)) (sym e)
         (rw add-one
         (sym (turn-step (metAt kids wanted (i + 2)) (getD ks j 0) (drop (suc j) ks) (bounds terms indents b))
         ∙ rw (← drop-cons ks j 0 l) (v .same)));

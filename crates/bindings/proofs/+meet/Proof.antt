@@ -114,19 +114,19 @@ module _
     (places terms indents : List ℕ)
     (b j : ℕ)
     (v :
-      Turning (kidsAt (s .args .records .now)) (wantedAt (s .args .wanted .now)) (s .args .i) (s .args .t) (kids t s)
-      (s .args .places .now) (s .args .terms .now) (s .args .indents .now) (s .args .m) places terms indents b j)
-    where
-  turned : length (kids t s) ≤ j → bounds terms indents b ≡ inside t s
-  turned l =
-      turning-end (kidsAt (s .args .records .now)) (wantedAt (s .args .wanted .now)) (s .args .n)
-      (s .pre .1 .linked .lower) (s .args .i) (s .args .t) (kids t s) (s .args .places .now) (s .args .terms .now)
-      (s .args .indents .now) (s .args .m) places terms indents b j v l
+    Turning (kidsAt (s .args .records .now)) (wantedAt (s .args .wanted .now)) (s .args .i) (s .args .t) (kids t s)
+    (s .args .places .now) (s .args .terms .now) (s .args .indents .now) (s .args .m) places terms indents b j)
+  where
+    turned : length (kids t s) ≤ j → bounds terms indents b ≡ inside t s
+    turned l =
+        turning-end (kidsAt (s .args .records .now)) (wantedAt (s .args .wanted .now)) (s .args .n)
+        (s .pre .1 .linked .lower) (s .args .i) (s .args .t) (kids t s) (s .args .places .now) (s .args .terms .now)
+        (s .args .indents .now) (s .args .m) places terms indents b j v l
 
-  room : b < length terms
-  room =
-      bound-room places terms indents b (s .args .t) (s .args .i) (v .met)
-      (omega (arith, s .pre .1 .known, s .pre .1 .inPlaces, v .placesLong)) (v .out)
+    room : b < length terms
+    room =
+        bound-room places terms indents b (s .args .t) (s .args .i) (v .met)
+        (omega (arith, s .pre .1 .known, s .pre .1 .inPlaces, v .placesLong)) (v .out)
 
 meet-mul-if1 :
     (t : ℕ) →
