@@ -1,24 +1,13 @@
 -- The terms of a well-formed store can be read. Assumes nothing.
-use mathlib.Core.Path.{_≡_, sym, ap, _∙_}
+use mathlib.Core.Path.{_≡_, sym, _∙_}
 use mathlib.Core.List.{List}
 use Prim.Native.Nat.{ℕ, _+_, _*_, _-_, _≤_, _<_}
 use native.Mathlib.Omega.{arith}
-use lib.ListN.{length, getD, take, drop, length-take, length-drop}
+use lib.ListN.{length, getD, take, drop, length-take}
 use lib.Seq.{getD-take}
 use lib.IntN.{ℤ}
-use Rattle.names.specs.Entries.{lengthAt}
 use Rattle.store.specs.Lent.{store, recordIn}
-use Rattle.store.specs.Facts.{
-  Sound,
-  SoundName,
-  SoundRecord,
-  IsLiteral,
-  IsVariable,
-  IsApplication,
-  aLiteral,
-  aVariable,
-  anApplication,
-}
+use Rattle.store.specs.Facts.{Sound, SoundRecord, aLiteral, aVariable, anApplication}
 use Rattle.heads.specs.Readable.{kindAt, symbolNo, arityAt, kidsAt, Inside, Readable}
 
 -- what one record tells

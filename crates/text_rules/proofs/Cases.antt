@@ -8,38 +8,9 @@ use lib.IntN.{pos}
 use Rattle.decimal.specs.Decimal.{digits, digitsIn, literalText}
 use Rattle.store.specs.Nodes.{Node, literal, variable, application}
 use Rattle.text_rules.specs.Forms.{each, form, shown, childText, lineIn, line}
-use Rattle.text_rules.specs.Counts.{
-  inTurn,
-  member,
-  reachIn,
-  reached,
-  places,
-  placesIn,
-  count,
-  sumOf,
-  sizeIn,
-  size,
-}
+use Rattle.text_rules.specs.Counts.{inTurn, member, reachIn, reached, places, placesIn, count, sumOf, sizeIn, size}
 use Rattle.text_rules.specs.Bindings.{find, toBind, bind, meetIn, bindings}
-use Rattle.text_rules.specs.LetText.{
-  Naming,
-  countText,
-  letName,
-  calledAt,
-  called,
-  several,
-  anySeveral,
-  newLine,
-  breaks,
-  ownIn,
-  own,
-  bodyGap,
-  letLine,
-  letLines,
-  textWith,
-  bindingsOf,
-  letLayout,
-}
+use Rattle.text_rules.specs.LetText.{Naming, countText, letName, calledAt, called, several, anySeveral, newLine, breaks, ownIn, own, bodyGap, letLine, letLines, textWith, bindingsOf, letLayout}
 
 -- term t of a list of terms
 term : List Node → ℕ → Node

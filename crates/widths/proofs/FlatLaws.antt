@@ -1,13 +1,13 @@
 -- Text without let names and without new lines is one line: what the writer writes for plain text. Assumes nothing.
 use mathlib.Core.Path.{_≡_, refl, sym, ap, _∙_}
 use mathlib.Core.List.{List, [], _∷_}
-use Prim.Native.Nat.{ℕ, zero, suc, _+_, _*_, _^_, _<_, _≤_}
+use Prim.Native.Nat.{ℕ, zero, suc, _+_, _*_, _<_, _≤_}
 use native.Mathlib.Omega.{arith}
-use lib.ListN.{length, getD}
+use lib.ListN.{getD}
 use borrow.Author.Tests.{le-ltb}
 use Rattle.store.specs.Nodes.{Node}
-use Rattle.text_rules.specs.Forms.{children, form, Called, byText, shown, childText, lineIn, line}
-use Rattle.text_rules.proofs.FormLaws.{form-same, lineIn-step, childText-is}
+use Rattle.text_rules.specs.Forms.{children, Called, byText, shown, childText, lineIn, line}
+use Rattle.text_rules.proofs.FormLaws.{form-same, childText-is}
 use Rattle.pieces.proofs.PieceLaws.{gapText-narrow}
 use Rattle.writer.specs.Piece.{View, shownAbove, shownIn, gapOf, bodyIn, body, piece}
 use Rattle.writer.proofs.PieceLaws.{Lower}

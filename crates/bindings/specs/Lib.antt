@@ -1,0 +1,2 @@
+-- The definitions of the crate `bindings`.
+pub mod Met

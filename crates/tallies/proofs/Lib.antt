@@ -1,0 +1,2 @@
+-- The laws of the crate `tallies`.
+pub mod TallyLaws

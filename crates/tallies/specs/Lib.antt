@@ -1,0 +1,2 @@
+-- The definitions of the crate `tallies`.
+pub mod Tallies

@@ -1,0 +1,3 @@
+-- The laws of the crate `texts`.
+pub mod ToldLaws
+pub mod PlainLaws
