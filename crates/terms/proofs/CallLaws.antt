@@ -19,11 +19,17 @@ use Rattle.store.specs.Nodes.{Node, literal}
 use Rattle.store.specs.Adding.{findTerm, at, noRoom, add}
 use Rattle.store.proofs.FactsLaws.{sound-of-wellFormed}
 use Rattle.records.specs.Flat.{InRecords}
+use Rattle.orders.specs.declared.Ordering.{Ordering}
+use Rattle.sorting.specs.Sort.{sorted}
+use Rattle.sorting.proofs.CountLaws.{place-of-count}
+use Rattle.merging.specs.Merge.{Within}
+use Rattle.term_order.specs.TreeOrder.{compareAt, atMost}
+use Rattle.store.proofs.ListLaws.{allBelow-get}
 use Rattle.interning.specs.Interning.{Leaves}
 use Rattle.interning.specs.declared.Added.{Added}
 use Rattle.interning.specs.declared.Added.the-variants.{Term as term, NoRoom as full}
 use Rattle.terms.specs.Answers.{given, refuse}
-use Rattle.terms.specs.Calls.{Faults, fine, fault, unless, literalFaults, variableFaults, applicationFaults, added, adding, found, finding, sizing, sizeOf, getFaults, noTerm, getting, getTerm}
+use Rattle.terms.specs.Calls.{Faults, fine, fault, unless, literalFaults, variableFaults, applicationFaults, added, adding, found, finding, sizing, sizeOf, getFaults, noTerm, getting, getTerm, compareFaults, comparing, compareTerms, sortFaults, sorting, sortTerms}
 
 unless-yes : (b : Bool) (r : Refusal) (f : Faults) → b ≡ true → unless b r f ≡ f
 unfolding unless
@@ -161,3 +167,66 @@ module _ (s : Store) where
       in-records h =
           let w = sound-of-wellFormed s e in
           record { numbers = omega (arith, w .recordsLong); literal = omega (arith, w .literalsLong) }
+
+-- compare and sort
+module _ (s : Store) where
+  module _ (a b : ℕ) where
+    pub compare-store : wellFormed s ≡ false → refuse BadStore ≡ compareTerms s a b
+    unfolding compareTerms comparing compareFaults
+    compare-store e = sym (ap (comparing s a b) (unless-no (wellFormed s) BadStore _ e))
+
+    module _ (e : wellFormed s ≡ true) where
+      pub compare-first : s .terms ≤ a → refuse BadTerm ≡ compareTerms s a b
+      unfolding compareTerms comparing compareFaults
+      compare-first h =
+          sym
+          (ap (comparing s a b)
+          (unless-yes (wellFormed s) BadStore _ e ∙ unless-no (ltb a (s .terms)) BadTerm _ (le-ltb a (s .terms) h)))
+
+      module _ (h : a < s .terms) where
+        both-tests : compareFaults s a b ≡ unless (ltb b (s .terms)) BadTerm fine
+        unfolding compareFaults
+        both-tests =
+            unless-yes (wellFormed s) BadStore _ e ∙ unless-yes (ltb a (s .terms)) BadTerm _ (lt-ltb a (s .terms) h)
+
+        pub compare-second : s .terms ≤ b → refuse BadTerm ≡ compareTerms s a b
+        unfolding compareTerms comparing
+        compare-second k =
+            sym
+            (ap (comparing s a b)
+            (both-tests ∙ unless-no (ltb b (s .terms)) BadTerm fine (le-ltb b (s .terms) k)))
+
+        pub compare-given : (o : Ordering) → b < s .terms → o ≡ compareAt s a b → given o ≡ compareTerms s a b
+        unfolding compareTerms comparing
+        compare-given o k d =
+            ap given d
+            ∙ sym
+            (ap (comparing s a b)
+            (both-tests ∙ unless-yes (ltb b (s .terms)) BadTerm fine (lt-ltb b (s .terms) k)))
+
+  module _ (l : List ℕ) where
+    pub sort-store : wellFormed s ≡ false → (refuse BadStore, l) ≡ sortTerms s l
+    unfolding sortTerms sorting sortFaults
+    sort-store e = sym (ap (sorting s l) (unless-no (wellFormed s) BadStore _ e))
+
+    module _ (e : wellFormed s ≡ true) where
+      pub sort-term : allBelow (s .terms) l ≡ false → (refuse BadTerm, l) ≡ sortTerms s l
+      unfolding sortTerms sorting sortFaults
+      sort-term f =
+          sym
+          (ap (sorting s l)
+          (unless-yes (wellFormed s) BadStore _ e ∙ unless-no (allBelow (s .terms) l) BadTerm fine f))
+
+      module _ (f : allBelow (s .terms) l ≡ true) where
+        pub sort-given : (m : List ℕ) → m ≡ sorted (atMost s) l → (given tt, m) ≡ sortTerms s l
+        unfolding sortTerms sorting sortFaults
+        sort-given m d =
+            ap (λ (x : List ℕ). (given tt, x)) d
+            ∙ sym
+            (ap (sorting s l)
+            (unless-yes (wellFormed s) BadStore _ e ∙ unless-yes (allBelow (s .terms) l) BadTerm fine f))
+
+        pub within-of-below : Within (s .terms) l
+        within-of-below y c =
+            let p = place-of-count y l c in
+            rw (p .1 .1) at (allBelow-get (s .terms) l f (p .0) (p .1 .0))

@@ -12,6 +12,9 @@ use Rattle.terms.specs.declared.Looked.{Looked}
 use Rattle.terms.specs.declared.Looked.the-variants.{Term as foundTerm, Refused as notFound}
 use Rattle.terms.specs.declared.Counted.{Counted}
 use Rattle.terms.specs.declared.Counted.the-variants.{Terms as counted, Refused as notCounted}
+use Rattle.orders.specs.declared.Ordering.{Ordering}
+use Rattle.terms.specs.declared.Compared.{Compared}
+use Rattle.terms.specs.declared.Compared.the-variants.{Order, Refused as notCompared}
 use Rattle.terms.specs.declared.Verdict.{Verdict}
 use Rattle.terms.specs.declared.Verdict.the-variants.{Done, Refused as notDone}
 use Rattle.terms.specs.declared.Got.{Got}
@@ -46,3 +49,12 @@ verdictOf (notDone r) a = refuse r
 
 abbrev pub seenGot : Got → Answer Term
 seenGot g = verdictOf (g .verdict) (g .term)
+
+-- the answer of compare
+abbrev pub seenOrder : Compared → Answer Ordering
+seenOrder (Order o) = given o
+seenOrder (notCompared r) = refuse r
+
+-- the answer of sort, and the list that it left
+abbrev pub seenSort : Verdict → List ℕ → Answer Unit × List ℕ
+seenSort v l = (verdictOf v tt, l)

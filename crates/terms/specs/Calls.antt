@@ -1,7 +1,7 @@
 -- What each call answers and leaves, from the lent store: document 01, 'Terms', with the refusals in its order.
 -- Assumes nothing: these are definitions.
 use Prim.Native.Nat.{ℕ}
-use mathlib.Core.Bool.{Bool, true, false}
+use mathlib.Core.Bool.{Bool, true, false, _&&_}
 use mathlib.Core.List.{List}
 use lib.ListN.{length, replicate}
 use lib.Dec.{leb, ltb}
@@ -9,6 +9,7 @@ use lib.IntN.{ℤ, pos}
 use Rattle.names.specs.Name.{valid}
 use Rattle.names.specs.declared.Found.{Found}
 use Rattle.names.specs.declared.Found.the-variants.{At, Missing}
+use Rattle.orders.specs.declared.Ordering.{Ordering}
 use Rattle.refusals.specs.declared.Refusal.{Refusal}
 use Rattle.refusals.specs.declared.Refusal.the-variants.{BadStore, BadName, BadSize, BadTerm, NoRoom, Absent}
 use Rattle.store.specs.declared.Term.{Term}
@@ -16,6 +17,8 @@ use Rattle.store.specs.Lent.{Store, recordAt}
 use Rattle.store.specs.WellFormed.{allBelow, wellFormed}
 use Rattle.store.specs.Nodes.{Node, literal, variable, application}
 use Rattle.store.specs.Adding.{findTerm, Adds, at, noRoom, add}
+use Rattle.sorting.specs.Sort.{sorted}
+use Rattle.term_order.specs.TreeOrder.{compareAt, atMost}
 use Rattle.terms.specs.Answers.{Answer, given, refuse}
 use Rattle.terms.specs.declared.Verdict.{Verdict}
 use Rattle.terms.specs.declared.Verdict.the-variants.{Done, Refused}
@@ -106,3 +109,25 @@ getting s i (fault r) = noTerm r
 
 unfoldable pub getTerm : Store → ℕ → Got
 getTerm s i = getting s i (getFaults s i)
+
+unfoldable pub compareFaults : Store → ℕ → ℕ → Faults
+compareFaults s a b =
+    unless (wellFormed s) BadStore (unless (ltb a (s .terms)) BadTerm (unless (ltb b (s .terms)) BadTerm fine))
+
+unfoldable pub comparing : Store → ℕ → ℕ → Faults → Answer Ordering
+comparing s a b fine = given (compareAt s a b)
+comparing s a b (fault r) = refuse r
+
+unfoldable pub compareTerms : Store → ℕ → ℕ → Answer Ordering
+compareTerms s a b = comparing s a b (compareFaults s a b)
+
+unfoldable pub sortFaults : Store → List ℕ → Faults
+sortFaults s l = unless (wellFormed s) BadStore (unless (allBelow (s .terms) l) BadTerm fine)
+
+-- "The sort of a list of numbers keeps repeats."
+unfoldable pub sorting : Store → List ℕ → Faults → Answer Unit × List ℕ
+sorting s l fine = (given tt, sorted (atMost s) l)
+sorting s l (fault r) = (refuse r, l)
+
+unfoldable pub sortTerms : Store → List ℕ → Answer Unit × List ℕ
+sortTerms s l = sorting s l (sortFaults s l)

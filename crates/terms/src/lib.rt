@@ -12,9 +12,12 @@ ghost use Rattle.terms.specs.Calls.{
   sizeOf,
   noTerm,
   getTerm,
+  compareTerms,
+  sortTerms,
 };
-ghost use Rattle.terms.specs.Answers.{seenAdded, seenFound, seenCount};
+ghost use Rattle.terms.specs.Answers.{seenAdded, seenFound, seenCount, seenOrder, seenSort};
 use names::Found;
+use orders::Ordering;
 use refusals::Refusal;
 use store::Term;
 
@@ -33,6 +36,12 @@ pub enum Looked {
 // How many terms there are.
 pub enum Counted {
     Terms(usize),
+    Refused(Refusal),
+}
+
+// How the first term stands to the second.
+pub enum Compared {
+    Order(Ordering),
     Refused(Refusal),
 }
 
@@ -308,4 +317,57 @@ pub fn get(
         verdict: Verdict::Done,
         term,
     }
+}
+
+// How term `a` stands to term `b`: `ast_cmp` of src/termdag.rs.
+pub fn compare(
+    records: &[u64],
+    literals: &[i64],
+    names: &[u8],
+    terms: usize,
+    symbols: usize,
+    a: usize,
+    b: usize,
+) -> Compared
+    ensures { λ r. ⌜
+        seenOrder r
+        ≡ compareTerms (store (now (records .entry)) (now (literals .entry)) (now (names .entry)) terms symbols) a b
+        ⌝ }
+{
+    if !records::check(records, literals, names, terms, symbols) {
+        return Compared::Refused(Refusal::BadStore);
+    }
+    if terms <= a {
+        return Compared::Refused(Refusal::BadTerm);
+    }
+    if terms <= b {
+        return Compared::Refused(Refusal::BadTerm);
+    }
+    let order = term_order::compare(records, literals, names, terms, symbols, a, b);
+    Compared::Order(order)
+}
+
+// Sorts a list of terms of any length, and keeps repeats: `sort_terms_by_ast` of src/termdag.rs.
+pub fn sort(
+    records: &[u64],
+    literals: &[i64],
+    names: &[u8],
+    terms: usize,
+    symbols: usize,
+    list: &mut [u64],
+) -> Verdict
+    ensures { λ r. ⌜
+        seenSort r (now (list .exit))
+        ≡ sortTerms (store (now (records .entry)) (now (literals .entry)) (now (names .entry)) terms symbols)
+        (now (list .entry))
+        ⌝ }
+{
+    if !records::check(records, literals, names, terms, symbols) {
+        return Verdict::Refused(Refusal::BadStore);
+    }
+    if !records::all_below(list, terms) {
+        return Verdict::Refused(Refusal::BadTerm);
+    }
+    term_sort::sort(records, literals, names, terms, symbols, list);
+    Verdict::Done
 }

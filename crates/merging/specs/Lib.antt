@@ -1,0 +1,3 @@
+-- The definitions of the crate `merging`.
+pub mod Merge
+pub mod Counting

@@ -1,0 +1,1 @@
+// Merging and counting sorted lists: definitions in specs/, theorems in proofs/. No code.

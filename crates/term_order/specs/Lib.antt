@@ -1,0 +1,3 @@
+-- The definitions of the crate `term_order`.
+pub mod TreeOrder
+pub mod Heads
