@@ -2,3 +2,4 @@
 pub mod FindLaws
 pub mod MeetLaws
 pub mod TableLaws
+pub mod WantedLaws

@@ -1,13 +1,13 @@
 -- The bindings as they stand in flat tables. Assumes nothing: these are definitions.
 use mathlib.Core.Path.{_≡_}
-use mathlib.Core.Bool.{Bool, true, false}
+use mathlib.Core.Bool.{Bool, true, false, _&&_}
 use mathlib.Core.List.{List, [], _∷_, _++_}
-use Prim.Native.Nat.{ℕ, zero, suc, _+_, _*_, _<_, _≤_}
+use Prim.Native.Nat.{ℕ, zero, suc, _+_, _*_, _-_, _<_, _≤_}
 use lib.ListN.{length, getD}
-use lib.Dec.{ltb, eqb}
-use Rattle.text_rules.specs.Bindings.{Bound, Place, nowhere, place, find, toBind, meetIn}
+use lib.Dec.{ltb, leb, eqb}
+use Rattle.text_rules.specs.Bindings.{Bound, Place, nowhere, place, find, toBind, meetIn, bindings}
 use Rattle.heads.specs.Readable.{kidsAt}
-use Rattle.tallies.specs.Tallies.{Linked}
+use Rattle.tallies.specs.Tallies.{Linked, Most}
 
 -- the first m bindings
 unfoldable pub bounds : List ℕ → List ℕ → ℕ → List Bound
@@ -53,3 +53,27 @@ pub record Ready (rs ws places terms indents : List ℕ) (n m i t : ℕ) : Type 
 pub record Done (rs ws terms indents : List ℕ) (m i t : ℕ) (places′ terms′ indents′ : List ℕ) (m′ : ℕ) : Type 0 where
   pub met : Met places′ terms′ indents′ m′
   pub same : bounds terms′ indents′ m′ ≡ metAt (kidsAt rs) (wantedAt ws) i t (bounds terms indents m)
+
+-- 1 where a term of this count and this size, cut at 4, is to be bound
+unfoldable pub flagOf : ℕ → ℕ → ℕ
+flagOf count size = elim (ltb 1 count && leb 4 size) [ true ↦ 1 | false ↦ 0 ]
+
+-- the first n counts are turned into flags
+abbrev pub Marked : List ℕ → List ℕ → List ℕ → ℕ → Type 0
+Marked counts sizes wanted n = (t : ℕ) → t < n → getD wanted t 0 ≡ flagOf (getD counts t 0) (getD sizes t 0)
+
+-- the tables that the bindings start from: all zero, and long enough
+pub record Blank (counts sizes places terms indents : List ℕ) (n : ℕ) : Type 0 where
+  pub countsZero : Most 0 counts
+  pub sizesZero : Most 0 sizes
+  pub placesZero : Most 0 places
+  pub inCounts : n ≤ length counts
+  pub inSizes : n ≤ length sizes
+  pub inPlaces : n ≤ length places
+  pub inTerms : length places ≤ length terms
+  pub inIndents : length indents ≡ length terms
+
+-- the bindings of the last of the first n terms, and their places
+pub record AllMet (rs places terms indents : List ℕ) (n m : ℕ) : Type 0 where
+  pub met : Met places terms indents m
+  pub same : bounds terms indents m ≡ bindings (kidsAt rs) (n - 1)

@@ -17,10 +17,12 @@ use lib.Seq.{
   take-take,
   take-paste,
   take-suc-set,
+  take-append-le,
   drop-cons,
   drop-drop,
   drop-nil,
   drop-append-add,
+  drop-append-le,
   getD-drop,
   getD-take,
   set-at,
@@ -239,3 +241,21 @@ entry-more l e a j he hl h same =
     ∙ ap (λ (v : ℕ). take j (drop a l) ++ (v ∷ [])) (sym (getD-drop a l j 0))
     ∙ sym (take-suc (drop a l) j 0 (omega (arith, length-drop a l)))
     ∙ ap (λ (n : ℕ). take n (drop a l)) (sym (add-one j))
+
+-- the first k entries need no more than their bytes
+entriesIn-front : (a b : List ℕ) (k : ℕ) → k * 32 ≤ length a → entriesIn (a ++ b) k ≡ entriesIn a k
+unfolding entriesIn
+entriesIn-front a b zero h = refl
+entriesIn-front a b (suc k) h =
+    let at : k * 32 ≤ length a = omega arith in
+    let part : take 32 (drop (k * 32) (a ++ b)) ≡ take 32 (drop (k * 32) a) =
+    ap (take 32) (drop-append-le (k * 32) a b at)
+    ∙ take-append-le 32 (drop (k * 32) a) b (omega (arith, length-drop (k * 32) a)) in
+    rw (entriesIn-front a b k at, part)
+
+pub entriesAfter-front :
+    (ns : List (List ℕ)) (a b : List ℕ) → length a ≡ min 128 (length ns) * 32 → entriesAfter ns (a ++ b) ≡
+    entriesAfter ns a
+unfolding entriesAfter
+entriesAfter-front ns a b e =
+    ap (λ (l : List (List ℕ)). l ++ drop 128 ns) (entriesIn-front a b (min 128 (length ns)) (omega (arith, e)))

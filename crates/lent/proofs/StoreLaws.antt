@@ -166,3 +166,11 @@ recordsAfter-storeIn ts ns f n m e =
     ∙ ap (λ (l : List Term). recordsIn (take (f .room * 11) (f .records)) (take (f .room) (f .literals)) (min 1024
     (length ts)) ++ l)
     (drop-min 1024 ts)
+
+-- what is put back depends on the numbers and the literals alone
+pub recordsAfter-lists :
+    (ts : List Term) (f : Flat) (ns : List (List ℕ)) (n m : ℕ) (s : Store) →
+    take (f .room * 11) (f .records) ≡ s .records → take (f .room) (f .literals) ≡ s .literals →
+    recordsAfter ts (storeIn f ns n m) ≡ recordsAfter ts s
+unfolding recordsAfter storeIn
+recordsAfter-lists ts f ns n m s p q = λ i. recordsIn (p i) (q i) (min 1024 (length ts)) ++ drop 1024 ts

@@ -8,8 +8,6 @@ use borrow.Author.Needs.{needs}
 use native.Mathlib.Omega.{arith}
 use Rattle.entries.proofs.entry_of.Statement.{statement}
 use Rattle.entries.proofs.entry_of.Tie as tie
-use Rattle.entries.proofs.entry_of.Reads as reads
-use Rattle.entries.proofs.entry_of.Lts as lts
 
 abbrev Inv-loop : tie.InvT-loop
 Inv-loop names k at e₀ j₀ e j =

@@ -9,11 +9,6 @@ use borrow.Author.Needs.{needs}
 use native.Mathlib.Omega.{arith}
 use Rattle.entries.proofs.load_names.Statement.{statement}
 use Rattle.entries.proofs.load_names.Tie as tie
-use Rattle.entries.proofs.load_names.Reads as reads
-use Rattle.entries.proofs.load_names.Lts as lts
-use Rattle.entries.proofs.name_at.Reads as name-at-reads
-use Rattle.entries.proofs.put_entry.Reads as put-entry-reads
-use Rattle.entries.proofs.room_of.Reads as room-of-reads
 
 abbrev Inv-loop : tie.InvT-loop
 Inv-loop ns names₀ n k₀ names k =

@@ -8,8 +8,6 @@ use borrow.Author.Needs.{needs}
 use native.Mathlib.Omega.{arith}
 use Rattle.entries.proofs.put_entry.Statement.{statement}
 use Rattle.entries.proofs.put_entry.Tie as tie
-use Rattle.entries.proofs.put_entry.Reads as reads
-use Rattle.entries.proofs.put_entry.Lts as lts
 
 abbrev Inv-loop : tie.InvT-loop
 Inv-loop names₀ k e at j₀ names j =

@@ -8,10 +8,6 @@ use borrow.Author.Needs.{needs}
 use native.Mathlib.Omega.{arith}
 use Rattle.entries.proofs.unload_names.Statement.{statement}
 use Rattle.entries.proofs.unload_names.Tie as tie
-use Rattle.entries.proofs.unload_names.Reads as reads
-use Rattle.entries.proofs.unload_names.Lts as lts
-use Rattle.entries.proofs.entry_of.Reads as entry-of-reads
-use Rattle.entries.proofs.room_of.Reads as room-of-reads
 
 abbrev Inv-loop : tie.InvT-loop
 Inv-loop ns₀ names n k₀ ns k =

@@ -23,75 +23,12 @@ use prog.Wp.{Heap, Out, Env, Calls, Loops, Wp, WpFn, Tables, afterSeq, afterBloc
 use ghost.Atoms.{Atoms}
 use contract.Monad.{Fun}
 use contract.Running.{givenOf, tables, tablesOf}
-use types.Kit.{
-  Given,
-  Item,
-  Sq,
-  runs,
-  anyQ,
-  atRet,
-  ‵,
-  raw,
-  group,
-  _⊛_,
-  ⋆,
-  _$_,
-  _∵_,
-  !,
-  qed,
-  by,
-  move,
-  keep,
-  drop,
-  use0,
-  use1,
-  use2,
-  split,
-  join,
-  rewrite,
-  fsplit,
-  fjoin,
-  suffices,
-  frame,
-  done,
-}
+use types.Kit.{Given, Item, Sq, runs, anyQ, atRet, ‵, raw, group, _⊛_, ⋆, _$_, _∵_, !, qed, by, move, keep, drop}
+use types.Kit.{use0, use1, use2, split, join, rewrite, fsplit, fjoin, suffices, frame, done}
 use types.Part.{agg, whole, sub, look-in}
-use types.Run.{
-  look,
-  store,
-  init,
-  forget,
-  stop,
-  fld,
-  from,
-  load,
-  lit,
-  addr,
-  of-opd,
-  bin,
-  and-then,
-  no-more,
-  assigns,
-  assigns-last,
-  land,
-  first,
-  blocks,
-  stays,
-  leaves-loop,
-  returns,
-  enter,
-  alloc1,
-  alloc0,
-  params1,
-  pass1,
-  pass0,
-  free1,
-  free0,
-  exec,
-  Below,
-  again,
-  loops,
-}
+use types.Run.{look, store, init, forget, stop, fld, from, load, lit, addr, of-opd, bin, and-then, no-more, assigns}
+use types.Run.{assigns-last, land, first, blocks, stays, leaves-loop, returns, enter, alloc1, alloc0, params1}
+use types.Run.{pass1, pass0, free1, free0, exec, Below, again, loops}
 use sound.WpLaws.{FmC, fmOf, WpFn-mono}
 use denote.RattleType.{RattleType, owns}
 use denote.Array.{Array, array-makes, array-lawful}
@@ -190,8 +127,8 @@ record Turn (ys : List Term) (n : ℕ) : Type 0 where
   isl : Is Literals ls (vl ∷ [])
   copied : Copied ys i rs ls
 
-module _ {M : Type 1} (𝓤 : URA M) (H : Heap 𝓤) (A : Atoms 𝓤) (W : Given 𝓤 H A) (mem : Memory → SProp 𝓤) (run :
-    Routine → Fun 𝓤)
+module _ {M : Type 1} (𝓤 : URA M) (H : Heap 𝓤) (A : Atoms 𝓤) (W : Given 𝓤 H A)
+    (mem : Memory → SProp 𝓤) (run : Routine → Fun 𝓤)
     (κ : Lft) (q : Share) (b o : ℕ) (γ : GName) (ys : List Term) (room : Room T.the-row (length ys)) where
   abbrev x : RefT (List Term)
   x = ref b o γ ys
@@ -245,8 +182,8 @@ module _ {M : Type 1} (𝓤 : URA M) (H : Heap 𝓤) (A : Atoms 𝓤) (W : Given
   to-rec i = (((κ, tt), (q, tt), tt, (x, (i, tt)), (s ∷ [], (vint w64 i ∷ [], tt))), tt)
 
   goes-rec :
-      (i : ℕ) → i < 2 ^ 64 → i < length ys → ent 𝓤 (⋆ 𝓤 H A (Tok ∷ ‵ Own ∷ [])) (Of 𝓤 H A rec.ended (rec.clauses 𝓤 H
-      A mem run) .pre (to-rec i))
+      (i : ℕ) → i < 2 ^ 64 → i < length ys →
+      ent 𝓤 (⋆ 𝓤 H A (Tok ∷ ‵ Own ∷ [])) (Of 𝓤 H A rec.ended (rec.clauses 𝓤 H A mem run) .pre (to-rec i))
   goes-rec i gi l =
       qed W (Tok ∷ ‵ Own ∷ []) ∵ says ! l $ frame ! $ nothing ! $
       owned ! usize (Is usize) (uint-makes 𝓤 H A W w64) i _ (refl, gi) $ fjoin ! $ move ! (1 ∷ 0 ∷ []) $ fjoin ! $
@@ -344,8 +281,8 @@ module _ {M : Type 1} (𝓤 : URA M) (H : Heap 𝓤) (A : Atoms 𝓤) (W : Given
 
       copied-next :
           (t : Turn ys n) (r : Term) (rs : List ℕ) (ls : List ℤ) → t .i < n → (r ≡ getD ys (t .i) noTerm) × Eight r →
-          (rs ≡ paste (t .rs) (t .i * 11) (numbers r) 11) × (ls ≡ set (t .ls) (t .i) (r .literal)) → Copied ys (t .i
-          + 1) rs ls
+          (rs ≡ paste (t .rs) (t .i * 11) (numbers r) 11) × (ls ≡ set (t .ls) (t .i) (r .literal)) →
+          Copied ys (t .i + 1) rs ls
       copied-next t r rs ls l er put =
           subst (λ (k : List ℕ). Copied ys (t .i + 1) k ls) (sym (put .0))
           (subst (λ (k : List ℤ). Copied ys (t .i + 1) (paste (t .rs) (t .i * 11) (numbers r) 11) k) (sym (put .1))
@@ -373,11 +310,8 @@ module _ {M : Type 1} (𝓤 : URA M) (H : Heap 𝓤) (A : Atoms 𝓤) (W : Given
       module _ (l₀ l₁ l₂ l₃ l₄ l₅ l₆ l₇ l₈ l₉ l₁₀ l₁₁ l₁₂ l₁₃ l₁₄ l₁₅ : ℕ) where
         abbrev En : Env 𝓤 H
         En = (F′.mir, l₀) ∷ (slice, l₁) ∷ (word, l₂) ∷ (numbersTy, l₃) ∷ (literalsTy, l₄) ∷ (word, l₅) ∷ (T′.mir, l₆)
-            ∷ (word, l₇) ∷ (numbersTy, l₈) ∷ (literalsTy, l₉) ∷ (tyBool, l₁₀) ∷ (tyUnit, l₁₁) ∷ (
-              tyRef erased mut
-                  numbersTy,
-              l₁₂,
-            ) ∷ (part, l₁₃) ∷ (tyRef erased mut literalsTy, l₁₄) ∷ (part, l₁₅) ∷ []
+            ∷ (word, l₇) ∷ (numbersTy, l₈) ∷ (literalsTy, l₉) ∷ (tyBool, l₁₀) ∷ (tyUnit, l₁₁) ∷
+            (tyRef erased mut numbersTy, l₁₂) ∷ (part, l₁₃) ∷ (tyRef erased mut literalsTy, l₁₄) ∷ (part, l₁₅) ∷ []
 
         -- [the token; what ts owns; _15; …; _0; …]
         abbrev At : Turn ys n → List (Item 𝓤)
@@ -411,39 +345,22 @@ module _ {M : Type 1} (𝓤 : URA M) (H : Heap 𝓤) (A : Atoms 𝓤) (W : Given
             move ! (1 ∷ []) $
             use1 W (‵ Own ⊛ ‵ Own) (shr-slice-copy 𝓤 H A W (named 0) κ T.the-row .twice x (s ∷ [])) $ split ! $
             move ! (2 ∷ 0 ∷ []) $
-            use2 W (raw (Of 𝓤 H A rec.ended (rec.clauses 𝓤 H A mem run) .pre (to-rec i))) (goes-rec i gi (omega
-            (arith, less, short))) $
-            calls-plain ! fm rec.ended (rec.clauses 𝓤 H A mem run) known-rec (to-rec i) (λ r. (r ≡ getD ys i noTerm)
-            × Eight r) (λ r. id⊢ 𝓤 _) (and-then ! (load ! (from ! (stop !)) (look ! 30 refl)) (and-then ! (load !
-            (from ! (stop !)) (look ! 22 refl)) (no-more !))) (λ w r er isr.
+            use2 W (raw (Of 𝓤 H A rec.ended (rec.clauses 𝓤 H A mem run) .pre (to-rec i)))
+            (goes-rec i gi (omega (arith, less, short))) $
+            calls-plain ! fm rec.ended (rec.clauses 𝓤 H A mem run) known-rec (to-rec i)
+            (λ r. (r ≡ getD ys i noTerm) × Eight r) (λ r. id⊢ 𝓤 _) (and-then !
+            (load ! (from ! (stop !)) (look ! 30 refl)) (and-then ! (load ! (from ! (stop !)) (look ! 22 refl))
+            (no-more !))) (λ w r er isr.
             use1 W Tok (id⊢ 𝓤 _) $
             land ! (from ! (stop !)) (init ! 20 refl (LL.lawful T.the-type T′.the-laws 𝓤 H A W .typed r _ isr .0)) $
             assigns ! (addr ! (from ! (stop !))) (from ! (stop !)) (init ! 8 refl (tt, tt)) $
-            assigns ! (agg ! (and-then ! (load ! (from ! (stop !)) (look ! 8 refl)) (and-then ! (big-lit ! (record {
-              fits = lit< tt;
-            })) (no-more !)))) (from ! (stop !)) (init ! 6 refl (
-              tt,
-              (
-                tt,
-                (
-                  record { fits = lit< tt },
-                  tt,
-                ),
-              ),
-            )) $
+            assigns ! (agg ! (and-then ! (load ! (from ! (stop !)) (look ! 8 refl))
+            (and-then ! (big-lit ! (record { fits = lit< tt })) (no-more !)))) (from ! (stop !))
+            (init ! 6 refl (tt, (tt, (record { fits = lit< tt }, tt)))) $
             assigns ! (addr ! (from ! (stop !))) (from ! (stop !)) (init ! 4 refl (tt, tt)) $
-            assigns ! (agg ! (and-then ! (load ! (from ! (stop !)) (look ! 4 refl)) (and-then ! (big-lit ! (record {
-              fits = lit< tt;
-            })) (no-more !)))) (from ! (stop !)) (init ! 2 refl (
-              tt,
-              (
-                tt,
-                (
-                  record { fits = lit< tt },
-                  tt,
-                ),
-              ),
-            )) $
+            assigns ! (agg ! (and-then ! (load ! (from ! (stop !)) (look ! 4 refl))
+            (and-then ! (big-lit ! (record { fits = lit< tt })) (no-more !)))) (from ! (stop !))
+            (init ! 2 refl (tt, (tt, (record { fits = lit< tt }, tt)))) $
             -- the arrays are lent for the call of `put_flat`
             move ! (26 ∷ []) $
             array-lent ! tt u64 tt 11264 l₃ (named 0) numbers-makes (lit< tt, lit< tt) (t .rs) (t .vr) (t .isr)
@@ -452,12 +369,14 @@ module _ {M : Type 1} (𝓤 : URA M) (H : Heap 𝓤) (A : Atoms 𝓤) (W : Given
             array-lent ! tt i64 tt 1024 l₄ (named 1) literals-makes (lit< tt, lit< tt) (t .ls) (t .vl) (t .isl)
             (λ ν′ δ′.
             move ! (3 ∷ 0 ∷ 4 ∷ 1 ∷ []) $ group ! 4 $
-            use1 W (raw (Of 𝓤 H A put.ended (put.clauses 𝓤 H A mem run) .pre (to-put l₃ l₄ ν ν′ δ δ′ (t .rs) (t .ls)
-            i r w))) (goes-put l₃ l₄ ν ν′ δ δ′ (t .rs) (t .ls) i r w gi isr (stands, er .1)) $
-            calls-changing ! fm put.ended (put.clauses 𝓤 H A mem run) known-put (to-put l₃ l₄ ν ν′ δ δ′ (t .rs) (t
-            .ls) i r w) (λ u ws. (ws .0 ≡ paste (t .rs) (i * 11) (numbers r) 11) × (ws .1 .0 ≡ set (t .ls) i (r
-            .literal))) (λ u. id⊢ 𝓤 _) (and-then ! (load ! (from ! (stop !)) (look ! 9 refl)) (and-then ! (load !
-            (from ! (stop !)) (look ! 5 refl)) (and-then ! (load ! (from ! (stop !)) (look ! 25 refl)) (and-then !
+            use1 W (raw (Of 𝓤 H A put.ended (put.clauses 𝓤 H A mem run) .pre
+            (to-put l₃ l₄ ν ν′ δ δ′ (t .rs) (t .ls) i r w))) (goes-put l₃ l₄ ν ν′ δ δ′ (t .rs) (t .ls) i r w gi isr
+            (stands, er .1)) $
+            calls-changing ! fm put.ended (put.clauses 𝓤 H A mem run) known-put
+            (to-put l₃ l₄ ν ν′ δ δ′ (t .rs) (t .ls) i r w) (λ u ws. (ws .0 ≡ paste (t .rs) (i * 11) (numbers r) 11) ×
+            (ws .1 .0 ≡ set (t .ls) i (r .literal))) (λ u. id⊢ 𝓤 _) (and-then !
+            (load ! (from ! (stop !)) (look ! 9 refl)) (and-then ! (load ! (from ! (stop !)) (look ! 5 refl))
+            (and-then ! (load ! (from ! (stop !)) (look ! 25 refl)) (and-then !
             (load ! (from ! (stop !)) (look ! 23 refl)) (no-more !))))) (λ w′ u ws put isu.
             fsplit ! $ fsplit ! $ move ! (2 ∷ []) $ fsplit ! $ fsplit ! $ move ! (5 ∷ []) $
             use1 W (‵ (flft (ν ∷ []) fullShare) ⊛ ‵ (flft (ν′ ∷ []) fullShare) ⊛ ‵ ftrue) (id⊢ 𝓤 _) $ split ! $
@@ -466,15 +385,14 @@ module _ {M : Type 1} (𝓤 : URA M) (H : Heap 𝓤) (A : Atoms 𝓤) (W : Given
             move ! (2 ∷ 9 ∷ 6 ∷ []) $ array-back ! tt u64 11264 l₃ (uint-vals w64) (uint-tells w64) (ws .0) (λ isr′.
             move ! (1 ∷ 7 ∷ 3 ∷ []) $ array-back ! tt i64 1024 l₄ (sint-vals w64) (sint-tells w64) (ws .1 .0) (λ isl′.
             land ! (from ! (stop !)) (init ! 16 refl (nothing-lawful 𝓤 H A W .typed u _ isu .0)) $
-            assigns-last ! (bin ! (load ! (from ! (stop !)) (look ! 28 refl)) (lit ! tt) (record {
-              fits = next-fits;
-            })) (from ! (stop !)) (store ! 28 refl (tt, record { fits = next-fits })) $
+            assigns-last ! (bin ! (load ! (from ! (stop !)) (look ! 28 refl)) (lit ! tt)
+            (record { fits = next-fits })) (from ! (stop !)) (store ! 28 refl (tt, record { fits = next-fits })) $
             forget ! 8 refl $ forget ! 10 refl $ forget ! 12 refl $ forget ! 14 refl $ forget ! 16 refl $
             forget ! 18 refl $ forget ! 26 refl $
             keep ! (6 ∷ 7 ∷ 8 ∷ 9 ∷ 10 ∷ 11 ∷ 12 ∷ 13 ∷ 14 ∷ 15 ∷ 16 ∷ 17 ∷ 18 ∷ 19 ∷ 20 ∷ 21 ∷ 22 ∷ 23 ∷ 24 ∷ 25 ∷
             26 ∷ 27 ∷ 28 ∷ 29 ∷ 0 ∷ 30 ∷ 1 ∷ 31 ∷ 32 ∷ 33 ∷ 34 ∷ 35 ∷ 36 ∷ 37 ∷ []) $
-            again ! ≺ At t (next t (omega (arith, less)) (ws .0) (ws .1 .0) _ _ isr′ isl′ (copied-next t r (ws .0)
-            (ws .1 .0) less er put)) (omega (arith, less))))))))
+            again ! ≺ At t (next t (omega (arith, less)) (ws .0) (ws .1 .0) _ _ isr′ isl′
+            (copied-next t r (ws .0) (ws .1 .0) less er put)) (omega (arith, less))))))))
           where
             i : ℕ
             i = t .i
@@ -495,19 +413,16 @@ module _ {M : Type 1} (𝓤 : URA M) (H : Heap 𝓤) (A : Atoms 𝓤) (W : Given
             tt) (from ! (stop !)) (init ! 12 refl (tt, tt)) $
             rewrite ! 12 (λ (y : Bool). ‵ (fat fullShare tyBool l₁₀ 0 (vbool y))) test refl $
             leaves-loop ! (load ! (from ! (stop !)) (look ! 12 refl)) $ exec ! C Λ En pieces.t-9 (atRet En Post) $
-            assigns ! (of-opd ! (load ! (from ! (stop !)) (look ! 26 refl))) (from ! (stop !)) (init ! 16 refl
-            (numbers-typed (t .rs) (t .vr) (t .isr))) $
-            assigns ! (of-opd ! (load ! (from ! (stop !)) (look ! 24 refl))) (from ! (stop !)) (init ! 14 refl
-            (literals-typed (t .ls) (t .vl) (t .isl))) $
+            assigns ! (of-opd ! (load ! (from ! (stop !)) (look ! 26 refl))) (from ! (stop !))
+            (init ! 16 refl (numbers-typed (t .rs) (t .vr) (t .isr))) $
+            assigns ! (of-opd ! (load ! (from ! (stop !)) (look ! 24 refl))) (from ! (stop !))
+            (init ! 14 refl (literals-typed (t .ls) (t .vl) (t .isl))) $
             use0 W (raw (Of 𝓤 H A pck.ended (pck.clauses 𝓤 H A mem run) .pre (to-pck t))) (goes-pck t) $
-            calls-plain ! fm pck.ended (pck.clauses 𝓤 H A mem run) known-pck (to-pck t) (λ f. f ≡ record {
-              records =
-                  t .rs;
-              literals = t .ls;
-              room = n;
-            }) (λ f. id⊢ 𝓤 _) (and-then ! (load ! (from ! (stop !)) (look ! 17
-            refl)) (and-then ! (load ! (from ! (stop !)) (look ! 15 refl)) (and-then ! (load ! (from ! (stop !))
-            (look ! 29 refl)) (no-more !)))) (λ w f ef isf.
+            calls-plain ! fm pck.ended (pck.clauses 𝓤 H A mem run) known-pck (to-pck t)
+            (λ f. f ≡ record { records = t .rs; literals = t .ls; room = n }) (λ f. id⊢ 𝓤 _)
+            (and-then ! (load ! (from ! (stop !)) (look ! 17 refl)) (and-then !
+            (load ! (from ! (stop !)) (look ! 15 refl)) (and-then ! (load ! (from ! (stop !)) (look ! 29 refl))
+            (no-more !)))) (λ w f ef isf.
             drop ! $
             land ! (from ! (stop !)) (init ! 32 refl (LL.lawful F.the-type F′.the-laws 𝓤 H A W .typed f _ isf .0)) $
             returns ! (look ! 32 refl) $ forget ! 12 refl $ forget ! 14 refl $ forget ! 16 refl $ forget ! 22 refl $
@@ -518,12 +433,8 @@ module _ {M : Type 1} (𝓤 : URA M) (H : Heap 𝓤) (A : Atoms 𝓤) (W : Given
             move ! (14 ∷ 15 ∷ []) $ free1 ! $ move ! (12 ∷ 13 ∷ []) $ free1 ! $ move ! (10 ∷ 11 ∷ []) $ free1 ! $
             move ! (8 ∷ 9 ∷ []) $ free1 ! $ move ! (6 ∷ 7 ∷ []) $ free1 ! $ move ! (4 ∷ 5 ∷ []) $ free1 ! $
             move ! (2 ∷ 3 ∷ []) $ free1 ! $ free0 ! $ keep ! (0 ∷ []) $
-            by ! (exits f w isf (copied-end t (omega (
-              arith,
-              t .within,
-              nltb→le (t .i) n (subst (λ (y : Bool). Holds
-                  (not y)) (sym test) tt),
-            )) f ef)))
+            by ! (exits f w isf (copied-end t
+            (omega (arith, t .within, nltb→le (t .i) n (subst (λ (y : Bool). Holds (not y)) (sym test) tt))) f ef)))
 
         looped : (t : Turn ys n) → Sq W (At t) (runs C Λ En pieces.t-8 (atRet En Post))
         looped t = first ! $ blocks ! $ loops ! 𝓣 ≺ wf At (λ u. turn u (ltb (u .i) n) refl) t
@@ -535,43 +446,32 @@ module _ {M : Type 1} (𝓤 : URA M) (H : Heap 𝓤) (A : Atoms 𝓤) (W : Given
         alloc1 ! (λ l₄. alloc1 ! (λ l₅. alloc1 ! (λ l₆. alloc1 ! (λ l₇. alloc1 ! (λ l₈. alloc1 ! (λ l₉.
         alloc1 ! (λ l₁₀. alloc1 ! (λ l₁₁. alloc1 ! (λ l₁₂. alloc1 ! (λ l₁₃. alloc1 ! (λ l₁₄. alloc1 ! (λ l₁₅.
         alloc0 ! $ params1 ! $ pass1 ! (init ! 28 refl (tt, (tt, (record { fits = room .0 }, tt)))) $ pass0 ! $
-        assigns ! (of-opd ! (load ! (from ! (fld ! refl (stop !))) (look-in ! 28 (sub ! 1 refl (whole !))))) (from !
-        (stop !)) (init ! 16 refl (tt, record { fits = room .0 })) $
+        assigns ! (of-opd ! (load ! (from ! (fld ! refl (stop !))) (look-in ! 28 (sub ! 1 refl (whole !)))))
+        (from ! (stop !)) (init ! 16 refl (tt, record { fits = room .0 })) $
         use0 W (raw (Of 𝓤 H A rom.ended (rom.clauses 𝓤 H A mem run) .pre to-rom)) goes-rom $
-        calls-plain ! fm rom.ended (rom.clauses 𝓤 H A mem run) known-rom to-rom (λ n. n ≡ min 1024 (length ys)) (λ n.
-        id⊢ 𝓤 _) (and-then ! (load ! (from ! (stop !)) (look ! 17 refl)) (no-more !)) (λ w₁ n en isn.
+        calls-plain ! fm rom.ended (rom.clauses 𝓤 H A mem run) known-rom to-rom (λ n. n ≡ min 1024 (length ys))
+        (λ n. id⊢ 𝓤 _) (and-then ! (load ! (from ! (stop !)) (look ! 17 refl)) (no-more !)) (λ w₁ n en isn.
         drop ! $ land ! (from ! (stop !)) (init ! 26 refl (uint-lawful 𝓤 H A W w64 .typed n _ isn .0)) $
         rewrite ! 26 (λ (v : Val). ‵ (fat fullShare word l₂ 0 v)) (ap only (isn .0)) refl $
         use0 W (raw (Of 𝓤 H A nns.ended (nns.clauses 𝓤 H A mem run) .pre to-none)) goes-nns $
         calls-any ! fm nns.ended (nns.clauses 𝓤 H A mem run) known-nns to-none (no-more !) (λ w₂ rs isr. drop ! $
         land ! (from ! (stop !)) (init ! 14 refl (numbers-typed rs w₂ isr)) $
-        assigns ! (of-opd ! (load ! (from ! (stop !)) (look ! 14 refl))) (from ! (stop !)) (init ! 24 refl
-        (numbers-typed rs w₂ isr)) $
+        assigns ! (of-opd ! (load ! (from ! (stop !)) (look ! 14 refl))) (from ! (stop !))
+        (init ! 24 refl (numbers-typed rs w₂ isr)) $
         use0 W (raw (Of 𝓤 H A nls.ended (nls.clauses 𝓤 H A mem run) .pre to-none)) goes-nls $
         calls-any ! fm nls.ended (nls.clauses 𝓤 H A mem run) known-nls to-none (no-more !) (λ w₃ ls isl. drop ! $
         land ! (from ! (stop !)) (init ! 12 refl (literals-typed ls w₃ isl)) $
-        assigns ! (of-opd ! (load ! (from ! (stop !)) (look ! 12 refl))) (from ! (stop !)) (init ! 22 refl
-        (literals-typed ls w₃ isl)) $
+        assigns ! (of-opd ! (load ! (from ! (stop !)) (look ! 12 refl))) (from ! (stop !))
+        (init ! 22 refl (literals-typed ls w₃ isl)) $
         assigns ! (of-opd ! (lit ! tt)) (from ! (stop !)) (init ! 20 refl (tt, record { fits = lit< tt })) $
         forget ! 12 refl $ forget ! 14 refl $ forget ! 16 refl $ move ! (33 ∷ []) $ fsplit ! $
         keep ! (34 ∷ 0 ∷ 2 ∷ 3 ∷ 4 ∷ 5 ∷ 6 ∷ 7 ∷ 8 ∷ 9 ∷ 10 ∷ 11 ∷ 12 ∷ 13 ∷ 14 ∷ 15 ∷ 16 ∷ 17 ∷ 18 ∷ 19 ∷ 20 ∷ 21 ∷
         22 ∷ 23 ∷ 24 ∷ 25 ∷ 26 ∷ 27 ∷ 28 ∷ 29 ∷ 30 ∷ 31 ∷ 32 ∷ 33 ∷ []) $
         looped n en (isn .1) l₀ l₁ l₂ l₃ l₄ l₅ l₆ l₇ l₈ l₉ l₁₀ l₁₁ l₁₂ l₁₃ l₁₄ l₁₅
-        record {
-          i = 0;
-          rs = rs;
-          ls = ls;
-          vr = w₂;
-          vl = w₃;
-          within = omega arith;
-          isr = isr;
-          isl = isl;
-          copied =
-              copied-none ys rs ls;
-        })))))))))))))))))))
+        record { i = 0; rs = rs; ls = ls; vr = w₂; vl = w₃; within = omega arith; isr = isr; isl = isl; copied = copied-none ys rs ls })))))))))))))))))))
 
-module _ {M : Type 1} (𝓤 : URA M) (H : Heap 𝓤) (A : Atoms 𝓤) (W : Given 𝓤 H A) (mem : Memory → SProp 𝓤) (run :
-    Routine → Fun 𝓤) (𝓣 : Tables 𝓤 H)
+module _ {M : Type 1} (𝓤 : URA M) (H : Heap 𝓤) (A : Atoms 𝓤) (W : Given 𝓤 H A)
+    (mem : Memory → SProp 𝓤) (run : Routine → Fun 𝓤) (𝓣 : Tables 𝓤 H)
     (known-rom : Triple 𝓤 (𝓣 .C #rom) (Of 𝓤 H A rom.ended (rom.clauses 𝓤 H A mem run)))
     (known-nns : Triple 𝓤 (𝓣 .C #nns) (Of 𝓤 H A nns.ended (nns.clauses 𝓤 H A mem run)))
     (known-nls : Triple 𝓤 (𝓣 .C #nls) (Of 𝓤 H A nls.ended (nls.clauses 𝓤 H A mem run)))

@@ -10,9 +10,6 @@ use borrow.Author.Needs.{needs}
 use native.Mathlib.Omega.{arith}
 use Rattle.lent.proofs.put_flat.Statement.{statement}
 use Rattle.lent.proofs.put_flat.Tie as tie
-use Rattle.lent.proofs.put_flat.Reads as reads
-use Rattle.lent.proofs.put_flat.Lts as lts
-use Rattle.lent.proofs.number_of.Reads as number-of-reads
 
 abbrev Inv-loop : tie.InvT-loop
 Inv-loop records₀ literals i t literal children at j₀ records j =

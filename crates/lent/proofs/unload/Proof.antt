@@ -22,77 +22,12 @@ use prog.Wp.{Heap, Out, Env, Calls, Loops, Wp, WpFn, Tables, afterSeq, afterBloc
 use ghost.Atoms.{Atoms, sem}
 use contract.Monad.{Fun}
 use contract.Running.{givenOf, tables, tablesOf}
-use types.Kit.{
-  Given,
-  Item,
-  Sq,
-  runs,
-  anyQ,
-  atRet,
-  ‵,
-  raw,
-  group,
-  _⊛_,
-  ⋆,
-  _$_,
-  _∵_,
-  !,
-  qed,
-  by,
-  move,
-  keep,
-  use1,
-  use2,
-  split,
-  join,
-  rewrite,
-  fsplit,
-  fjoin,
-  feqI,
-  feqL,
-  suffices,
-  frame,
-  done,
-}
+use types.Kit.{Given, Item, Sq, runs, anyQ, atRet, ‵, raw, group, _⊛_, ⋆, _$_, _∵_, !, qed, by, move, keep, use1}
+use types.Kit.{use2, split, join, rewrite, fsplit, fjoin, feqI, feqL, suffices, frame, done}
 use types.Part.{agg, whole, sub, look-in}
-use types.Run.{
-  look,
-  store,
-  init,
-  forget,
-  stop,
-  hop,
-  fld,
-  from,
-  load,
-  lit,
-  unit-lit,
-  addr,
-  of-opd,
-  bin,
-  and-then,
-  no-more,
-  assigns,
-  assigns-last,
-  land,
-  first,
-  blocks,
-  stays,
-  leaves-loop,
-  returns,
-  enter,
-  alloc1,
-  alloc0,
-  params1,
-  pass1,
-  pass0,
-  free1,
-  free0,
-  exec,
-  Below,
-  again,
-  loops,
-}
+use types.Run.{look, store, init, forget, stop, hop, fld, from, load, lit, unit-lit, addr, of-opd, bin, and-then}
+use types.Run.{no-more, assigns, assigns-last, land, first, blocks, stays, leaves-loop, returns, enter, alloc1}
+use types.Run.{alloc0, params1, pass1, pass0, free1, free0, exec, Below, again, loops}
 use sound.WpLaws.{FmC, fmOf, WpFn-mono}
 use denote.RattleType.{RattleType, owns}
 use denote.Array.{Array, array-vals, array-makes, array-lawful}
@@ -108,20 +43,8 @@ use denote.Triple.Entry.{Vals, onEntry}
 use denote.Triple.Spec.{Meets, tripleOf}
 use denote.Triple.Statement.{Triple}
 use denote.Triple.Table.{entered, cited}
-use denote.Triple.Walked.{
-  says,
-  needs,
-  Stays,
-  stay-dropped,
-  stay-slice,
-  walkOf,
-  goes-dropped,
-  goes-slice,
-  Walks,
-  ends-at,
-  walked,
-  walk-meets,
-}
+use denote.Triple.Walked.{says, needs, Stays, stay-dropped, stay-slice, walkOf, goes-dropped, goes-slice, Walks}
+use denote.Triple.Walked.{ends-at, walked, walk-meets}
 use denote.Exit.{yes}
 use denote.Struct.Laws as LL
 use Rattle.store.specs.declared.Term.{Term}
@@ -177,8 +100,8 @@ slice = sliceTy (tyRef (named 0) mut record-type)
 abbrev part : Ty
 part = sliceTy (tyRef erased imm word)
 
-module _ {M : Type 1} (𝓤 : URA M) (H : Heap 𝓤) (A : Atoms 𝓤) (W : Given 𝓤 H A) (mem : Memory → SProp 𝓤) (run :
-    Routine → Fun 𝓤)
+module _ {M : Type 1} (𝓤 : URA M) (H : Heap 𝓤) (A : Atoms 𝓤) (W : Given 𝓤 H A)
+    (mem : Memory → SProp 𝓤) (run : Routine → Fun 𝓤)
     (κ : Lft) (q : Share) (b o : ℕ) (γ : GName) (ys : List Term) (f : Flat) (room : Room T.the-row (length ys))
     (isf : Is F.the-row f (F′.lowered f ∷ [])) (short : f .room ≤ length ys) (small : f .room ≤ 1024) where
   abbrev s : Val
@@ -262,12 +185,10 @@ module _ {M : Type 1} (𝓤 : URA M) (H : Heap 𝓤) (A : Atoms 𝓤) (W : Given
       owned ! usize (Is usize) (uint-makes 𝓤 H A W w64) i _ (refl, gi) $ fjoin ! $ move ! (2 ∷ 0 ∷ []) $ fjoin ! $
       move ! (1 ∷ 0 ∷ []) $ fjoin ! $ done !
 
-  abbrev to-put : (ν : ℕ) (δ : GName) (zs : List Term) (i : ℕ) (r : Term) (w : Val) → Of 𝓤 H A put.ended (put.clauses
-      𝓤 H A mem run) .Ghost
-  to-put ν δ zs i r w = (
-    ((ν ∷ [], tt), (fullShare, tt), tt, (ref b o δ zs, (i, (r, tt))), (s ∷ [], (vint w64 i ∷ [], (w ∷ [], tt)))),
-    tt,
-  )
+  abbrev to-put : (ν : ℕ) (δ : GName) (zs : List Term) (i : ℕ) (r : Term) (w : Val) →
+      Of 𝓤 H A put.ended (put.clauses 𝓤 H A mem run) .Ghost
+  to-put ν δ zs i r w =
+      (((ν ∷ [], tt), (fullShare, tt), tt, (ref b o δ zs, (i, (r, tt))), (s ∷ [], (vint w64 i ∷ [], (w ∷ [], tt)))), tt)
 
   goes-put :
       (ν : ℕ) (δ : GName) (zs : List Term) (i : ℕ) (r : Term) (w : Val) →
@@ -284,8 +205,8 @@ module _ {M : Type 1} (𝓤 : URA M) (H : Heap 𝓤) (A : Atoms 𝓤) (W : Given
       done !
 
   exits :
-      (zs : List Term) → length zs ≡ length ys → zs ≡ putTo ys rs ls n → ent 𝓤 (⋆ 𝓤 H A (Tok ∷ ‵ (Own zs) ∷ []))
-      (Post vunit)
+      (zs : List Term) → length zs ≡ length ys → zs ≡ putTo ys rs ls n →
+      ent 𝓤 (⋆ 𝓤 H A (Tok ∷ ‵ (Own zs) ∷ [])) (Post vunit)
   exits zs e is =
       qed W (Tok ∷ ‵ (Own zs) ∷ []) ∵ suffices ! _ (ends-at 𝓤 H A it.ended stayed (it.clauses 𝓤 H A mem run) W
       (((κ, tt), (q, tt), tt, (ref b o γ ys, (f, tt)), at), tt) vunit tt (zs, (tt, tt)) (e, (tt, tt))) $ says ! is $
@@ -318,15 +239,9 @@ module _ {M : Type 1} (𝓤 : URA M) (H : Heap 𝓤) (A : Atoms 𝓤) (W : Given
     module _ (l₀ l₁ l₂ l₃ l₄ l₅ l₆ l₇ l₈ l₉ l₁₀ l₁₁ l₁₂ l₁₃ l₁₄ l₁₅ : ℕ) where
       abbrev En : Env 𝓤 H
       En = (tyUnit, l₀) ∷ (slice, l₁) ∷ (F′.mir, l₂) ∷ (numbersTy, l₃) ∷ (literalsTy, l₄) ∷ (word, l₅) ∷ (word, l₆)
-          ∷ (T′.mir, l₇) ∷ (tyBool, l₈) ∷ (tyRef erased imm numbersTy, l₉) ∷ (part, l₁₀) ∷ (
-            tyRef erased imm
-                literalsTy,
-            l₁₁,
-          ) ∷ (part, l₁₂) ∷ (tyUnit, l₁₃) ∷ (tyRef erased mut record-type, l₁₄) ∷ (
-            sliceTy (tyRef
-                erased mut record-type),
-            l₁₅,
-          ) ∷ []
+          ∷ (T′.mir, l₇) ∷ (tyBool, l₈) ∷ (tyRef erased imm numbersTy, l₉) ∷ (part, l₁₀) ∷
+          (tyRef erased imm literalsTy, l₁₁) ∷ (part, l₁₂) ∷ (tyUnit, l₁₃) ∷ (tyRef erased mut record-type, l₁₄) ∷
+          (sliceTy (tyRef erased mut record-type), l₁₅) ∷ []
 
       -- [the token; what ts owns; _15; …; _0; …]
       abbrev At : Turn → List (Item 𝓤)
@@ -358,76 +273,54 @@ module _ {M : Type 1} (𝓤 : URA M) (H : Heap 𝓤) (A : Atoms 𝓤) (W : Given
           rewrite ! 16 (λ (y : Bool). ‵ (fat fullShare tyBool l₈ 0 (vbool y))) test refl $
           stays ! (load ! (from ! (stop !)) (look ! 16 refl)) $
           assigns ! (addr ! (from ! (stop !))) (from ! (stop !)) (init ! 14 refl (tt, tt)) $
-          assigns ! (agg ! (and-then ! (load ! (from ! (stop !)) (look ! 14 refl)) (and-then ! (big-lit ! (record {
-            fits = lit< tt;
-          })) (no-more !)))) (from ! (stop !)) (init ! 12 refl (
-            tt,
-            (
-              tt,
-              (
-                record { fits = lit< tt },
-                tt,
-              ),
-            ),
-          )) $
+          assigns ! (agg ! (and-then ! (load ! (from ! (stop !)) (look ! 14 refl))
+          (and-then ! (big-lit ! (record { fits = lit< tt })) (no-more !)))) (from ! (stop !))
+          (init ! 12 refl (tt, (tt, (record { fits = lit< tt }, tt)))) $
           assigns ! (addr ! (from ! (stop !))) (from ! (stop !)) (init ! 10 refl (tt, tt)) $
-          assigns ! (agg ! (and-then ! (load ! (from ! (stop !)) (look ! 10 refl)) (and-then ! (big-lit ! (record {
-            fits = lit< tt;
-          })) (no-more !)))) (from ! (stop !)) (init ! 8 refl (
-            tt,
-            (
-              tt,
-              (
-                record { fits = lit< tt },
-                tt,
-              ),
-            ),
-          )) $
+          assigns ! (agg ! (and-then ! (load ! (from ! (stop !)) (look ! 10 refl))
+          (and-then ! (big-lit ! (record { fits = lit< tt })) (no-more !)))) (from ! (stop !))
+          (init ! 8 refl (tt, (tt, (record { fits = lit< tt }, tt)))) $
           -- the arrays are shown to `records::record_at`
           move ! (26 ∷ []) $
           array-shown ! tt u64 tt 11264 l₃ (named 0) numbers-makes (lit< tt, lit< tt) rs vr isr (λ ν δ.
           move ! (27 ∷ []) $
           array-shown ! tt i64 tt 1024 l₄ (named 1) literals-makes (lit< tt, lit< tt) ls vl isl (λ ν′ δ′.
           move ! (3 ∷ 0 ∷ 4 ∷ 1 ∷ []) $ group ! 4 $
-          use1 W (raw (Of 𝓤 H A rof.ended (rof.clauses 𝓤 H A mem run) .pre (to-rof l₃ l₄ ν ν′ δ δ′ i))) (goes-rof
-          l₃ l₄ ν ν′ δ δ′ i gi stands) $
-          calls-plain ! fm rof.ended (rof.clauses 𝓤 H A mem run) known-rof (to-rof l₃ l₄ ν ν′ δ δ′ i) (λ r. r ≡
-          recordIn rs ls i) (λ r. id⊢ 𝓤 _) (and-then ! (load ! (from ! (stop !)) (look ! 15 refl)) (and-then !
-          (load ! (from ! (stop !)) (look ! 11 refl)) (and-then ! (load ! (from ! (stop !)) (look ! 23 refl))
-          (no-more !)))) (λ w r er isr′.
+          use1 W (raw (Of 𝓤 H A rof.ended (rof.clauses 𝓤 H A mem run) .pre (to-rof l₃ l₄ ν ν′ δ δ′ i)))
+          (goes-rof l₃ l₄ ν ν′ δ δ′ i gi stands) $
+          calls-plain ! fm rof.ended (rof.clauses 𝓤 H A mem run) known-rof (to-rof l₃ l₄ ν ν′ δ δ′ i)
+          (λ r. r ≡ recordIn rs ls i) (λ r. id⊢ 𝓤 _) (and-then ! (load ! (from ! (stop !)) (look ! 15 refl))
+          (and-then ! (load ! (from ! (stop !)) (look ! 11 refl)) (and-then !
+          (load ! (from ! (stop !)) (look ! 23 refl)) (no-more !)))) (λ w r er isr′.
           use1 W (‵ (flft (ν ∷ []) fullShare) ⊛ ‵ (flft (ν′ ∷ []) fullShare) ⊛ ‵ ftrue) (id⊢ 𝓤 _) $ split ! $
           move ! (1 ∷ []) $ split ! $
           land ! (from ! (stop !)) (init ! 23 refl (LL.lawful T.the-type T′.the-laws 𝓤 H A W .typed r _ isr′ .0)) $
           move ! (2 ∷ 4 ∷ []) $ array-unshown ! tt u64 11264 l₃ (uint-vals w64) (uint-tells w64) rs vr isr $
           move ! (1 ∷ 3 ∷ []) $ array-unshown ! tt i64 1024 l₄ (sint-vals w64) (sint-tells w64) ls vl isl $
           -- ts is lent again for the call of `put_at`
-          assigns ! (addr ! (from ! (fld ! refl (hop ! (look-in ! 31 (sub ! 0 refl (whole !))) (stop !))))) (from !
-          (stop !)) (init ! 7 refl (tt, tt)) $
-          assigns ! (agg ! (and-then ! (load ! (from ! (stop !)) (look ! 7 refl)) (and-then ! (load ! (from ! (fld
-          ! refl (stop !))) (look-in ! 31 (sub ! 1 refl (whole !)))) (no-more !)))) (from ! (stop !)) (init ! 5
-          refl (tt, (tt, (record { fits = room .0 }, tt)))) $
+          assigns ! (addr ! (from ! (fld ! refl (hop ! (look-in ! 31 (sub ! 0 refl (whole !))) (stop !)))))
+          (from ! (stop !)) (init ! 7 refl (tt, tt)) $
+          assigns ! (agg ! (and-then ! (load ! (from ! (stop !)) (look ! 7 refl))
+          (and-then ! (load ! (from ! (fld ! refl (stop !))) (look-in ! 31 (sub ! 1 refl (whole !))))
+          (no-more !)))) (from ! (stop !)) (init ! 5 refl (tt, (tt, (record { fits = room .0 }, tt)))) $
           move ! (3 ∷ []) $ split ! $ move ! (5 ∷ 0 ∷ []) $
           slice-lent ! tt T.the-row (named 0) (named 0) κ q b o γ zs (length ys) long (λ μ ε.
-          use2 W (raw (Of 𝓤 H A put.ended (put.clauses 𝓤 H A mem run) .pre (to-put μ ε zs i r w))) (goes-put μ ε zs
-          i r w gi isr′ (omega (arith, less, short, long))) $
-          calls-changing ! fm put.ended (put.clauses 𝓤 H A mem run) known-put (to-put μ ε zs i r w) (λ u ws. ws .0
-          ≡ set zs i r) (λ u. id⊢ 𝓤 _) (and-then ! (load ! (from ! (stop !)) (look ! 6 refl)) (and-then ! (load !
-          (from ! (stop !)) (look ! 24 refl)) (and-then ! (load ! (from ! (stop !)) (look ! 22 refl)) (no-more
-          !)))) (λ w′ u ws ez isu.
+          use2 W (raw (Of 𝓤 H A put.ended (put.clauses 𝓤 H A mem run) .pre (to-put μ ε zs i r w)))
+          (goes-put μ ε zs i r w gi isr′ (omega (arith, less, short, long))) $
+          calls-changing ! fm put.ended (put.clauses 𝓤 H A mem run) known-put (to-put μ ε zs i r w)
+          (λ u ws. ws .0 ≡ set zs i r) (λ u. id⊢ 𝓤 _) (and-then ! (load ! (from ! (stop !)) (look ! 6 refl))
+          (and-then ! (load ! (from ! (stop !)) (look ! 24 refl)) (and-then !
+          (load ! (from ! (stop !)) (look ! 22 refl)) (no-more !)))) (λ w′ u ws ez isu.
           fsplit ! $ fsplit ! $ move ! (1 ∷ []) $ feqL ! (λ same. move ! (2 ∷ []) $
           use1 W (‵ (flft (μ ∷ []) fullShare) ⊛ ‵ ftrue) (id⊢ 𝓤 _) $ split ! $
           land ! (from ! (stop !)) (init ! 13 refl (nothing-lawful 𝓤 H A W .typed u _ isu .0)) $
           move ! (0 ∷ 4 ∷ 2 ∷ []) $
           slice-back ! tt T.the-row (named 0) κ q b o γ zs (ws .0) (length ys) room long same $
-          rewrite ! 0 (λ (c : List Term). ‵ (Own c)) (ez ∙ (ap (set zs i) er ∙ putTo-more ys rs ls i (omega (
-            arith,
-            less,
-            short,
-          )))) refl $
+          rewrite ! 0 (λ (c : List Term). ‵ (Own c)) (ez ∙ (ap (set zs i) er ∙ putTo-more ys rs ls i
+          (omega (arith, less, short)))) refl $
           move ! (1 ∷ 4 ∷ []) $ join ! $
-          assigns-last ! (bin ! (load ! (from ! (stop !)) (look ! 25 refl)) (lit ! tt) (record {
-            fits = next-fits;
-          })) (from ! (stop !)) (store ! 25 refl (tt, record { fits = next-fits })) $
+          assigns-last ! (bin ! (load ! (from ! (stop !)) (look ! 25 refl)) (lit ! tt)
+          (record { fits = next-fits })) (from ! (stop !)) (store ! 25 refl (tt, record { fits = next-fits })) $
           forget ! 7 refl $ forget ! 9 refl $ forget ! 11 refl $ forget ! 13 refl $ forget ! 15 refl $
           forget ! 17 refl $ forget ! 19 refl $ forget ! 21 refl $ forget ! 23 refl $
           keep ! (0 ∷ 1 ∷ 7 ∷ 8 ∷ 9 ∷ 10 ∷ 11 ∷ 12 ∷ 13 ∷ 14 ∷ 15 ∷ 16 ∷ 17 ∷ 18 ∷ 19 ∷ 20 ∷ 21 ∷ 22 ∷ 23 ∷ 24 ∷ 25
@@ -453,15 +346,7 @@ module _ {M : Type 1} (𝓤 : URA M) (H : Heap 𝓤) (A : Atoms 𝓤) (W : Given
           next-fits = omega (arith, less, gn)
 
           stands : InRecords rs ls i
-          stands = record {
-            numbers = omega (arith, less, small, isr .1 .0 .1);
-            literal = omega (
-              arith,
-              less,
-              small,
-              isl .1 .0 .1,
-            );
-          }
+          stands = record { numbers = omega (arith, less, small, isr .1 .0 .1); literal = omega (arith, less, small, isl .1 .0 .1) }
       turn t false test =
           assigns ! (bin ! (load ! (from ! (stop !)) (look ! 20 refl)) (load ! (from ! (stop !)) (look ! 22 refl))
           tt) (from ! (stop !)) (init ! 16 refl (tt, tt)) $
@@ -476,8 +361,8 @@ module _ {M : Type 1} (𝓤 : URA M) (H : Heap 𝓤) (A : Atoms 𝓤) (W : Given
           move ! (12 ∷ 13 ∷ []) $ free1 ! $ move ! (10 ∷ 11 ∷ []) $ free1 ! $ move ! (8 ∷ 9 ∷ []) $ free1 ! $
           move ! (6 ∷ 7 ∷ []) $ free1 ! $ move ! (4 ∷ 5 ∷ []) $ free1 ! $ move ! (2 ∷ 3 ∷ []) $ free1 ! $
           free0 ! $
-          by ! (exits (putTo ys rs ls (t .0)) (putTo-length ys rs ls (t .0) (omega (arith, t .1, short))) (ap
-          (putTo ys rs ls) all))
+          by ! (exits (putTo ys rs ls (t .0)) (putTo-length ys rs ls (t .0) (omega (arith, t .1, short)))
+          (ap (putTo ys rs ls) all))
         where
           all : t .0 ≡ n
           all = omega (arith, t .1, nltb→le (t .0) n (subst (λ (y : Bool). Holds (not y)) (sym test) tt))
@@ -496,12 +381,12 @@ module _ {M : Type 1} (𝓤 : URA M) (H : Heap 𝓤) (A : Atoms 𝓤) (W : Given
         alloc1 ! (λ l₁₅. alloc0 ! $ params1 ! $
         pass1 ! (init ! 28 refl (tt, (tt, (record { fits = room .0 }, tt)))) $
         pass1 ! (init ! 26 refl (LL.lawful F.the-type F′.the-laws 𝓤 H A W .typed f _ isf .0)) $ pass0 ! $
-        assigns ! (of-opd ! (load ! (from ! (fld ! refl (stop !))) (look-in ! 26 (sub ! 0 refl (whole !))))) (from !
-        (stop !)) (init ! 24 refl numbers-typed) $
-        assigns ! (of-opd ! (load ! (from ! (fld ! refl (stop !))) (look-in ! 26 (sub ! 1 refl (whole !))))) (from !
-        (stop !)) (init ! 22 refl literals-typed) $
-        assigns ! (of-opd ! (load ! (from ! (fld ! refl (stop !))) (look-in ! 26 (sub ! 2 refl (whole !))))) (from !
-        (stop !)) (init ! 20 refl (tt, record { fits = gn })) $
+        assigns ! (of-opd ! (load ! (from ! (fld ! refl (stop !))) (look-in ! 26 (sub ! 0 refl (whole !)))))
+        (from ! (stop !)) (init ! 24 refl numbers-typed) $
+        assigns ! (of-opd ! (load ! (from ! (fld ! refl (stop !))) (look-in ! 26 (sub ! 1 refl (whole !)))))
+        (from ! (stop !)) (init ! 22 refl literals-typed) $
+        assigns ! (of-opd ! (load ! (from ! (fld ! refl (stop !))) (look-in ! 26 (sub ! 2 refl (whole !)))))
+        (from ! (stop !)) (init ! 20 refl (tt, record { fits = gn })) $
         assigns ! (of-opd ! (lit ! tt)) (from ! (stop !)) (init ! 18 refl (tt, record { fits = lit< tt })) $
         forget ! 26 refl $ move ! (33 ∷ []) $ fsplit ! $
         rewrite ! 0 (λ (c : List Term). ‵ (Own c)) (putTo-none ys rs ls) refl $
@@ -509,32 +394,24 @@ module _ {M : Type 1} (𝓤 : URA M) (H : Heap 𝓤) (A : Atoms 𝓤) (W : Given
         22 ∷ 23 ∷ 24 ∷ 25 ∷ 26 ∷ 27 ∷ 28 ∷ 29 ∷ 30 ∷ 31 ∷ 32 ∷ 33 ∷ []) $
         looped l₀ l₁ l₂ l₃ l₄ l₅ l₆ l₇ l₈ l₉ l₁₀ l₁₁ l₁₂ l₁₃ l₁₄ l₁₅ (0, omega arith)))))))))))))))))
 
-module _ {M : Type 1} (𝓤 : URA M) (H : Heap 𝓤) (A : Atoms 𝓤) (W : Given 𝓤 H A) (mem : Memory → SProp 𝓤) (run :
-    Routine → Fun 𝓤) (𝓣 : Tables 𝓤 H)
+module _ {M : Type 1} (𝓤 : URA M) (H : Heap 𝓤) (A : Atoms 𝓤) (W : Given 𝓤 H A)
+    (mem : Memory → SProp 𝓤) (run : Routine → Fun 𝓤) (𝓣 : Tables 𝓤 H)
     (known-rof : Triple 𝓤 (𝓣 .C #rof) (Of 𝓤 H A rof.ended (rof.clauses 𝓤 H A mem run)))
     (known-put : Triple 𝓤 (𝓣 .C #put) (Of 𝓤 H A put.ended (put.clauses 𝓤 H A mem run))) where
   walks : Walks 𝓤 H A it.ended stayed (WpFn 𝓤 H (𝓣 .C) (𝓣 .Λ) code.function) (it.clauses 𝓤 H A mem run)
   walks =
       walked 𝓤 H A it.ended stayed (it.clauses 𝓤 H A mem run) (WpFn 𝓤 H (𝓣 .C) (𝓣 .Λ) code.function)
-      (λ κs. (slice-vals, ((λ f. F′.lowered f ∷ []), tt))) (λ κs. (
-        mut-slice-tells (named 0) (κs .0) T.the-row,
-        (F′.lowers .val-is, tt),
-      ))
+      (λ κs. (slice-vals, ((λ f. F′.lowered f ∷ []), tt)))
+      (λ κs. (mut-slice-tells (named 0) (κs .0) T.the-row, (F′.lowers .val-is, tt)))
       (λ κs qs bounds a g are. needs 𝓤 ((a .1 .0 .room ≤ length (a .0 .now)) × (a .1 .0 .room ≤ 1024)) _ (λ asked.
-      walk 𝓤 H A W mem run (κs .0) (qs .0) (a .0 .ptr .0) (a .0 .ptr .1) (a .0 .name) (a .0 .now) (a .1 .0) (are .0
-      .0 .1)
+      walk 𝓤 H A W mem run (κs .0) (qs .0) (a .0 .ptr .0) (a .0 .ptr .1) (a .0 .name) (a .0 .now) (a .1 .0)
+      (are .0 .0 .1)
       (are .1 .0) (asked .0) (asked .1) 𝓣 known-rof known-put))
 
   meets : Meets 𝓤 H A it.signature (WpFn 𝓤 H (𝓣 .C) (𝓣 .Λ) code.function) (it.spec 𝓤 H A mem run)
   meets =
-      walk-meets 𝓤 H A it.ended stayed W (
-        goes-slice 𝓤 H A W 1 0 tt (plain (λ _. T.the-row)),
-        (
-          goes-dropped 𝓤 H A W 1 (plain (λ _. F.the-row)) yes
-              (λ κs x f. refl),
-          tt,
-        ),
-      )
+      walk-meets 𝓤 H A it.ended stayed W
+      (goes-slice 𝓤 H A W 1 0 tt (plain (λ _. T.the-row)), (goes-dropped 𝓤 H A W 1 (plain (λ _. F.the-row)) yes (λ κs x f. refl), tt))
       (it.clauses 𝓤 H A mem run) (WpFn 𝓤 H (𝓣 .C) (𝓣 .Λ) code.function) (WpFn-mono 𝓤 H (W .laws) 𝓣 code.function)
       walks
 

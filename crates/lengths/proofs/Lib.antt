@@ -1,0 +1,1 @@
+-- The crate `lengths` has no laws of its own.

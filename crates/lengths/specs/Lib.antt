@@ -1,0 +1,1 @@
+-- The crate `lengths` has no definitions of its own.

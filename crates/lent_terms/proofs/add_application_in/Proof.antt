@@ -1,0 +1,124 @@
+use native.Mathlib.Omega.{arith}
+-- `lent_terms::add_application_in` meets its contract. Assumes nothing.
+use Prim.Native.Nat.{ℕ, _*_}
+use mathlib.Core.Path.{_≡_, sym, ap, _∙_}
+use lib.ListN.{length, length-replicate}
+use lib.Seq.{length-take-le, length-front}
+use Rattle.store.specs.Lent.{Store}
+use Rattle.terms.specs.Calls.{addApplication}
+use Rattle.lent_terms.proofs.AddedLaws.{added-names}
+use borrow.Author.Needs.{needs}
+use Rattle.lent_terms.proofs.add_application_in.Statement.{statement}
+use Rattle.lent_terms.proofs.add_application_in.Tie as tie
+
+mul-e : tie.Need-mul-e
+mul-e c = search needs
+
+slice-aggregate-load-names : tie.Need-slice-aggregate-load-names
+slice-aggregate-load-names c = search needs
+
+load-names-requires : tie.Need-load-names-requires
+load-names-requires c κs = search needs
+
+mul-b : tie.Need-mul-b
+mul-b c = search needs
+
+array-borrow-prefix-records : tie.Need-array-borrow-prefix-records
+array-borrow-prefix-records c = search needs
+
+slice-aggregate-add-application : tie.Need-slice-aggregate-add-application
+slice-aggregate-add-application c =
+    sym (length-take-le (c .before .before .before .before .before .before .before .before .before .args .f .room *
+    11) (c .before .before .before .before .before .before .before .before .before .args .f .records) (omega
+    arith))
+
+array-borrow-prefix-literals : tie.Need-array-borrow-prefix-literals
+array-borrow-prefix-literals c = search needs
+
+slice-aggregate-add-application-2 : tie.Need-slice-aggregate-add-application-2
+slice-aggregate-add-application-2 c =
+    sym (length-take-le (c .before .before .before .before .before .before .before .before .before .before .args .f
+    .room) (c .before .before .before .before .before .before .before .before .before .before .args .f .literals)
+    (omega arith))
+
+array-borrow-prefix-names : tie.Need-array-borrow-prefix-names
+array-borrow-prefix-names c = search needs
+
+slice-aggregate-add-application-3 : tie.Need-slice-aggregate-add-application-3
+slice-aggregate-add-application-3 c =
+    let names = c .before .before .before .before .load-names in
+    sym (length-take-le (names .result * 32) (names .last .1 .0) (omega (
+      arith,
+      names .ensures .room,
+      names .ensures
+          .long,
+    )))
+
+add-application-requires : tie.Need-add-application-requires
+add-application-requires c κs = search needs
+
+slice-aggregate-unload-names : tie.Need-slice-aggregate-unload-names
+slice-aggregate-unload-names c =
+    let names = c .before .before .before .before .before .before .before .before .before .before .load-names in
+    sym (length-front (names .last .1 .0) (c .before .before .before .before .before .add-application .last .1 .1 .0)
+    (names .result * 32) (c .before .before .names4 .given)
+    ∙ (names .ensures .long ∙ length-replicate {A = ℕ} 4096 0))
+
+unload-names-requires : tie.Need-unload-names-requires
+unload-names-requires c κs =
+    let names = c .before .before .before .before .before .before .before .before .before .before .load-names in
+    omega (
+      arith,
+      length-front (names .last .1 .0) (c .before .before .before .before .before .add-application .last
+          .1 .1 .0) (names .result * 32) (c .before .before .names4 .given)
+          ∙ (names .ensures .long ∙ length-replicate {A = ℕ} 4096 0),
+    )
+
+same-length : tie.Need-same-length
+same-length c = search needs
+
+returns : tie.Need-returns
+returns c =
+    let g = c .before .before .before .before .before .before .before .before .before .before .before .before .before
+    .before .before .before .before .before .before .args in
+    let f = g .f in
+    let call = c .before .before .before .before .before .before .before .add-application in
+    let names = c .before .before .before .before .before .before .before .before .before .before .before .before
+    .load-names in
+    let whole = c .before .before .before .before .before .before .before .before .before .before .before .before
+    .before .before .before .before .before .before .before .pre in
+    let long : length (call .last .0) ≡ f .room * 11 =
+    c .before .before .before .before .before .before .records3 .given ∙ length-take-le (f .room * 11) (f .records)
+    (omega (arith, whole .long, whole .within)) in
+    let wide : length (call .last .1 .0) ≡ f .room =
+    c .before .before .before .before .before .literals3 .given ∙ length-take-le (f .room) (f .literals) (omega
+    (arith, whole .wide, whole .within)) in
+    let bytes : length (names .last .1 .0) ≡ 4096 = names .ensures .long ∙ length-replicate {A = ℕ} 4096 0 in
+    let size : length (call .last .1 .1 .0) ≡ names .result * 32 =
+    c .before .before .before .before .names4 .given ∙ length-take-le (names .result * 32) (names .last .1 .0)
+    (omega (arith, names .ensures .room)) in
+    added-names f (g .ns .now) (g .terms) (g .symbols) (λ (s : Store). addApplication s (g .name .now) (g .children
+    .now)) (call .result) (call .last .0) _
+    (call .last .1 .0) long wide (names .ensures .bytes) (names .ensures .wide) (call .last .1 .1 .0) _ (c .before
+    .unload-names .last .0)
+    (size ∙ ap (λ (k : ℕ). k * 32) (names .ensures .room)) (c .before .unload-names .ensures) (call .ensures)
+
+pub add-application-in-spec : {M : Type 1} → statement M
+add-application-in-spec =
+    tie.close
+    (tie.spec
+    mul-e
+    slice-aggregate-load-names
+    load-names-requires
+    mul-b
+    array-borrow-prefix-records
+    slice-aggregate-add-application
+    array-borrow-prefix-literals
+    slice-aggregate-add-application-2
+    array-borrow-prefix-names
+    slice-aggregate-add-application-3
+    add-application-requires
+    slice-aggregate-unload-names
+    unload-names-requires
+    same-length
+    returns)

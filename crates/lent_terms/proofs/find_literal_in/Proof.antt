@@ -1,0 +1,83 @@
+use native.Mathlib.Omega.{arith}
+-- `lent_terms::find_literal_in` meets its contract. Assumes nothing.
+use Prim.Native.Nat.{_*_}
+use mathlib.Core.Path.{_≡_, sym, ap, _∙_}
+use lib.Seq.{length-take-le}
+use mir.Syntax.{w64}
+use mir.Val.{toZ, ofZ}
+use Rattle.store.specs.Lent.{Store}
+use Rattle.terms.specs.Calls.{findLiteral}
+use Rattle.lent.proofs.StoreLaws.{storeIn-is}
+use borrow.Author.Needs.{needs}
+use Rattle.lent_terms.proofs.find_literal_in.Statement.{statement}
+use Rattle.lent_terms.proofs.find_literal_in.Tie as tie
+
+mul-e : tie.Need-mul-e
+mul-e c = search needs
+
+slice-aggregate-load-names : tie.Need-slice-aggregate-load-names
+slice-aggregate-load-names c = search needs
+
+load-names-requires : tie.Need-load-names-requires
+load-names-requires c κs = search needs
+
+mul-b : tie.Need-mul-b
+mul-b c = search needs
+
+array-share-prefix-records : tie.Need-array-share-prefix-records
+array-share-prefix-records c = search needs
+
+slice-aggregate-find-literal : tie.Need-slice-aggregate-find-literal
+slice-aggregate-find-literal c =
+    sym (length-take-le (c .before .before .before .before .before .before .args .f .room * 11) (c .before .before
+    .before .before .before .before .args .f .records) (omega arith))
+
+array-share-prefix-literals : tie.Need-array-share-prefix-literals
+array-share-prefix-literals c = search needs
+
+slice-aggregate-find-literal-2 : tie.Need-slice-aggregate-find-literal-2
+slice-aggregate-find-literal-2 c =
+    sym (length-take-le (c .before .before .before .before .before .before .before .args .f .room) (c .before .before
+    .before .before .before .before .before .args .f .literals) (omega arith))
+
+array-share-prefix-names : tie.Need-array-share-prefix-names
+array-share-prefix-names c = search needs
+
+slice-aggregate-find-literal-3 : tie.Need-slice-aggregate-find-literal-3
+slice-aggregate-find-literal-3 c =
+    let names = c .before .before .before .before .load-names in
+    sym (length-take-le (names .result * 32) (names .last .1 .0) (omega (
+      arith,
+      names .ensures .room,
+      names .ensures
+          .long,
+    )))
+
+find-literal-requires : tie.Need-find-literal-requires
+find-literal-requires c κs = search needs
+
+returns : tie.Need-returns
+returns c =
+    let g = c .before .before .before .before .before .before .before .before .before .args in
+    let exact : toZ w64 (ofZ w64 (g .literal)) ≡ g .literal = search needs in
+    (rw exact at (c .find-literal .ensures))
+    ∙ ap (λ (s : Store). findLiteral s (g .literal))
+    (storeIn-is (g .f) (g .ns .now) (g .terms) (g .symbols) _ (c .before .before .before .before .before .load-names
+    .ensures .bytes))
+
+pub find-literal-in-spec : {M : Type 1} → statement M
+find-literal-in-spec =
+    tie.close
+    (tie.spec
+    mul-e
+    slice-aggregate-load-names
+    load-names-requires
+    mul-b
+    array-share-prefix-records
+    slice-aggregate-find-literal
+    array-share-prefix-literals
+    slice-aggregate-find-literal-2
+    array-share-prefix-names
+    slice-aggregate-find-literal-3
+    find-literal-requires
+    returns)

@@ -1,0 +1,2 @@
+-- The definitions of the crate `lent_terms`.
+pub mod Lists

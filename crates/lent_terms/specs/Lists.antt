@@ -1,0 +1,32 @@
+-- What a call on lent lists leaves: document 01, 'Terms'. Assumes nothing: these are definitions.
+use Prim.Native.Nat.{ℕ, _*_}
+use mathlib.Core.Path.{_≡_}
+use mathlib.Core.List.{List}
+use lib.ListN.{take}
+use Rattle.entries.specs.Entries.{entriesOf, entriesAfter}
+use Rattle.store.specs.declared.Term.{Term}
+use Rattle.store.specs.Lent.{Store}
+use Rattle.lent.specs.Records.{lentStore, recordsAfter}
+use Rattle.lent.specs.declared.Flat.{Flat}
+use Rattle.terms.specs.Answers.{Answer, seenAdded}
+use Rattle.terms.specs.declared.Added.{Added}
+use Rattle.lent_terms.specs.declared.Adding.{Adding}
+
+-- The call answers as wanted, and the lent lists are then the wanted store. Where that is the store as it was lent, as on every
+-- refusal, the lists are as they were.
+pub record LentAdded (ts : List Term) (ns : List (List ℕ)) (n m : ℕ) (wanted : Answer ℕ × Store) (r : Added)
+    (ts′ : List Term) (ns′ : List (List ℕ)) : Type 0 where
+  pub answer : seenAdded r (wanted .1 .records) (wanted .1 .literals) (wanted .1 .names) n m ≡ wanted
+  pub records : ts′ ≡ recordsAfter ts (wanted .1)
+  pub entries : ns′ ≡ entriesAfter ns (wanted .1 .names)
+  pub unchanged : wanted .1 ≡ lentStore ts ns n m → (ts′ ≡ ts) × (ns′ ≡ ns)
+
+-- the same of the work on a call's own arrays
+pub record AddedIn (f : Flat) (ns : List (List ℕ)) (n m : ℕ) (wanted : Answer ℕ × Store) (r : Adding) (ns′ : List (List ℕ)) :
+    Type 0 where
+  pub room : r .flat .room ≡ f .room
+  pub answer : seenAdded (r .added) (wanted .1 .records) (wanted .1 .literals) (wanted .1 .names) n m ≡ wanted
+  pub records : take (r .flat .room * 11) (r .flat .records) ≡ wanted .1 .records
+  pub literals : take (r .flat .room) (r .flat .literals) ≡ wanted .1 .literals
+  pub entries : ns′ ≡ entriesAfter ns (wanted .1 .names)
+  pub kept : wanted .1 .names ≡ entriesOf (take 128 ns) → ns′ ≡ ns

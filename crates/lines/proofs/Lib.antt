@@ -1,0 +1,3 @@
+-- The laws of the crate `lines`.
+pub mod CleanLaws
+pub mod OwnLaws
