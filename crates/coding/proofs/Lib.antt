@@ -1,0 +1,4 @@
+-- The laws of the crate `coding`.
+pub mod SpellLaws
+pub mod PartsSpell
+pub mod FileSpell
