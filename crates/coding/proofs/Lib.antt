@@ -2,3 +2,4 @@
 pub mod SpellLaws
 pub mod PartsSpell
 pub mod FileSpell
+pub mod ExtendLaws
