@@ -1,0 +1,1 @@
+// How a table is written as a file: definitions and laws alone, for what `table` promises of its reader.
