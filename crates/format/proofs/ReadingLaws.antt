@@ -93,6 +93,11 @@ module _ {A : Type 0} {P : List A → Type 0} where
       let m : length (r .what) ≡ n = d (r .what) k (r .is) in
       rw (r .is) (record { answer = rw m; filled = r .has })
 
+  pub counts-got : {g : Got (List A)} {xs : List A} {n k : ℕ} → g ≡ got xs k → length xs ≡ n → P xs
+      → Counts g (Part.Done (record { count = n; next = k })) P
+  unfolding OnGot
+  counts-got e m h = rw e (record { answer = rw m; filled = h })
+
   pub counts-refused : {g : Got (List A)} {x : Refusal} → g ≡ refused x → Counts g (Part.Refused x) P
   unfolding OnGot
   counts-refused e = rw e (record { answer = refl; filled = tt })

@@ -1,0 +1,3 @@
+-- The laws of the crate `reader`.
+pub mod SoundLaws
+pub mod TableSteps
