@@ -1,7 +1,7 @@
 // The store's calls on a lent slice of term records and a lent slice of name entries. Each copies the records and the entries once
 // into arrays of its own, hands them to the call of the same name in the crate `terms`, and, where it adds, puts them back.
 ghost use mathlib.Core.Path.{_≡_};
-ghost use Rattle.terms.specs.Answers.{seenFound, seenCount};
+ghost use Rattle.terms.specs.Answers.{seenFound, seenCount, seenOrder, seenSort};
 ghost use Rattle.terms.specs.Calls.{
   addLiteral,
   addVariable,
@@ -11,6 +11,8 @@ ghost use Rattle.terms.specs.Calls.{
   findApplication,
   sizeOf,
   getTerm,
+  compareTerms,
+  sortTerms,
 };
 ghost use Rattle.lent.specs.Records.{lentStore};
 ghost use Rattle.lent.specs.Copies.{Whole, storeIn};
@@ -19,9 +21,11 @@ use entries::Name;
 use lent::Flat;
 use store::Term;
 use terms::Added;
+use terms::Compared;
 use terms::Counted;
 use terms::Got;
 use terms::Looked;
+use terms::Verdict;
 
 // A call's own copy of the records after it, and what it answers.
 pub struct Adding {
@@ -356,4 +360,79 @@ pub fn get(ts: &[Term], ns: &[Name], terms: usize, symbols: usize, i: usize) -> 
 {
     let f = lent::load(ts);
     get_in(f, ns, terms, symbols, i)
+}
+
+fn compare_in(f: Flat, ns: &[Name], terms: usize, symbols: usize, i: usize, j: usize) -> Compared
+    requires { ⌜ Whole f ⌝ }
+    ensures { λ r. ⌜ seenOrder r ≡ compareTerms (storeIn f (now (ns .entry)) terms symbols) i j ⌝ }
+{
+    let records = f.records;
+    let literals = f.literals;
+    let room = f.room;
+    let e = room * 11;
+    let mut names = [0u8; 4096];
+    let k = entries::load_names(ns, &mut names);
+    let b = k * 32;
+    terms::compare(
+        &records[..e],
+        &literals[..room],
+        &names[..b],
+        terms,
+        symbols,
+        i,
+        j,
+    )
+}
+
+// How term `i` stands to term `j` in the order of terms.
+pub fn compare(
+    ts: &[Term],
+    ns: &[Name],
+    terms: usize,
+    symbols: usize,
+    i: usize,
+    j: usize,
+) -> Compared
+    ensures { λ r. ⌜
+        seenOrder r
+        ≡ compareTerms (lentStore (now (ts .entry)) (now (ns .entry)) terms symbols) i j
+        ⌝ }
+{
+    let f = lent::load(ts);
+    compare_in(f, ns, terms, symbols, i, j)
+}
+
+fn sort_in(f: Flat, ns: &[Name], terms: usize, symbols: usize, list: &mut [u64]) -> Verdict
+    requires { ⌜ Whole f ⌝ }
+    ensures { λ r. ⌜
+        seenSort r (now (list .exit))
+        ≡ sortTerms (storeIn f (now (ns .entry)) terms symbols) (now (list .entry))
+        ⌝ }
+{
+    let records = f.records;
+    let literals = f.literals;
+    let room = f.room;
+    let e = room * 11;
+    let mut names = [0u8; 4096];
+    let k = entries::load_names(ns, &mut names);
+    let b = k * 32;
+    terms::sort(
+        &records[..e],
+        &literals[..room],
+        &names[..b],
+        terms,
+        symbols,
+        list,
+    )
+}
+
+// Sorts a list of terms of any length, and keeps repeats: `sort_terms_by_ast` of src/termdag.rs.
+pub fn sort(ts: &[Term], ns: &[Name], terms: usize, symbols: usize, list: &mut [u64]) -> Verdict
+    ensures { λ r. ⌜
+        seenSort r (now (list .exit))
+        ≡ sortTerms (lentStore (now (ts .entry)) (now (ns .entry)) terms symbols) (now (list .entry))
+        ⌝ }
+{
+    let f = lent::load(ts);
+    sort_in(f, ns, terms, symbols, list)
 }

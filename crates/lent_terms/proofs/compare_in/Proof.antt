@@ -1,0 +1,73 @@
+use native.Mathlib.Omega.{arith}
+-- `lent_terms::compare_in` meets its contract. Assumes nothing.
+use Prim.Native.Nat.{_*_}
+use mathlib.Core.Path.{_≡_, sym, ap, _∙_}
+use lib.Seq.{length-take-le}
+use Rattle.store.specs.Lent.{Store}
+use Rattle.terms.specs.Calls.{compareTerms}
+use Rattle.lent.proofs.StoreLaws.{storeIn-is}
+use borrow.Author.Needs.{needs}
+use Rattle.lent_terms.proofs.compare_in.Statement.{statement}
+use Rattle.lent_terms.proofs.compare_in.Tie as tie
+
+mul-e : tie.Need-mul-e
+mul-e c = search needs
+
+slice-aggregate-load-names : tie.Need-slice-aggregate-load-names
+slice-aggregate-load-names c = search needs
+
+load-names-requires : tie.Need-load-names-requires
+load-names-requires c κs = search needs
+
+mul-b : tie.Need-mul-b
+mul-b c = search needs
+
+array-share-prefix-records : tie.Need-array-share-prefix-records
+array-share-prefix-records c = search needs
+
+slice-aggregate-compare : tie.Need-slice-aggregate-compare
+slice-aggregate-compare c =
+    sym (length-take-le (c .before .before .before .before .before .before .args .f .room * 11) (c .before .before .before .before .before .before .args .f .records) (omega arith))
+
+array-share-prefix-literals : tie.Need-array-share-prefix-literals
+array-share-prefix-literals c = search needs
+
+slice-aggregate-compare-2 : tie.Need-slice-aggregate-compare-2
+slice-aggregate-compare-2 c =
+    sym (length-take-le (c .before .before .before .before .before .before .before .args .f .room) (c .before .before .before .before .before .before .before .args .f .literals) (omega arith))
+
+array-share-prefix-names : tie.Need-array-share-prefix-names
+array-share-prefix-names c = search needs
+
+slice-aggregate-compare-3 : tie.Need-slice-aggregate-compare-3
+slice-aggregate-compare-3 c =
+    let names = c .before .before .before .before .load-names in
+    sym
+    (length-take-le (names .result * 32) (names .last .1 .0) (omega (arith, names .ensures .room, names .ensures .long)))
+
+compare-requires : tie.Need-compare-requires
+compare-requires c κs = search needs
+
+returns : tie.Need-returns
+returns c =
+    let g = c .before .before .before .before .before .before .before .before .before .args in
+    c .compare .ensures
+    ∙ ap (λ (s : Store). compareTerms s (g .i) (g .j))
+    (storeIn-is (g .f) (g .ns .now) (g .terms) (g .symbols) _ (c .before .before .before .before .before .load-names .ensures .bytes))
+
+pub compare-in-spec : {M : Type 1} → statement M
+compare-in-spec =
+    tie.close
+    (tie.spec
+    mul-e
+    slice-aggregate-load-names
+    load-names-requires
+    mul-b
+    array-share-prefix-records
+    slice-aggregate-compare
+    array-share-prefix-literals
+    slice-aggregate-compare-2
+    array-share-prefix-names
+    slice-aggregate-compare-3
+    compare-requires
+    returns)
