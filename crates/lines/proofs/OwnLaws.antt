@@ -1,10 +1,10 @@
 -- The definition's text of a term is the writer's: one form, whose gap the width alone decides. Where a parent fits in its
 -- line, each child fits in its own, so the second test of a break follows from the first. Assumes nothing.
 use mathlib.Core.Path.{_≡_, refl, sym, ap, subst, _∙_}
-use mathlib.Core.Bool.{Bool, true, false, _||_}
-use mathlib.Core.List.{List, [], _∷_, _++_}
+use mathlib.Core.Bool.{Bool, false}
+use mathlib.Core.List.{List, [], _∷_}
 use Prim.{Dec, yes, no}
-use Prim.Native.Nat.{ℕ, zero, suc, _+_, _-_, _^_, _<_, _≤_, min}
+use Prim.Native.Nat.{ℕ, zero, suc, _+_, _-_, _<_, _≤_}
 use native.Mathlib.Omega.{arith}
 use native.Mathlib.Decide.{decLt}
 use lib.ListN.{length, getD}
@@ -13,6 +13,7 @@ use borrow.Author.Tests.{lt-ltb, le-ltb}
 use Rattle.store.specs.Nodes.{Node, literal, variable, application}
 use Rattle.text_rules.specs.Forms.{children, each, form, Called, byName, byText, shown, childText, lineIn, line}
 use Rattle.text_rules.specs.LetText.{several, anySeveral, newLine, breaks, ownIn, own}
+<<<<<<< HEAD
 use Rattle.text_rules.proofs.FormLaws.{
   form-same,
   form-longer,
@@ -21,6 +22,9 @@ use Rattle.text_rules.proofs.FormLaws.{
   childText-is,
   childText-same,
 }
+=======
+use Rattle.text_rules.proofs.FormLaws.{form-same, form-longer, lineIn-step, lineIn-enough, childText-is}
+>>>>>>> 2aa21e8172dae7a08f5acb590ad800cc10e650f7
 use Rattle.pieces.specs.Pieces.{capped, gapText}
 use Rattle.pieces.proofs.PieceLaws.{gapText-narrow, gapText-wide}
 use Rattle.heads.specs.Readable.{headText, Inside}

@@ -1,1 +1,2 @@
 -- The definitions of the crate `lines`.
+pub mod Lines
