@@ -13,18 +13,7 @@ use borrow.Author.Tests.{lt-ltb, le-ltb}
 use Rattle.store.specs.Nodes.{Node, literal, variable, application}
 use Rattle.text_rules.specs.Forms.{children, each, form, Called, byName, byText, shown, childText, lineIn, line}
 use Rattle.text_rules.specs.LetText.{several, anySeveral, newLine, breaks, ownIn, own}
-<<<<<<< HEAD
-use Rattle.text_rules.proofs.FormLaws.{
-  form-same,
-  form-longer,
-  lineIn-step,
-  lineIn-enough,
-  childText-is,
-  childText-same,
-}
-=======
 use Rattle.text_rules.proofs.FormLaws.{form-same, form-longer, lineIn-step, lineIn-enough, childText-is}
->>>>>>> 2aa21e8172dae7a08f5acb590ad800cc10e650f7
 use Rattle.pieces.specs.Pieces.{capped, gapText}
 use Rattle.pieces.proofs.PieceLaws.{gapText-narrow, gapText-wide}
 use Rattle.heads.specs.Readable.{headText, Inside}
