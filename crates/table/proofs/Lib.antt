@@ -1,2 +1,3 @@
 -- The laws of the crate `table`.
 pub mod ReadLaws
+pub mod Promises

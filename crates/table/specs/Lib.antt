@@ -1,2 +1,3 @@
 -- The definitions of the crate `table`.
 pub mod Lent
+pub mod Promises

@@ -1,0 +1,52 @@
+-- The promises of the crate `table`, each from its law. Assumes nothing.
+use Prim.Native.Nat.{ℕ, _≤_}
+use mathlib.Core.Logic.{_⊎_, inl, inr}
+use mathlib.Core.Path.{_≡_, refl, sym, ap, _∙_}
+use mathlib.Core.List.{List}
+use native.Mathlib.Omega.{arith}
+use lib.ListN.{length}
+use Rattle.refusals.specs.declared.Refusal.{Refusal}
+use Rattle.fields.specs.Got.{Got, got, refused}
+use Rattle.fields.proofs.GotLaws.{all-at}
+use Rattle.format.specs.Table.{Table}
+use Rattle.format.specs.File.{tableAt}
+use Rattle.format.proofs.TableLaws.{TableKept, table-kept}
+use Rattle.coding.proofs.FileSpell.{file-is-code, file-unique}
+use Rattle.coding.proofs.ExtendLaws.{fault-stays, trailing-when-more}
+use Rattle.reader.specs.declared.Outcome.{Outcome}
+use Rattle.table.specs.Lent.{Arrays, Answer, answer}
+use Rattle.table.specs.Promises.{Holding, Fault, Promises}
+
+either : (s : List ℕ) (g : Got Table) → tableAt s ≡ g → ((t : Table) × Holding s t) ⊎ ((x : Refusal) × Fault s x)
+either s (got t k) e = inl (t, record { end = k; is = e })
+either s (refused x) e = inr (x, e)
+
+clash : {t : Table} {k : ℕ} {x : Refusal} → got t k ≡ refused x → ⊥
+clash e =
+    let z : _≡_ {A = ℕ} 0 1 = cc in
+    omega arith
+
+kept : (s : List ℕ) {t : Table} (h : Holding s t) → TableKept s t (h .end)
+kept s h = all-at (rw (h .is) at (table-kept s))
+
+same-table : {t u : Table} {j k : ℕ} → got t j ≡ got u k → t ≡ u
+same-table e = cc
+
+same-refusal : {x y : Refusal} → _≡_ {A = Got Table} (refused x) (refused y) → x ≡ y
+same-refusal e = cc
+
+pub promises : Promises
+promises =
+    record {
+      accepted-or-refused = λ s. either s (tableAt s) refl;
+      not-both = λ s t x h f. clash (sym (h .is) ∙ f);
+      one-answer = λ g before a b r q e d. (ap (λ (x : Answer). x .outcome) (e ∙ sym d), ap (λ (x : Answer). x .arrays) (e ∙ sym d));
+      accepted = λ s t h. kept s h .ok;
+      one-table = λ s t u h k. same-table (sym (h .is) ∙ k .is);
+      one-fault = λ s x y e d. same-refusal (sym e ∙ d);
+      file-is-code = λ s t h. file-is-code s (h .is);
+      one-file = λ s u t a b h k. file-unique a b (h .is) (k .is);
+      longest = λ s t h. omega (arith, kept s h .last, kept s h .near);
+      fault-stays = λ s rest x f n. fault-stays s rest f n;
+      nothing-follows = λ s t b rest h. trailing-when-more s b rest (h .is);
+    }
