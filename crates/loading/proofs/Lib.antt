@@ -1,0 +1,2 @@
+-- The laws of the crate `loading`.
+pub mod LoadLaws

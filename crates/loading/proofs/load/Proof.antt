@@ -1,0 +1,328 @@
+-- `loading::load` meets its contract: the file is read, then the root opened. Assumes nothing.
+use mathlib.Core.Path.{refl}
+use native.Mathlib.Omega.{arith}
+use Rattle.format.specs.File.{tableAt}
+use Rattle.loading.proofs.LoadLaws.{
+  read-of,
+  accepted-of,
+  kinds-length,
+  classes-length,
+  declared-length,
+  costs-length,
+  unextractable-length,
+  hidden-length,
+  outputs-length,
+  arguments-length,
+  subsumed-length,
+  stands-with,
+  loads-of-bad,
+  loads-of-literal,
+  loads-of-class,
+  loads-of-refused,
+}
+use borrow.Author.Needs.{needs}
+use Rattle.loading.proofs.load.Statement.{statement}
+use Rattle.loading.proofs.load.Tie as tie
+
+read-into-requires : tie.Need-read-into-requires
+read-into-requires c κs =
+    let p = c .before .before .before .before .before .before .before .before .before .before .before .before
+    .before .before .before .before .before .before .before .before .pre in
+    let z = p .1 .0 in (
+      (refl, refl),
+      (
+        p .0,
+        (
+          record {
+            names-zero = z .names-zero;
+            declared-zero = refl;
+            costs-zero = refl;
+            unextractable-zero = refl;
+            hidden-zero = refl;
+            outputs-zero = refl;
+            arities-zero = z .arities-zero;
+            arguments-zero = refl;
+          },
+          record { functions-zero = z .row-functions-zero; subsumed-zero = refl; cells-zero = z .cells-zero },
+        ),
+      ),
+    )
+
+enum-known-read : tie.Need-enum-known-read
+enum-known-read c = search needs
+
+enum-known-read-2 : tie.Need-enum-known-read-2
+enum-known-read-2 c = search needs
+
+slice-aggregate-open : tie.Need-slice-aggregate-open
+slice-aggregate-open c =
+    let f = c .before .before .before .before .before .before .before .before .before .before .before .before
+    .before .before .before .before .before .before .before .before .before .before .before .before
+    .before .args .file .now in
+    let w = c .before .before .before .before .read-into in
+    let q = read-of (tableAt f) (w .ensures) (c .before .before .read2 .given .1) in
+    let ok = accepted-of f (q .is) in
+    kinds-length ok (q .held)
+
+slice-aggregate-open-2 : tie.Need-slice-aggregate-open-2
+slice-aggregate-open-2 c =
+    let f = c .before .before .before .before .before .before .before .before .before .before .before .before
+    .before .before .before .before .before .before .before .before .before .before .before .before
+    .before .before .args .file .now in
+    let w = c .before .before .before .before .before .read-into in
+    let q = read-of (tableAt f) (w .ensures) (c .before .before .before .read2 .given .1) in
+    let ok = accepted-of f (q .is) in
+    classes-length ok (q .held)
+
+slice-aggregate-open-3 : tie.Need-slice-aggregate-open-3
+slice-aggregate-open-3 c =
+    let f = c .before .before .before .before .before .before .before .before .before .before .before .before
+    .before .before .before .before .before .before .before .before .before .before .before .before
+    .before .before .before .args .file .now in
+    let w = c .before .before .before .before .before .before .read-into in
+    let q = read-of (tableAt f) (w .ensures) (c .before .before .before .before .read2 .given .1) in
+    let ok = accepted-of f (q .is) in
+    declared-length ok (q .held)
+
+slice-aggregate-open-4 : tie.Need-slice-aggregate-open-4
+slice-aggregate-open-4 c =
+    let f = c .before .before .before .before .before .before .before .before .before .before .before .before
+    .before .before .before .before .before .before .before .before .before .before .before .before
+    .before .before .before .before .args .file .now in
+    let w = c .before .before .before .before .before .before .before .read-into in
+    let q = read-of (tableAt f) (w .ensures) (c .before .before .before .before .before .read2 .given .1) in
+    let ok = accepted-of f (q .is) in
+    costs-length ok (q .held)
+
+slice-aggregate-open-5 : tie.Need-slice-aggregate-open-5
+slice-aggregate-open-5 c =
+    let f = c .before .before .before .before .before .before .before .before .before .before .before .before
+    .before .before .before .before .before .before .before .before .before .before .before .before
+    .before .before .before .before .before .args .file .now in
+    let w = c .before .before .before .before .before .before .before .before .read-into in
+    let q = read-of (tableAt f) (w .ensures) (c .before .before .before .before .before .before .read2 .given .1) in
+    let ok = accepted-of f (q .is) in
+    unextractable-length ok (q .held)
+
+slice-aggregate-open-6 : tie.Need-slice-aggregate-open-6
+slice-aggregate-open-6 c =
+    let f = c .before .before .before .before .before .before .before .before .before .before .before .before
+    .before .before .before .before .before .before .before .before .before .before .before .before
+    .before .before .before .before .before .before .args .file .now in
+    let w = c .before .before .before .before .before .before .before .before .before .read-into in
+    let q = read-of (tableAt f) (w .ensures) (c .before .before .before .before .before .before .before .read2 .given .1) in
+    let ok = accepted-of f (q .is) in
+    hidden-length ok (q .held)
+
+slice-aggregate-open-7 : tie.Need-slice-aggregate-open-7
+slice-aggregate-open-7 c =
+    let f = c .before .before .before .before .before .before .before .before .before .before .before .before
+    .before .before .before .before .before .before .before .before .before .before .before .before
+    .before .before .before .before .before .before .before .args .file .now in
+    let w = c .before .before .before .before .before .before .before .before .before .before .read-into in
+    let q = read-of (tableAt f) (w .ensures) (c .before .before .before .before .before .before .before .before .read2 .given .1) in
+    let ok = accepted-of f (q .is) in
+    outputs-length ok (q .held)
+
+slice-aggregate-open-8 : tie.Need-slice-aggregate-open-8
+slice-aggregate-open-8 c =
+    let f = c .before .before .before .before .before .before .before .before .before .before .before .before
+    .before .before .before .before .before .before .before .before .before .before .before .before
+    .before .before .before .before .before .before .before .before .before .before .args .file .now in
+    let w = c .before .before .before .before .before .before .before .before .before .before .before .before
+    .before .read-into in
+    let q = read-of (tableAt f) (w .ensures) (c .before .before .before .before .before .before .before .before .before .before .before .read2 .given .1) in
+    let ok = accepted-of f (q .is) in
+    arguments-length ok (q .held)
+
+slice-aggregate-open-9 : tie.Need-slice-aggregate-open-9
+slice-aggregate-open-9 c =
+    let f = c .before .before .before .before .before .before .before .before .before .before .before .before
+    .before .before .before .before .before .before .before .before .before .before .before .before
+    .before .before .before .before .before .before .before .before .before .before .before .before
+    .before .args .file .now in
+    let w = c .before .before .before .before .before .before .before .before .before .before .before .before
+    .before .before .before .before .read-into in
+    let q = read-of (tableAt f) (w .ensures) (c .before .before .before .before .before .before .before .before .before .before .before .before
+    .before .before .read2 .given .1) in
+    let ok = accepted-of f (q .is) in
+    subsumed-length ok (q .held)
+
+open-requires : tie.Need-open-requires
+open-requires c κs =
+    let f = c .before .before .before .before .before .before .before .before .before .before .before .before
+    .before .before .before .before .before .before .before .before .before .before .before .before
+    .before .before .before .before .before .before .before .before .before .before .before .before
+    .before .before .before .before .before .before .before .before .args .file .now in
+    let w = c .before .before .before .before .before .before .before .before .before .before .before .before
+    .before .before .before .before .before .before .before .before .before .before .before .read-into in
+    let q = read-of (tableAt f) (w .ensures) (c .before .before .before .before .before .before .before .before .before .before .before .before
+    .before .before .before .before .before .before .before .before .before .read2 .given .1) in
+    let ok = accepted-of f (q .is) in (
+      record {
+        table = q .table;
+        is = stands-with ok (q .held) (q .sorts-are) (q .literals-are) (q .functions-are) (q .rows-are);
+      },
+      c .before .before .before .before .before .before .before .before .before .before .before .before
+          .before .before .before .before .before .before .before .before .before .before .before .before
+          .before .before .before .before .before .before .before .before .before .before .before .before
+          .before .before .before .before .before .before .before .before .pre .1 .1,
+    )
+
+enum-told : tie.Need-enum-told
+enum-told c = search needs
+
+enum-known-opened : tie.Need-enum-known-opened
+enum-known-opened c = search needs
+
+enum-known-opened-2 : tie.Need-enum-known-opened-2
+enum-known-opened-2 c = search needs
+
+returns : tie.Need-returns
+returns c =
+    let f = c .before .before .before .before .before .before .before .before .before .before .before .before
+    .before .before .before .before .before .before .before .before .before .before .before .before .args .file .now in
+    loads-of-refused (tableAt f) _ _ _ _ _ _ _ _ _ _ _ _ (c .before .before .before .read-into .ensures) (c .before .read .given .1)
+
+same-length : tie.Need-same-length
+same-length c = search needs
+
+same-length-2 : tie.Need-same-length-2
+same-length-2 c = search needs
+
+same-length-3 : tie.Need-same-length-3
+same-length-3 c = search needs
+
+same-length-4 : tie.Need-same-length-4
+same-length-4 c = search needs
+
+same-length-5 : tie.Need-same-length-5
+same-length-5 c = search needs
+
+returns-2 : tie.Need-returns-2
+returns-2 c =
+    let f = c .before .before .before .before .before .before .before .before .before .before .before .before
+    .before .before .before .before .before .before .before .before .before .before .before .before
+    .before .before .before .before .before .before .before .before .before .before .before .before
+    .before .before .before .before .before .before .before .before .before .before .before .before
+    .before .before .before .before .before .before .before .before .before .args .file .now in
+    let w = c .before .before .before .before .before .before .before .before .before .before .before .before
+    .before .before .before .before .before .before .before .before .before .before .before .before
+    .before .before .before .before .before .before .before .before .before .before .before .before .read-into in
+    let q = read-of (tableAt f) (w .ensures) (c .before .before .before .before .before .before .before .before .before .before .before .before
+    .before .before .before .before .before .before .before .before .before .before .before .before
+    .before .before .before .before .before .before .before .before .before .before .read2 .given .1) in
+    let ok = accepted-of f (q .is) in
+    let o = c .before .before .before .before .before .before .before .before .before .before .before .before .«open» in
+    let v = o .ensures (q .table) (stands-with ok (q .held) (q .sorts-are) (q .literals-are) (q .functions-are) (q .rows-are)) in
+    loads-of-bad ok (q .held) _ _ (o .result) _ _ _ _ _ v (tableAt f) (q .place) (q .is) (c .enum-told .given .1)
+
+same-length-6 : tie.Need-same-length-6
+same-length-6 c = search needs
+
+same-length-7 : tie.Need-same-length-7
+same-length-7 c = search needs
+
+same-length-8 : tie.Need-same-length-8
+same-length-8 c = search needs
+
+same-length-9 : tie.Need-same-length-9
+same-length-9 c = search needs
+
+same-length-10 : tie.Need-same-length-10
+same-length-10 c = search needs
+
+returns-3 : tie.Need-returns-3
+returns-3 c =
+    let f = c .before .before .before .before .before .before .before .before .before .before .before .before
+    .before .before .before .before .before .before .before .before .before .before .before .before
+    .before .before .before .before .before .before .before .before .before .before .before .before
+    .before .before .before .before .before .before .before .before .before .before .before .before
+    .before .before .before .before .before .before .before .before .before .before .args .file .now in
+    let w = c .before .before .before .before .before .before .before .before .before .before .before .before
+    .before .before .before .before .before .before .before .before .before .before .before .before
+    .before .before .before .before .before .before .before .before .before .before .before .before
+    .before .read-into in
+    let q = read-of (tableAt f) (w .ensures) (c .before .before .before .before .before .before .before .before .before .before .before .before
+    .before .before .before .before .before .before .before .before .before .before .before .before
+    .before .before .before .before .before .before .before .before .before .before .before .read2 .given .1) in
+    let ok = accepted-of f (q .is) in
+    let o = c .before .before .before .before .before .before .before .before .before .before .before .before
+    .before .«open» in
+    let v = o .ensures (q .table) (stands-with ok (q .held) (q .sorts-are) (q .literals-are) (q .functions-are) (q .rows-are)) in
+    loads-of-literal ok (q .held) _ _ (o .result) _ _ _ _ _ v (tableAt f) (q .place) _ (q .is) (c .before .opened .given .1)
+
+same-length-11 : tie.Need-same-length-11
+same-length-11 c = search needs
+
+same-length-12 : tie.Need-same-length-12
+same-length-12 c = search needs
+
+same-length-13 : tie.Need-same-length-13
+same-length-13 c = search needs
+
+same-length-14 : tie.Need-same-length-14
+same-length-14 c = search needs
+
+same-length-15 : tie.Need-same-length-15
+same-length-15 c = search needs
+
+returns-4 : tie.Need-returns-4
+returns-4 c =
+    let f = c .before .before .before .before .before .before .before .before .before .before .before .before
+    .before .before .before .before .before .before .before .before .before .before .before .before
+    .before .before .before .before .before .before .before .before .before .before .before .before
+    .before .before .before .before .before .before .before .before .before .before .before .before
+    .before .before .before .before .before .before .before .before .before .before .args .file .now in
+    let w = c .before .before .before .before .before .before .before .before .before .before .before .before
+    .before .before .before .before .before .before .before .before .before .before .before .before
+    .before .before .before .before .before .before .before .before .before .before .before .before
+    .before .read-into in
+    let q = read-of (tableAt f) (w .ensures) (c .before .before .before .before .before .before .before .before .before .before .before .before
+    .before .before .before .before .before .before .before .before .before .before .before .before
+    .before .before .before .before .before .before .before .before .before .before .before .read2 .given .1) in
+    let ok = accepted-of f (q .is) in
+    let o = c .before .before .before .before .before .before .before .before .before .before .before .before
+    .before .«open» in
+    let v = o .ensures (q .table) (stands-with ok (q .held) (q .sorts-are) (q .literals-are) (q .functions-are) (q .rows-are)) in
+    loads-of-class ok (q .held) _ _ (o .result) _ _ _ _ _ v (tableAt f) (q .place) _ _ _ (q .is) (c .before .opened2 .given .1)
+
+pub load-spec : {M : Type 1} → statement M
+load-spec =
+    tie.close
+    (tie.spec
+    read-into-requires
+    enum-known-read
+    enum-known-read-2
+    slice-aggregate-open
+    slice-aggregate-open-2
+    slice-aggregate-open-3
+    slice-aggregate-open-4
+    slice-aggregate-open-5
+    slice-aggregate-open-6
+    slice-aggregate-open-7
+    slice-aggregate-open-8
+    slice-aggregate-open-9
+    open-requires
+    enum-told
+    enum-known-opened
+    enum-known-opened-2
+    returns
+    same-length
+    same-length-2
+    same-length-3
+    same-length-4
+    same-length-5
+    returns-2
+    same-length-6
+    same-length-7
+    same-length-8
+    same-length-9
+    same-length-10
+    returns-3
+    same-length-11
+    same-length-12
+    same-length-13
+    same-length-14
+    same-length-15
+    returns-4)
