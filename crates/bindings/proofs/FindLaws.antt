@@ -13,11 +13,11 @@ use Rattle.bindings.specs.Met.{placeNo}
 abbrev pub one : ℕ → ℕ → List Bound
 one t i = (record { term = t; indent = i }) ∷ []
 
-find-hit : (t n i : ℕ) (bs : List Bound) → find t n ((record { term = t; indent = i }) ∷ bs) ≡ place n
+pub find-hit : (t n i : ℕ) (bs : List Bound) → find t n ((record { term = t; indent = i }) ∷ bs) ≡ place n
 unfolding find
 find-hit t n i bs = rw (eq-eqb t t refl, find)
 
-find-miss : (t n : ℕ) (b : Bound) (bs : List Bound) → (b .term ≡ t → ⊥) → find t n (b ∷ bs) ≡ find t (n + 1) bs
+pub find-miss : (t n : ℕ) (b : Bound) (bs : List Bound) → (b .term ≡ t → ⊥) → find t n (b ∷ bs) ≡ find t (n + 1) bs
 unfolding find
 find-miss t n b bs e = rw (ne-eqb (b .term) t e, find)
 

@@ -31,7 +31,7 @@ turn-same g h (k ∷ ks) bs e =
     ∙ (turn-same g h ks (h k bs) (λ j l. e (suc j) (omega arith)) ∙ sym (turn-step h k ks bs)))
 
 -- what every step keeps, all keep
-turn-keeps :
+pub turn-keeps :
     (P : List Bound → Type 0) (g : ℕ → List Bound → List Bound) (ks : List ℕ) (bs : List Bound) →
     ((j : ℕ) → j < length ks → (bs : List Bound) → P bs → P (g (getD ks j 0) bs)) →
     P bs →
@@ -49,12 +49,12 @@ pub bind-yes : (t i : ℕ) (bs : List Bound) → bind true t i bs ≡ bs ++ one 
 unfolding bind
 bind-yes t i bs = refl
 
-abbrev whether : Place → List Bound → List Bound → List Bound
+abbrev pub whether : Place → List Bound → List Bound → List Bound
 whether (place p) bs cs = bs
 whether nowhere bs cs = cs
 
 module _ (kids : ℕ → List ℕ) (wanted : ℕ → Bool) where
-  meetIn-step :
+  pub meetIn-step :
       (f i t : ℕ) (bs : List Bound) →
       meetIn kids wanted (suc f) i t bs
       ≡ whether (find t 0 bs) bs (bind (wanted t) t i (inTurn (meetIn kids wanted f (i + 2)) (kids t) bs))

@@ -17,7 +17,7 @@ use Rattle.bindings.specs.Met.{bounds, placeNo, zeros, Met, metAt}
 use Rattle.bindings.proofs.FindLaws.{one, find-last, find-other}
 use Rattle.bindings.proofs.MeetLaws.{turn-step, turn-none, met-above}
 
-bounds-step :
+pub bounds-step :
     (terms indents : List ℕ) (m : ℕ) →
     bounds terms indents (suc m) ≡ bounds terms indents m ++ one (getD terms m 0) (getD indents m 0)
 unfolding bounds
