@@ -5,3 +5,4 @@ pub mod Values
 pub mod Lending
 pub mod Calling
 pub mod StoreLaws
+pub mod Promises

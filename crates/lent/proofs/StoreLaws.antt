@@ -1,8 +1,9 @@
 -- The lent lists and the flat lists mean the same store. Assumes nothing.
-use Prim.Native.Nat.{ℕ, zero, suc, _+_, _*_, _≤_, _<_, min}
+use Prim.Native.Nat.{ℕ, zero, suc, _+_, _*_, _/_, _≤_, _<_, min}
 use mathlib.Core.Path.{_≡_, refl, ap, sym, _∙_, subst}
 use mathlib.Core.Bool.{Bool, true, false, not}
 use mathlib.Core.List.{List, [], _∷_, _++_, append-nil}
+use native.Mathlib.Nat.{mul-div-left}
 use native.Mathlib.Omega.{arith}
 use lib.Dec.{T as Holds, leb, leb→le, nleb→lt}
 use lib.ListN.{length, getD, take, drop, length-take, take-append-drop, drop-of-length-le}
@@ -13,11 +14,12 @@ use Rattle.entries.proofs.EntriesLaws.{
   entriesIn-entriesOf,
   entriesOf-entriesIn,
   entriesIn-length,
+  entriesOf-length,
   nameAt-entriesOf,
   drop-min,
 }
 use Rattle.store.specs.declared.Term.{Term}
-use Rattle.store.specs.Lent.{Store, store, recordIn, recordAt, symbolAt}
+use Rattle.store.specs.Lent.{Store, store, recordIn, recordAt, symbolAt, termRoom, symbolRoom}
 use Rattle.lent.specs.declared.Flat.{Flat}
 use Rattle.lent.specs.Records.{noTerm, flat, literalsOf, lentStore, recordsIn, recordsAfter}
 use Rattle.lent.specs.Copies.{AllEight, Loaded, storeIn}
@@ -25,6 +27,8 @@ use Rattle.lent.proofs.RecordLaws.{
   term,
   same-fields,
   recordIn-flat,
+  flat-length,
+  literalsOf-length,
   recordsIn-flat,
   recordsIn-length,
   flat-recordsIn,
@@ -174,3 +178,59 @@ pub recordsAfter-lists :
     recordsAfter ts (storeIn f ns n m) ≡ recordsAfter ts s
 unfolding recordsAfter storeIn
 recordsAfter-lists ts f ns n m s p q = λ i. recordsIn (p i) (q i) (min 1024 (length ts)) ++ drop 1024 ts
+
+-- "the store's room (its lent lengths, at most 1,024 and 128)"
+times-over : (k n : ℕ) → 0 < n → k * n / n ≡ k
+times-over k n h = mul-div-left k h
+
+pub lentStore-room :
+    (ts : List Term) (ns : List (List ℕ)) (n m : ℕ) → AllEight (take 1024 ts) →
+    termRoom (lentStore ts ns n m) ≡ min 1024 (length ts)
+unfolding termRoom lentStore
+lentStore-room ts ns n m all =
+    let k : ℕ = length (take 1024 ts) in
+    let numbers : length (flat (take 1024 ts)) / 11 ≡ length (take 1024 ts) =
+    ap (λ (l : ℕ). l / 11) (flat-length (take 1024 ts) all) ∙ times-over (length (take 1024 ts)) 11 (omega arith) in
+    rw numbers (omega (arith, literalsOf-length (take 1024 ts), length-take 1024 ts))
+
+pub lentStore-nameRoom :
+    (ts : List Term) (ns : List (List ℕ)) (n m : ℕ) → AllWide (take 128 ns) →
+    symbolRoom (lentStore ts ns n m) ≡ min 128 (length ns)
+unfolding symbolRoom lentStore
+lentStore-nameRoom ts ns n m all =
+    let bytes : length (entriesOf (take 128 ns)) / 32 ≡ length (take 128 ns) =
+    ap (λ (l : ℕ). l / 32) (entriesOf-length (take 128 ns) all) ∙ times-over (length (take 128 ns)) 32
+    (omega arith) in
+    rw bytes (omega (arith, length-take 128 ns))
+
+-- the records of a store are one list
+pub lentStore-once :
+    (ts ts′ : List Term) (ns ns′ : List (List ℕ)) (n m : ℕ) → AllEight (take 1024 ts) → AllEight (take 1024 ts′) →
+    AllWide (take 128 ns) → AllWide (take 128 ns′) → lentStore ts ns n m ≡ lentStore ts′ ns′ n m →
+    (take 1024 ts ≡ take 1024 ts′) × (take 128 ns ≡ take 128 ns′)
+unfolding lentStore
+lentStore-once ts ts′ ns ns′ n m all all′ wide wide′ e = (
+  records-of ts all ∙ ap (λ (s : Store). recordsIn (s .records) (s .literals) (length (s .literals))) e ∙ sym
+      (records-of ts′ all′),
+  entries-of ns wide ∙ ap (λ (s : Store). entriesIn (s .names) (length (s .names) / 32)) e ∙ sym
+      (entries-of ns′ wide′),
+)
+  where
+    records-of :
+        (us : List Term) → AllEight (take 1024 us) →
+        take 1024 us ≡ recordsIn (flat (take 1024 us)) (literalsOf (take 1024 us))
+        (length (literalsOf (take 1024 us)))
+    records-of us a =
+        sym (take-length (take 1024 us))
+        ∙ sym (recordsIn-flat (take 1024 us) (length (take 1024 us)) a (omega arith))
+        ∙ ap (recordsIn (flat (take 1024 us)) (literalsOf (take 1024 us))) (sym (literalsOf-length (take 1024 us)))
+
+    entries-of :
+        (us : List (List ℕ)) → AllWide (take 128 us) →
+        take 128 us ≡ entriesIn (entriesOf (take 128 us)) (length (entriesOf (take 128 us)) / 32)
+    entries-of us a =
+        sym (take-length (take 128 us))
+        ∙ sym (entriesIn-entriesOf (take 128 us) (length (take 128 us)) a (omega arith))
+        ∙ ap (entriesIn (entriesOf (take 128 us)))
+        (sym (ap (λ (l : ℕ). l / 32) (entriesOf-length (take 128 us) a) ∙ times-over (length (take 128 us)) 32
+        (omega arith)))

@@ -1,3 +1,4 @@
 -- The definitions of the crate `lent`.
 pub mod Records
 pub mod Copies
+pub mod Promises

@@ -1,2 +1,3 @@
 -- The definitions of the crate `lent_terms`.
 pub mod Lists
+pub mod Promises

@@ -1,0 +1,18 @@
+-- The promises of the crate `lent_terms` hold. Assumes nothing.
+use Rattle.store.specs.Lent.{Store}
+use Rattle.store.specs.Nodes.{literal, variable, application}
+use Rattle.terms.specs.Calls.{addLiteral, addVariable, addApplication}
+use Rattle.terms.proofs.Promises.{promises as flat}
+use Rattle.lent_terms.specs.Promises.{Promises}
+use Rattle.lent_terms.proofs.PromiseLaws.{refusal-keeps, added-determined}
+
+pub promises : Promises
+promises = record {
+  literalKept = λ z. refusal-keeps (λ (s : Store). addLiteral s z) (literal z) (λ s. flat .literalAdded s z);
+  variableKept = λ name. refusal-keeps (λ (s : Store). addVariable s name) (variable name)
+      (λ s. flat .variableAdded s name);
+  applicationKept = λ name ks.
+      refusal-keeps (λ (s : Store). addApplication s name ks) (application name ks)
+      (λ s. flat .applicationAdded s name ks);
+  addDetermined = added-determined;
+}
