@@ -73,8 +73,8 @@ module _ (kids : ℕ → List ℕ) (wanted : ℕ → Bool) (n top : ℕ) (lower 
       (bind-fine (wanted t) t i (inTurn (meetIn kids wanted f (i + 2)) (kids t) bs) k l
       (turn-keeps (All (Fine n top)) (meetIn kids wanted f (i + 2)) (kids t) bs
       (λ j lj cs ac.
-        let h : getD (kids t) j 0 < t = lower t k j lj in
-        meetIn-fine f (i + 2) (getD (kids t) j 0) cs (omega arith) (omega arith) ac) a)))
+      let h : getD (kids t) j 0 < t = lower t k j lj in
+      meetIn-fine f (i + 2) (getD (kids t) j 0) cs (omega arith) (omega arith) ac) a)))
 
 bindings-fine :
     (kids : ℕ → List ℕ) (n : ℕ) →
@@ -86,9 +86,9 @@ unfolding bindings
 bindings-fine kids n lower root k =
     turn-keeps (All (Fine n (2 * root))) (meetIn kids (toBind kids root) root 2) (kids root) []
     (λ j lj cs ac.
-      let h : getD (kids root) j 0 < root = lower root k j lj in
-      meetIn-fine kids (toBind kids root) n (2 * root) lower root 2 (getD (kids root) j 0) cs (omega arith) (omega arith)
-      ac) (all-none (Fine n (2 * root)))
+    let h : getD (kids root) j 0 < root = lower root k j lj in
+    meetIn-fine kids (toBind kids root) n (2 * root) lower root 2 (getD (kids root) j 0) cs (omega arith) (omega arith)
+    ac) (all-none (Fine n (2 * root)))
 
 bounds-get :
     (P : Bound → Type 0) (terms indents : List ℕ) (m k : ℕ) →
@@ -142,7 +142,7 @@ find-low t n q (b ∷ bs) e = by (find-low t (n + 1) q bs) (ℕ-discrete (b .ter
     by : (find t (n + 1) bs ≡ place q → q < n + 1 + length bs) → Dec (b .term ≡ t) → q < n + length (b ∷ bs)
     by ih (yes h) =
         let w : place n ≡ place q =
-              sym (subst (λ (x : ℕ). find x n (b ∷ bs) ≡ place n) h (find-hit (b .term) n (b .indent) bs)) ∙ e in
+        sym (subst (λ (x : ℕ). find x n (b ∷ bs) ≡ place n) h (find-hit (b .term) n (b .indent) bs)) ∙ e in
         let s : n ≡ q = cc in omega arith
     by ih (no h) = omega (arith, ih (sym (find-miss t n b bs h) ∙ e))
 
@@ -158,6 +158,6 @@ pub place-at-most :
     getD places t 0 ≤ m
 place-at-most places terms indents m v t l =
     let h =
-          place-low (find t 0 (bounds terms indents m)) m
-          (λ q e. omega (arith, find-low t 0 q (bounds terms indents m) e, bounds-length terms indents m)) in
+    place-low (find t 0 (bounds terms indents m)) m
+    (λ q e. omega (arith, find-low t 0 q (bounds terms indents m) e, bounds-length terms indents m)) in
     omega (arith, v .right t l, h)

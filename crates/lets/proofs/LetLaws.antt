@@ -14,7 +14,18 @@ use Rattle.store.specs.Nodes.{Node}
 use Rattle.text_rules.specs.Forms.{children, form, Called, byName, byText, shown, childText, lineIn, line}
 use Rattle.text_rules.specs.Bindings.{Bound, Place, nowhere, place, find, bindings}
 use Rattle.text_rules.specs.LetText.{
-  Naming, countText, letName, calledAt, called, several, newLine, own, bodyGap, letLine, letLines, textWith,
+  Naming,
+  countText,
+  letName,
+  calledAt,
+  called,
+  several,
+  newLine,
+  own,
+  bodyGap,
+  letLine,
+  letLines,
+  textWith,
 }
 use Rattle.text_rules.proofs.FormLaws.{form-same, childText-is}
 use Rattle.pieces.specs.Pieces.{capped, nameText, gapText}
@@ -47,13 +58,13 @@ lineIn-called node c d n lower e zero t k = refl
 lineIn-called node c d n lower e (suc f) t k =
     form-same (32 ∷ []) (childText c (lineIn node c f)) (childText d (lineIn node d f)) (node t)
     (λ j l.
-      let h : getD (children (node t)) j 0 < t = lower t k j l in
-      childText-is c (lineIn node c f) (getD (children (node t)) j 0)
-      ∙ (ap (λ (x : Called). shown x (lineIn node c f (getD (children (node t)) j 0)))
-      (e (getD (children (node t)) j 0) (omega arith))
-      ∙ (ap (shown (d (getD (children (node t)) j 0)))
-      (lineIn-called node c d n lower e f (getD (children (node t)) j 0) (omega arith))
-      ∙ sym (childText-is d (lineIn node d f) (getD (children (node t)) j 0)))))
+    let h : getD (children (node t)) j 0 < t = lower t k j l in
+    childText-is c (lineIn node c f) (getD (children (node t)) j 0)
+    ∙ (ap (λ (x : Called). shown x (lineIn node c f (getD (children (node t)) j 0)))
+    (e (getD (children (node t)) j 0) (omega arith))
+    ∙ (ap (shown (d (getD (children (node t)) j 0)))
+    (lineIn-called node c d n lower e f (getD (children (node t)) j 0) (omega arith))
+    ∙ sym (childText-is d (lineIn node d f) (getD (children (node t)) j 0)))))
 
 line-called :
     (node : ℕ → Node) (c d : ℕ → Called) (n : ℕ) →
@@ -103,26 +114,26 @@ module _
     (ps : List ℕ)
     (n : ℕ)
     (right : (t : ℕ) → t < n → getD ps t 0 ≡ placeNo (find t 0 bs))
-    where
-  calledBy-called :
-      (k : ℕ) → k < n → calledBy ps (nm .prefix ++ nm .hint) (nm .start) (nm .bareZero) k ≡ called nm bs k
-  calledBy-called k l = by (find k 0 bs) refl
-    where
-      by :
-          (p : Place) →
-          find k 0 bs ≡ p →
-          calledBy ps (nm .prefix ++ nm .hint) (nm .start) (nm .bareZero) k ≡ called nm bs k
-      by nowhere e =
-          calledBy-text ps (nm .prefix ++ nm .hint) (nm .start) (nm .bareZero) k (right k l ∙ ap placeNo e)
-          ∙ sym (called-is nm bs k ∙ (ap (calledAt nm) e ∙ calledAt-nowhere nm))
-      by (place q) e =
-          let h : getD ps k 0 ≡ suc q = right k l ∙ ap placeNo e in
-          let z : getD ps k 0 - 1 ≡ q = omega arith in
-          calledBy-named ps (nm .prefix ++ nm .hint) (nm .start) (nm .bareZero) k (omega arith)
-          ∙ (ap (λ (x : ℕ). byName (nameText (nm .prefix ++ nm .hint) (nm .start) (nm .bareZero) x)) z
-          ∙ sym
-          (called-is nm bs k
-          ∙ (ap (calledAt nm) e ∙ (calledAt-place nm q ∙ ap byName (letName-is nm q)))))
+  where
+    calledBy-called :
+        (k : ℕ) → k < n → calledBy ps (nm .prefix ++ nm .hint) (nm .start) (nm .bareZero) k ≡ called nm bs k
+    calledBy-called k l = by (find k 0 bs) refl
+      where
+        by :
+            (p : Place) →
+            find k 0 bs ≡ p →
+            calledBy ps (nm .prefix ++ nm .hint) (nm .start) (nm .bareZero) k ≡ called nm bs k
+        by nowhere e =
+            calledBy-text ps (nm .prefix ++ nm .hint) (nm .start) (nm .bareZero) k (right k l ∙ ap placeNo e)
+            ∙ sym (called-is nm bs k ∙ (ap (calledAt nm) e ∙ calledAt-nowhere nm))
+        by (place q) e =
+            let h : getD ps k 0 ≡ suc q = right k l ∙ ap placeNo e in
+            let z : getD ps k 0 - 1 ≡ q = omega arith in
+            calledBy-named ps (nm .prefix ++ nm .hint) (nm .start) (nm .bareZero) k (omega arith)
+            ∙ (ap (λ (x : ℕ). byName (nameText (nm .prefix ++ nm .hint) (nm .start) (nm .bareZero) x)) z
+            ∙ sym
+            (called-is nm bs k
+            ∙ (ap (calledAt nm) e ∙ (calledAt-place nm q ∙ ap byName (letName-is nm q)))))
 
 shownAbove-name : (v : View) (lim t : ℕ) (text : List ℕ) → lim < v .place t → shownAbove v lim t text ≡ v .name (v .place t - 1)
 unfolding shownAbove
@@ -144,9 +155,14 @@ kids-some :
     (arityAt rs t ≡ 0 → ⊥) →
     0 < length (kidsAt rs t)
 kids-some rs ls ns n r t l e =
-    omega
-    (arith, length-take (t * 11 + 3 + arityAt rs t - (t * 11 + 3)) (drop (t * 11 + 3) rs), length-drop (t * 11 + 3) rs,
-    r .inRecords, r .arity t l, e)
+    omega (
+      arith,
+      length-take (t * 11 + 3 + arityAt rs t - (t * 11 + 3)) (drop (t * 11 + 3) rs),
+      length-drop (t * 11 + 3) rs,
+      r .inRecords,
+      r .arity t l,
+      e,
+    )
 
 wide-same : (i w b : ℕ) → b ≡ i + capped w → ltb 80 (i + w) ≡ ltb 80 b
 wide-same i w b e = by (decLt 80 (i + w))
@@ -199,12 +215,22 @@ letLines-more :
     ≡ letLines node nm called j bs ++ letLine (letName nm (j + length bs)) (own node called 2 (b .indent) (b .term))
 letLines-more node nm called j [] b =
     let e : j + 0 ≡ j = omega arith in
-    rw (letLines-step node nm called j b [], letLines-none node nm called (j + 1), letLines-none node nm called j,
-    append-nil, e)
+    rw (
+      letLines-step node nm called j b [],
+      letLines-none node nm called (j + 1),
+      letLines-none node nm called j,
+      append-nil,
+      e,
+    )
 letLines-more node nm called j (c ∷ bs) b =
     let e : j + length (c ∷ bs) ≡ j + 1 + length bs = omega arith in
-    rw (letLines-step node nm called j c (bs ++ (b ∷ [])), letLines-step node nm called j c bs,
-    letLines-more node nm called (j + 1) bs b, append-assoc, e)
+    rw (
+      letLines-step node nm called j c (bs ++ (b ∷ [])),
+      letLines-step node nm called j c bs,
+      letLines-more node nm called (j + 1) bs b,
+      append-assoc,
+      e,
+    )
 
 -- ---- the whole
 module _
@@ -220,113 +246,114 @@ module _
     (clean : (t : ℕ) → t < n → several (headText (nodes rs ls ns t)) ≡ false)
     (cleanStem : several (nm .prefix ++ nm .hint) ≡ false)
     (known : (k : ℕ) → k < m → getD terms k 0 < n)
-    where
-  abbrev bs : List Bound
-  bs = bounds terms indents m
+  where
+    abbrev bs : List Bound
+    bs = bounds terms indents m
 
-  abbrev v : View
-  v = view rs ls ns ps ws (nm .prefix ++ nm .hint) (nm .start) (nm .bareZero) 80
+    abbrev v : View
+    v = view rs ls ns ps ws (nm .prefix ++ nm .hint) (nm .start) (nm .bareZero) 80
 
-  abbrev lower : (t : ℕ) → t < n → Inside t (children (nodes rs ls ns t))
-  lower = lower-of-readable rs ls ns n r
+    abbrev lower : (t : ℕ) → t < n → Inside t (children (nodes rs ls ns t))
+    lower = lower-of-readable rs ls ns n r
 
-  same-call : (k : ℕ) → k < n → calledBy ps (nm .prefix ++ nm .hint) (nm .start) (nm .bareZero) k ≡ called nm bs k
-  same-call k l = calledBy-called nm bs ps n (λ t lt. met .right t (omega arith)) k l
+    same-call : (k : ℕ) → k < n → calledBy ps (nm .prefix ++ nm .hint) (nm .start) (nm .bareZero) k ≡ called nm bs k
+    same-call k l = calledBy-called nm bs ps n (λ t lt. met .right t (omega arith)) k l
 
-  wides : (t : ℕ) → t < n → getD ws t 0 ≡ capped (length (line (nodes rs ls ns) (called nm bs) t))
-  wides t l =
-      w t l
-      ∙ ap (λ (x : List ℕ). capped (length x))
-      (line-called (nodes rs ls ns) (calledBy ps (nm .prefix ++ nm .hint) (nm .start) (nm .bareZero)) (called nm bs) n
-      lower same-call t l)
+    wides : (t : ℕ) → t < n → getD ws t 0 ≡ capped (length (line (nodes rs ls ns) (called nm bs) t))
+    wides t l =
+        w t l
+        ∙ ap (λ (x : List ℕ). capped (length x))
+        (line-called (nodes rs ls ns) (calledBy ps (nm .prefix ++ nm .hint) (nm .start) (nm .bareZero)) (called nm bs) n
+        lower same-call t l)
 
-  own-is : (m i t : ℕ) → t < n → own (nodes rs ls ns) (called nm bs) m i t ≡ body v m i t
-  own-is m i t l =
-      own-body (nodes rs ls ns) (called nm bs) n lower clean (called-clean nm cleanStem bs) v (λ t. refl) refl
-      (λ k text lk.
+    own-is : (m i t : ℕ) → t < n → own (nodes rs ls ns) (called nm bs) m i t ≡ body v m i t
+    own-is m i t l =
+        own-body (nodes rs ls ns) (called nm bs) n lower clean (called-clean nm cleanStem bs) v (λ t. refl) refl
+        (λ k text lk.
         shownAbove-called rs ls ns ps ws (nm .prefix ++ nm .hint) (nm .start) (nm .bareZero) k text
         ∙ ap (λ (x : Called). shown x text) (same-call k lk))
-      wides m i t l
+        wides m i t l
 
-  -- the gap of a binding, by its width
-  gap-is :
-      (i t : ℕ) →
-      t < n →
-      bodyGap (several (own (nodes rs ls ns) (called nm bs) 2 i t)) ≡ gapText (ltb 80 (bodyWidth rs ws i t)) 2
-  gap-is i t l = by (ℕ-discrete (arityAt rs t) 0)
-    where
-      kids : length (children (nodes rs ls ns t)) ≡ length (kidsAt rs t)
-      kids = ap length (children-of-nodes rs ls ns n r t l)
-      by :
-          Dec (arityAt rs t ≡ 0) →
-          bodyGap (several (own (nodes rs ls ns) (called nm bs) 2 i t)) ≡ gapText (ltb 80 (bodyWidth rs ws i t)) 2
-      by (yes e) =
-          ap bodyGap
-          (own-leaf (nodes rs ls ns) (called nm bs) n lower clean (called-clean nm cleanStem bs) 2 i t l
-          (omega (arith, kids, kids-length rs t)))
-          ∙ (bodyGap-is false
-          ∙ ap (λ (b : Bool). gapText b 2)
-          (sym (le-ltb 80 (bodyWidth rs ws i t) (omega (arith, bodyWidth-leaf rs ws i t e)))))
-      by (no e) =
-          ap bodyGap
-          (own-broken (nodes rs ls ns) (called nm bs) n lower clean (called-clean nm cleanStem bs) 2 i t l
-          (omega (arith, kids, kids-some rs ls ns n r t l e)))
-          ∙ (bodyGap-is (ltb 80 (i + length (line (nodes rs ls ns) (called nm bs) t)))
-          ∙ ap (λ (b : Bool). gapText b 2)
-          (wide-same i (length (line (nodes rs ls ns) (called nm bs) t)) (bodyWidth rs ws i t)
-          (bodyWidth-wide rs ws i t e ∙ ap (λ (x : ℕ). i + x) (wides t l))))
+    -- the gap of a binding, by its width
+    gap-is :
+        (i t : ℕ) →
+        t < n →
+        bodyGap (several (own (nodes rs ls ns) (called nm bs) 2 i t)) ≡ gapText (ltb 80 (bodyWidth rs ws i t)) 2
+    gap-is i t l = by (ℕ-discrete (arityAt rs t) 0)
+      where
+        kids : length (children (nodes rs ls ns t)) ≡ length (kidsAt rs t)
+        kids = ap length (children-of-nodes rs ls ns n r t l)
 
-  line-is :
-      (k : ℕ) →
-      k < m →
-      letLine (letName nm k) (own (nodes rs ls ns) (called nm bs) 2 (getD indents k 0) (getD terms k 0))
-      ≡ lineText v rs ws (getD indents k 0) (getD terms k 0) k
-  line-is k l =
-      letLine-is (letName nm k) (gapText (ltb 80 (bodyWidth rs ws (getD indents k 0) (getD terms k 0))) 2)
-      (own (nodes rs ls ns) (called nm bs) 2 (getD indents k 0) (getD terms k 0))
-      (gap-is (getD indents k 0) (getD terms k 0) (known k l))
-      ∙ (ap
-      (λ (x : List ℕ).
+        by :
+            Dec (arityAt rs t ≡ 0) →
+            bodyGap (several (own (nodes rs ls ns) (called nm bs) 2 i t)) ≡ gapText (ltb 80 (bodyWidth rs ws i t)) 2
+        by (yes e) =
+            ap bodyGap
+            (own-leaf (nodes rs ls ns) (called nm bs) n lower clean (called-clean nm cleanStem bs) 2 i t l
+            (omega (arith, kids, kids-length rs t)))
+            ∙ (bodyGap-is false
+            ∙ ap (λ (b : Bool). gapText b 2)
+            (sym (le-ltb 80 (bodyWidth rs ws i t) (omega (arith, bodyWidth-leaf rs ws i t e)))))
+        by (no e) =
+            ap bodyGap
+            (own-broken (nodes rs ls ns) (called nm bs) n lower clean (called-clean nm cleanStem bs) 2 i t l
+            (omega (arith, kids, kids-some rs ls ns n r t l e)))
+            ∙ (bodyGap-is (ltb 80 (i + length (line (nodes rs ls ns) (called nm bs) t)))
+            ∙ ap (λ (b : Bool). gapText b 2)
+            (wide-same i (length (line (nodes rs ls ns) (called nm bs) t)) (bodyWidth rs ws i t)
+            (bodyWidth-wide rs ws i t e ∙ ap (λ (x : ℕ). i + x) (wides t l))))
+
+    line-is :
+        (k : ℕ) →
+        k < m →
+        letLine (letName nm k) (own (nodes rs ls ns) (called nm bs) 2 (getD indents k 0) (getD terms k 0))
+        ≡ lineText v rs ws (getD indents k 0) (getD terms k 0) k
+    line-is k l =
+        letLine-is (letName nm k) (gapText (ltb 80 (bodyWidth rs ws (getD indents k 0) (getD terms k 0))) 2)
+        (own (nodes rs ls ns) (called nm bs) 2 (getD indents k 0) (getD terms k 0))
+        (gap-is (getD indents k 0) (getD terms k 0) (known k l))
+        ∙ (ap
+        (λ (x : List ℕ).
         ((openText (letName nm k) ++ gapText (ltb 80 (bodyWidth rs ws (getD indents k 0) (getD terms k 0))) 2) ++ x)
         ++ (41 ∷ 10 ∷ []))
-      (own-is 2 (getD indents k 0) (getD terms k 0) (known k l))
-      ∙ (ap
-      (λ (x : List ℕ).
+        (own-is 2 (getD indents k 0) (getD terms k 0) (known k l))
+        ∙ (ap
+        (λ (x : List ℕ).
         ((openText x ++ gapText (ltb 80 (bodyWidth rs ws (getD indents k 0) (getD terms k 0))) 2)
         ++ body v 2 (getD indents k 0) (getD terms k 0))
         ++ (41 ∷ 10 ∷ []))
-      (letName-is nm k)
-      ∙ sym (lineText-is v rs ws (getD indents k 0) (getD terms k 0) k)))
+        (letName-is nm k)
+        ∙ sym (lineText-is v rs ws (getD indents k 0) (getD terms k 0) k)))
 
-  lines-are :
-      (k : ℕ) →
-      k ≤ m →
-      letLines (nodes rs ls ns) nm (called nm bs) 0 (bounds terms indents k) ≡ linesTo v rs ws terms indents k
-  lines-are zero l =
-      ap (letLines (nodes rs ls ns) nm (called nm bs) 0) (bounds-none terms indents)
-      ∙ (letLines-none (nodes rs ls ns) nm (called nm bs) 0 ∙ sym (linesTo-none v rs ws terms indents))
-  lines-are (suc k) l =
-      let c : 0 + length (bounds terms indents k) ≡ k = omega (arith, bounds-length terms indents k) in
-      let s : suc k ≡ k + 1 = omega arith in
-      ap (letLines (nodes rs ls ns) nm (called nm bs) 0) (bounds-step terms indents k)
-      ∙ (letLines-more (nodes rs ls ns) nm (called nm bs) 0 (bounds terms indents k)
-      (record { term = getD terms k 0; indent = getD indents k 0 })
-      ∙ (ap
-      (λ (x : ℕ).
+    lines-are :
+        (k : ℕ) →
+        k ≤ m →
+        letLines (nodes rs ls ns) nm (called nm bs) 0 (bounds terms indents k) ≡ linesTo v rs ws terms indents k
+    lines-are zero l =
+        ap (letLines (nodes rs ls ns) nm (called nm bs) 0) (bounds-none terms indents)
+        ∙ (letLines-none (nodes rs ls ns) nm (called nm bs) 0 ∙ sym (linesTo-none v rs ws terms indents))
+    lines-are (suc k) l =
+        let c : 0 + length (bounds terms indents k) ≡ k = omega (arith, bounds-length terms indents k) in
+        let s : suc k ≡ k + 1 = omega arith in
+        ap (letLines (nodes rs ls ns) nm (called nm bs) 0) (bounds-step terms indents k)
+        ∙ (letLines-more (nodes rs ls ns) nm (called nm bs) 0 (bounds terms indents k)
+        (record { term = getD terms k 0; indent = getD indents k 0 })
+        ∙ (ap
+        (λ (x : ℕ).
         letLines (nodes rs ls ns) nm (called nm bs) 0 (bounds terms indents k)
         ++ letLine (letName nm x) (own (nodes rs ls ns) (called nm bs) 2 (getD indents k 0) (getD terms k 0))) c
-      ∙ (ap
-      (λ (x : List ℕ).
+        ∙ (ap
+        (λ (x : List ℕ).
         x ++ letLine (letName nm k) (own (nodes rs ls ns) (called nm bs) 2 (getD indents k 0) (getD terms k 0)))
-      (lines-are k (omega arith))
-      ∙ (ap (λ (x : List ℕ). linesTo v rs ws terms indents k ++ x) (line-is k (omega arith))
-      ∙ (sym (linesTo-more v rs ws terms indents k)
-      ∙ ap (linesTo v rs ws terms indents) (sym s))))))
+        (lines-are k (omega arith))
+        ∙ (ap (λ (x : List ℕ). linesTo v rs ws terms indents k ++ x) (line-is k (omega arith))
+        ∙ (sym (linesTo-more v rs ws terms indents k)
+        ∙ ap (linesTo v rs ws terms indents) (sym s))))))
 
-  -- what is written is the definition's text
-  pub wholeText-right : 0 < n → textWith (nodes rs ls ns) nm (n - 1) (bounds terms indents m) ≡ wholeText v rs ws terms indents n m
-  unfolding textWith
-  wholeText-right pos =
-      ap (λ (x : List ℕ). x ++ (10 ∷ own (nodes rs ls ns) (called nm bs) 0 0 (n - 1))) (lines-are m (omega arith))
-      ∙ (ap (λ (x : List ℕ). linesTo v rs ws terms indents m ++ (10 ∷ x)) (own-is 0 0 (n - 1) (omega arith))
-      ∙ sym (wholeText-is v rs ws terms indents n m))
+    -- what is written is the definition's text
+    pub wholeText-right : 0 < n → textWith (nodes rs ls ns) nm (n - 1) (bounds terms indents m) ≡ wholeText v rs ws terms indents n m
+    unfolding textWith
+    wholeText-right pos =
+        ap (λ (x : List ℕ). x ++ (10 ∷ own (nodes rs ls ns) (called nm bs) 0 0 (n - 1))) (lines-are m (omega arith))
+        ∙ (ap (λ (x : List ℕ). linesTo v rs ws terms indents m ++ (10 ∷ x)) (own-is 0 0 (n - 1) (omega arith))
+        ∙ sym (wholeText-is v rs ws terms indents n m))

@@ -7,7 +7,14 @@ use lib.ListN.{length, take, drop, set, length-append}
 use borrow.Rule.Slice.PartMut.{putMid}
 use Rattle.decimal.specs.Written.{Wrote}
 use Rattle.decimal.proofs.WrittenLaws.{
-  Stands, stands-of-wrote, wrote-of-stands, stands-then, stands-byte, stands-length, stands-place, stands-fits,
+  Stands,
+  stands-of-wrote,
+  wrote-of-stands,
+  stands-then,
+  stands-byte,
+  stands-length,
+  stands-place,
+  stands-fits,
 }
 use Rattle.pieces.specs.Pieces.{capped}
 use Rattle.writer.specs.Piece.{View, body}
@@ -37,6 +44,7 @@ whole-measured a b x y r e f g = next (a + 1) b y r (first a x y e f) g
   where
     first : (a x y : ℕ) → x ≡ capped a → y ≡ capped (x + 1) → y ≡ capped (a + 1)
     first a x y e f = omega arith
+
     next : (c b y r : ℕ) → y ≡ capped c → r ≡ capped (y + capped b) → r ≡ capped (c + b)
     next c b y r e f = omega arith
 
@@ -48,42 +56,42 @@ module _
     (o₁ : List ℕ)
     (p : ℕ)
     (w : Wrote a p o₀ o₁)
-    where
-  s₁ : Stands o₀ a o₁ p
-  s₁ = stands-of-wrote o₀ a o₁ p w
+  where
+    s₁ : Stands o₀ a o₁ p
+    s₁ = stands-of-wrote o₀ a o₁ p w
 
-  pub byte-place : p < length o₁
-  byte-place = omega (arith, s₁ .long, stands-length o₀ a o₁ p s₁ (omega arith))
+    pub byte-place : p < length o₁
+    byte-place = omega (arith, s₁ .long, stands-length o₀ a o₁ p s₁ (omega arith))
 
-  s₂ : Stands o₀ (a ++ (x ∷ [])) (set o₁ p x) (p + 1)
-  s₂ = stands-byte o₀ a o₁ p s₁ x (omega arith)
+    s₂ : Stands o₀ (a ++ (x ∷ [])) (set o₁ p x) (p + 1)
+    s₂ = stands-byte o₀ a o₁ p s₁ x (omega arith)
 
-  long : length (a ++ (x ∷ [])) ≡ length a + 1
-  long = length-append a (x ∷ [])
+    long : length (a ++ (x ∷ [])) ≡ length a + 1
+    long = length-append a (x ∷ [])
 
-  pub tail-place : p + 1 ≤ length (set o₁ p x)
-  tail-place = stands-place o₀ (a ++ (x ∷ [])) (set o₁ p x) (p + 1) s₂ (omega (arith, long))
+    pub tail-place : p + 1 ≤ length (set o₁ p x)
+    tail-place = stands-place o₀ (a ++ (x ∷ [])) (set o₁ p x) (p + 1) s₂ (omega (arith, long))
 
-  pub tail-fits : length d ≤ length (take (length (set o₁ p x) - (p + 1)) (drop (p + 1) (set o₁ p x)))
-  tail-fits = stands-fits o₀ (a ++ (x ∷ [])) (set o₁ p x) (p + 1) s₂ d (omega (arith, long))
+    pub tail-fits : length d ≤ length (take (length (set o₁ p x) - (p + 1)) (drop (p + 1) (set o₁ p x)))
+    tail-fits = stands-fits o₀ (a ++ (x ∷ [])) (set o₁ p x) (p + 1) s₂ d (omega (arith, long))
 
-  module _ (q : List ℕ) (r : ℕ)
-      (w₂ : Wrote d r (take (length (set o₁ p x) - (p + 1)) (drop (p + 1) (set o₁ p x))) q) where
-    s₃ : Stands o₀ ((a ++ (x ∷ [])) ++ d) (putMid (p + 1) (length (set o₁ p x) - (p + 1)) (set o₁ p x) q) (p + 1 + r)
-    s₃ = stands-then o₀ (a ++ (x ∷ [])) (set o₁ p x) (p + 1) s₂ d q r w₂
+    module _ (q : List ℕ) (r : ℕ)
+        (w₂ : Wrote d r (take (length (set o₁ p x) - (p + 1)) (drop (p + 1) (set o₁ p x))) q) where
+      s₃ : Stands o₀ ((a ++ (x ∷ [])) ++ d) (putMid (p + 1) (length (set o₁ p x) - (p + 1)) (set o₁ p x) q) (p + 1 + r)
+      s₃ = stands-then o₀ (a ++ (x ∷ [])) (set o₁ p x) (p + 1) s₂ d q r w₂
 
-    pub end-low : p + 1 + r ≤ length o₀
-    end-low = omega (arith, s₃ .long, length-append (a ++ (x ∷ [])) d, long)
+      pub end-low : p + 1 + r ≤ length o₀
+      end-low = omega (arith, s₃ .long, length-append (a ++ (x ∷ [])) d, long)
 
-    pub end-length : length (putMid (p + 1) (length (set o₁ p x) - (p + 1)) (set o₁ p x) q) ≡ length o₀
-    end-length =
-        stands-length o₀ ((a ++ (x ∷ [])) ++ d) _ (p + 1 + r) s₃
-        (omega (arith, length-append (a ++ (x ∷ [])) d, long))
+      pub end-length : length (putMid (p + 1) (length (set o₁ p x) - (p + 1)) (set o₁ p x) q) ≡ length o₀
+      end-length =
+          stands-length o₀ ((a ++ (x ∷ [])) ++ d) _ (p + 1 + r) s₃
+          (omega (arith, length-append (a ++ (x ∷ [])) d, long))
 
-    pub end-wrote :
-        Wrote (a ++ (x ∷ d)) (p + 1 + r) o₀ (putMid (p + 1) (length (set o₁ p x) - (p + 1)) (set o₁ p x) q)
-    end-wrote =
-        subst
-        (λ (y : List ℕ). Wrote y (p + 1 + r) o₀ (putMid (p + 1) (length (set o₁ p x) - (p + 1)) (set o₁ p x) q))
-        (append-assoc a (x ∷ []) d)
-        (wrote-of-stands o₀ ((a ++ (x ∷ [])) ++ d) _ (p + 1 + r) s₃)
+      pub end-wrote :
+          Wrote (a ++ (x ∷ d)) (p + 1 + r) o₀ (putMid (p + 1) (length (set o₁ p x) - (p + 1)) (set o₁ p x) q)
+      end-wrote =
+          subst
+          (λ (y : List ℕ). Wrote y (p + 1 + r) o₀ (putMid (p + 1) (length (set o₁ p x) - (p + 1)) (set o₁ p x) q))
+          (append-assoc a (x ∷ []) d)
+          (wrote-of-stands o₀ ((a ++ (x ∷ [])) ++ d) _ (p + 1 + r) s₃)

@@ -26,24 +26,48 @@ pub fn let_length(
     requires { ⌜ Sheet (now records) (now literals) (now names) (now places) (now wides) n start ⌝ }
     requires { ⌜ 0 < n ⌝ }
     requires { ⌜ Bundle (now terms) (now indents) n m start ⌝ }
-    ensures {
-        λ r. ⌜
-            r
-            ≡ capped
-            (length
-            (wholeText
-            (view (now (records .entry)) (now (literals .entry)) (now (names .entry)) (now (places .entry))
-            (now (wides .entry)) (now (stem .entry)) start bare 80) (now (records .entry)) (now (wides .entry))
-            (now (terms .entry)) (now (indents .entry)) n m))
-        ⌝
-    }
+    ensures { λ r. ⌜
+        r
+        ≡ capped
+        (length
+        (wholeText
+        (view (now (records .entry)) (now (literals .entry)) (now (names .entry)) (now (places .entry))
+        (now (wides .entry)) (now (stem .entry)) start bare 80) (now (records .entry)) (now (wides .entry))
+        (now (terms .entry)) (now (indents .entry)) n m))
+        ⌝ }
 {
     let own = 18446744073709551615;
     let t = n - 1;
     let lines = lines::lines_length(
-        records, literals, names, places, wides, stem, terms, indents, n, start, bare, m,
+        records,
+        literals,
+        names,
+        places,
+        wides,
+        stem,
+        terms,
+        indents,
+        n,
+        start,
+        bare,
+        m,
     );
-    let root = lengths::text_length(records, literals, names, places, wides, stem, n, start, bare, 80, own, 0, 0, t);
+    let root = lengths::text_length(
+        records,
+        literals,
+        names,
+        places,
+        wides,
+        stem,
+        n,
+        start,
+        bare,
+        80,
+        own,
+        0,
+        0,
+        t,
+    );
     pieces::add(pieces::add(lines, 1), root)
 }
 
@@ -66,47 +90,56 @@ pub fn put_let(
     requires { ⌜ Sheet (now records) (now literals) (now names) (now places) (now wides) n start ⌝ }
     requires { ⌜ 0 < n ⌝ }
     requires { ⌜ Bundle (now terms) (now indents) n m start ⌝ }
-    requires {
-        ⌜
-            length
-            (wholeText
-            (view (now records) (now literals) (now names) (now places) (now wides) (now stem) start bare 80)
-            (now records) (now wides) (now terms) (now indents) n m)
-            ≤ length (now out)
-        ⌝
-    }
-    ensures {
-        λ r. ⌜
-            Wrote
-            (wholeText
-            (view (now (records .entry)) (now (literals .entry)) (now (names .entry)) (now (places .entry))
-            (now (wides .entry)) (now (stem .entry)) start bare 80) (now (records .entry)) (now (wides .entry))
-            (now (terms .entry)) (now (indents .entry)) n m) r (now (out .entry)) (now (out .exit))
-        ⌝
-    }
+    requires { ⌜
+        length
+        (wholeText
+        (view (now records) (now literals) (now names) (now places) (now wides) (now stem) start bare 80)
+        (now records) (now wides) (now terms) (now indents) n m)
+        ≤ length (now out)
+        ⌝ }
+    ensures { λ r. ⌜
+        Wrote
+        (wholeText
+        (view (now (records .entry)) (now (literals .entry)) (now (names .entry)) (now (places .entry))
+        (now (wides .entry)) (now (stem .entry)) start bare 80) (now (records .entry)) (now (wides .entry))
+        (now (terms .entry)) (now (indents .entry)) n m) r (now (out .entry)) (now (out .exit))
+        ⌝ }
 {
     let own = 18446744073709551615;
     let t = n - 1;
     let mut p = lines::put_lines(
-        out, records, literals, names, places, wides, stem, terms, indents, n, start, bare, m,
-    );
-    out[p] = 10;
-    p += 1;
-    p + writer::put(
-        &mut out[p..],
+        out,
         records,
         literals,
         names,
         places,
         wides,
         stem,
+        terms,
+        indents,
         n,
         start,
         bare,
-        80,
-        own,
-        0,
-        0,
-        t,
-    )
+        m,
+    );
+    out[p] = 10;
+    p += 1;
+    p
+        + writer::put(
+            &mut out[p..],
+            records,
+            literals,
+            names,
+            places,
+            wides,
+            stem,
+            n,
+            start,
+            bare,
+            80,
+            own,
+            0,
+            0,
+            t,
+        )
 }

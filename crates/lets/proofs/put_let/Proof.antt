@@ -39,10 +39,12 @@ root s = body (seen s) 0 0 (s .args .n - 1)
 
 room : (s : tie.Start) → length (lines s) + 1 + length (root s) ≤ length (s .args .out .now)
 room s =
-    omega
-    (arith, s .pre .1 .1 .1,
-    wholeText-length (seen s) (s .args .records .now) (s .args .wides .now) (s .args .terms .now)
-    (s .args .indents .now) (s .args .n) (s .args .m))
+    omega (
+      arith,
+      s .pre .1 .1 .1,
+      wholeText-length (seen s) (s .args .records .now) (s .args .wides .now) (s .args .terms .now)
+          (s .args .indents .now) (s .args .n) (s .args .m),
+    )
 
 -- src/lib.rt:89:13
 sub-t : tie.Need-sub-t
@@ -63,10 +65,13 @@ slice-write-out c =
 add-p : tie.Need-add-p
 add-p c =
     let s = c .before .before .before .before .before .before .before .before .before .before .before .before in
-    omega
-    (arith, s .good, c .before .before .put-lines .kept .0,
-    byte-place (s .args .out .now) (lines s) (root s) 10 (room s) (c .before .before .put-lines .last .0) (c .before .before .put-lines .result)
-    (c .before .before .put-lines .ensures))
+    omega (
+      arith,
+      s .good,
+      c .before .before .put-lines .kept .0,
+      byte-place (s .args .out .now) (lines s) (root s) 10 (room s) (c .before .before .put-lines .last .0) (c .before .before .put-lines .result)
+          (c .before .before .put-lines .ensures),
+    )
 
 -- src/lib.rt:96:9
 sub-put : tie.Need-sub-put
@@ -86,20 +91,29 @@ part-put-end c = search needs
 -- src/lib.rt:95:9
 put-requires : tie.Need-put-requires
 put-requires c κs =
-    let s = c .before .before .before .before .before .before .before .before .before .before .before .before .before in
-    (s .pre .0, (omega (arith, s .pre .1 .0), (omega (arith, s .pre .0 .readable .few),
-    rw (own-piece s)
-    (tail-fits (s .args .out .now) (lines s) (root s) 10 (room s) (c .before .before .before .put-lines .last .0) (c .before .before .before .put-lines .result)
-    (c .before .before .before .put-lines .ensures)))))
+    let s = c .before .before .before .before .before .before .before .before .before .before .before .before .before in (
+      s .pre .0,
+      (
+        omega (arith, s .pre .1 .0),
+        (
+          omega (arith, s .pre .0 .readable .few),
+          rw (own-piece s)
+              (tail-fits (s .args .out .now) (lines s) (root s) 10 (room s) (c .before .before .before .put-lines .last .0) (c .before .before .before .put-lines .result)
+              (c .before .before .before .put-lines .ensures)),
+        ),
+      ),
+    )
 
 -- src/lib.rt:95:5
 add-result : tie.Need-add-result
 add-result c =
     let s = c .before .before .before .before .before .before .before .before .before .before .before .before .before .before .before .before in
-    omega
-    (arith, s .good,
-    end-low (s .args .out .now) (lines s) (root s) 10 (room s) (c .before .before .before .before .before .before .put-lines .last .0) (c .before .before .before .before .before .before .put-lines .result)
-    (c .before .before .before .before .before .before .put-lines .ensures) (c .before .before .put .last .0) (c .before .before .put .result) (rw (own-piece s) at (c .before .before .put .ensures)))
+    omega (
+      arith,
+      s .good,
+      end-low (s .args .out .now) (lines s) (root s) 10 (room s) (c .before .before .before .before .before .before .put-lines .last .0) (c .before .before .before .before .before .before .put-lines .result)
+          (c .before .before .before .before .before .before .put-lines .ensures) (c .before .before .put .last .0) (c .before .before .put .result) (rw (own-piece s) at (c .before .before .put .ensures)),
+    )
 
 -- src/lib.rt:51:1
 same-length : tie.Need-same-length
