@@ -18,7 +18,7 @@ use Rattle.rules.specs.Rows.{functionOf, tableRowOf, tableRows}
 use Rattle.rules.specs.Terms.{literalOf}
 use Rattle.rules.specs.Facts.{arityOf, Known}
 use Rattle.rules.proofs.CoverLaws.{child-get, children-length}
-use Rattle.extract.specs.Plan.{planChild}
+use Rattle.answers.specs.Plan.{planChild}
 
 -- a child that is a literal is one of the table's
 abbrev pub InTable : Table → Child → Type 0

@@ -22,9 +22,9 @@ use Rattle.whole.specs.Whole.{Left, left, whole}
 use Rattle.format.specs.Table.{Table}
 use Rattle.rules.specs.Classes.{classCount}
 use Rattle.rules.specs.Choosing.{limit, runOf, answerFor}
-use Rattle.extract.specs.Answers.{After, found, refused}
-use Rattle.extract.specs.Best.{BestTerm, bestTerm, bestBuilt, bestClass}
-use Rattle.extract.specs.Plan.{planFor, rankFor}
+use Rattle.answers.specs.Answers.{After, found, refused}
+use Rattle.answers.specs.Best.{BestTerm, bestTerm, bestBuilt, bestClass}
+use Rattle.answers.specs.Plan.{planFor, rankFor}
 use Rattle.best.specs.Flat.{FlatTable}
 use Rattle.best.proofs.SolvedLaws.{run-is, whole-is}
 

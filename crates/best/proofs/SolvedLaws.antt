@@ -38,9 +38,9 @@ use Rattle.rules.specs.Terms.{nameOf}
 use Rattle.rules.specs.Choosing.{limit, runOf, edgeFor, edgeRow}
 use Rattle.rules.specs.Facts.{Known}
 use Rattle.rules.proofs.CoverLaws.{scanned-below}
-use Rattle.extract.specs.Plan.{planChild, planChildren, planFor, rankFor}
-use Rattle.extract.proofs.AgreeLaws.{Agree, buildIn-agrees}
-use Rattle.extract.proofs.PlanLaws.{costOf, buildRank, buildRank-below, buildRank-unranked, buildRank-dear, plan-ranked}
+use Rattle.answers.specs.Plan.{planChild, planChildren, planFor, rankFor}
+use Rattle.answers.proofs.AgreeLaws.{Agree, buildIn-agrees}
+use Rattle.answers.proofs.PlanLaws.{costOf, buildRank, buildRank-below, buildRank-unranked, buildRank-dear, plan-ranked}
 use Rattle.best.specs.Flat.{FlatTable}
 use Rattle.best.proofs.ChildLaws.{InTable, row-children-in, number-children}
 

@@ -16,9 +16,9 @@ use Rattle.rules.specs.Rows.{tableRowOf}
 use Rattle.rules.specs.Order.{scanOrder, scanned}
 use Rattle.rules.specs.Terms.{literalOf, nameOf}
 use Rattle.rules.specs.Facts.{Known}
-use Rattle.extract.specs.Answers.{After, found, refused}
+use Rattle.answers.specs.Answers.{After, found, refused}
 use Rattle.rules.specs.Choosing.{answerFor}
-use Rattle.extract.specs.Best.{BestTerm, bestTerm, bestClass}
+use Rattle.answers.specs.Best.{BestTerm, bestTerm, bestClass}
 use Rattle.best.specs.declared.Best.{Best}
 use Rattle.best.specs.declared.Best.the-variants.{Found, NoTerm as Nothing, TooDear as Dear, NoRoom as Full}
 

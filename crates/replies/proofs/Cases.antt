@@ -36,9 +36,9 @@ use Rattle.rules.specs.Rows.{headCost, childrenOf, rowBy, tableRows, usableFunc
 use Rattle.build.specs.Building.{added, kept, childIn, childrenIn, ownIn, buildIn}
 use Rattle.build.specs.Plan.{childOf as childOf-build-Plan, childrenOf as childrenOf-build-Plan}
 use Rattle.whole.specs.Whole.{left, whole}
-use Rattle.extract.specs.Best.{bestLiteral, bestBuilt, bestClass, bestOf, bestAt}
-use Rattle.extract.specs.Plan.{planChild, planChildren, planFor}
-use Rattle.extract.specs.Variants.{costFor, isVariant, variantRows, keyFor, keptRows, anyDear, ownVariant, variantIn, variantsIn, variantsKept, roomForResults, variantLiteral, variantsBuilt, variantsOfRows, variantsOf, variantsAt}
+use Rattle.answers.specs.Best.{bestLiteral, bestBuilt, bestClass, bestOf, bestAt}
+use Rattle.answers.specs.Plan.{planChild, planChildren, planFor}
+use Rattle.answers.specs.Variants.{costFor, isVariant, variantRows, keyFor, keptRows, anyDear, ownVariant, variantIn, variantsIn, variantsKept, roomForResults, variantLiteral, variantsBuilt, variantsOfRows, variantsOf, variantsAt}
 use Rattle.decimal.specs.Decimal.{digitsIn, digits, literalText}
 use Rattle.text_rules.specs.Bindings.{find, toBind, bind, meetIn, bindings}
 use Rattle.text_rules.specs.Counts.{inTurn as inTurn-text-rules-Counts, member, reachIn, reached, places, placesIn, count as count-text-rules-Counts, sumOf as sumOf-text-rules-Counts, sizeIn, size}

@@ -11,9 +11,9 @@ use Rattle.decimal.specs.Decimal.{digits}
 use Rattle.store.specs.Lent.{Store, store}
 use Rattle.text_rules.specs.PlainText.{plainText}
 use Rattle.text_rules.specs.LetText.{Naming, letText}
-use Rattle.extract.specs.Answers.{Answer, value, refusal, After}
-use Rattle.extract.specs.Best.{BestTerm, bestAt}
-use Rattle.extract.specs.Variants.{Kept, Lending, VariantsAfter, variantsAt}
+use Rattle.answers.specs.Answers.{Answer, value, refusal, After}
+use Rattle.answers.specs.Best.{BestTerm, bestAt}
+use Rattle.answers.specs.Variants.{Kept, Lending, VariantsAfter, variantsAt}
 use Rattle.replies.specs.Query.{Query, queryAt}
 
 -- "the store starts empty": with room for all that document 01 allows.

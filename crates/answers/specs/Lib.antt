@@ -1,4 +1,4 @@
--- The definitions of the crate `extract`: what best and variants answer.
+-- The definitions of the crate `answers`: what best and variants answer.
 pub mod Answers
 pub mod Plan
 pub mod Best

@@ -1,4 +1,4 @@
--- The laws of the crate `extract`.
+-- The laws of the crate `answers`.
 pub mod TermLaws
 pub mod AgreeLaws
 pub mod PlanLaws

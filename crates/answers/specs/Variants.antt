@@ -27,8 +27,8 @@ use Rattle.rules.specs.Rows.{tableRowOf}
 use Rattle.rules.specs.Order.{scanOrder, scanned}
 use Rattle.rules.specs.Terms.{literalOf, nameOf}
 use Rattle.rules.specs.Choosing.{limit, runOf}
-use Rattle.extract.specs.Answers.{Answer, value, refusal}
-use Rattle.extract.specs.Plan.{planChildren, planFor}
+use Rattle.answers.specs.Answers.{Answer, value, refusal}
+use Rattle.answers.specs.Plan.{planChildren, planFor}
 
 -- Row i of the scan order, as a row of the file.
 abbrev pub fileRow : Table → ℕ → ℕ → ℕ

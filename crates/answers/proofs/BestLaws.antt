@@ -31,12 +31,12 @@ use Rattle.rules.specs.Choosing.{limit, runOf, answerFor}
 use Rattle.rules.specs.Facts.{Known}
 use Rattle.rules.proofs.CoverLaws.{ReachedClass, root-class}
 use Rattle.rules.proofs.AnswerLaws.{ChosenTree, chosen-tree, answered}
-use Rattle.extract.specs.Answers.{After}
-use Rattle.extract.specs.Best.{BestTerm, bestBuilt, bestClass, bestOf}
-use Rattle.extract.specs.Plan.{planFor, planChild, rankFor}
-use Rattle.extract.specs.Demand.{ComesBack, BestOutcome, Kept}
-use Rattle.extract.proofs.TermLaws.{chosen-term}
-use Rattle.extract.proofs.PlanLaws.{costOf, buildRank, buildRank-below, plan-ranked}
+use Rattle.answers.specs.Answers.{After}
+use Rattle.answers.specs.Best.{BestTerm, bestBuilt, bestClass, bestOf}
+use Rattle.answers.specs.Plan.{planFor, planChild, rankFor}
+use Rattle.answers.specs.Demand.{ComesBack, BestOutcome, Kept}
+use Rattle.answers.proofs.TermLaws.{chosen-term}
+use Rattle.answers.proofs.PlanLaws.{costOf, buildRank, buildRank-below, plan-ranked}
 
 differ : {P : Type 0} → _≡_ {A = ℕ} 0 1 → P
 differ z = absurd (omega arith)

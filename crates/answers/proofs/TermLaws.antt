@@ -29,7 +29,7 @@ use Rattle.rules.specs.Rows.{tableRows}
 use Rattle.rules.specs.Order.{scanOrder, scanned}
 use Rattle.rules.specs.Terms.{nameOf, termOf, termsOf}
 use Rattle.rules.specs.Choosing.{edgeFor, edgeRow}
-use Rattle.extract.specs.Plan.{planChild, planChildren, planFor}
+use Rattle.answers.specs.Plan.{planChild, planChildren, planFor}
 
 module _ (t : Table) (root : ℕ) where
   mutual

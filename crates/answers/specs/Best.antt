@@ -18,8 +18,8 @@ use Rattle.format.specs.File.{tableAt}
 use Rattle.rules.specs.Classes.{sortOf, flatClass, isRoot}
 use Rattle.rules.specs.Terms.{literalOf}
 use Rattle.rules.specs.Choosing.{runOf, answerFor}
-use Rattle.extract.specs.Answers.{After, found, refused}
-use Rattle.extract.specs.Plan.{planFor, rankFor}
+use Rattle.answers.specs.Answers.{After, found, refused}
+use Rattle.answers.specs.Plan.{planFor, rankFor}
 
 -- "costs, chosen terms ..; the answer carries the number of passes"
 pub record BestTerm : Type 0 where

@@ -24,7 +24,7 @@ use Rattle.rules.specs.Order.{scanOrder, scanned}
 use Rattle.rules.specs.Choosing.{limit, runOf, edgeFor, edgeRow}
 use Rattle.rules.specs.Facts.{Known}
 use Rattle.rules.proofs.CoverLaws.{scanned-within, scanned-below, children-length}
-use Rattle.extract.specs.Plan.{planChild, planChildren, planFor, rankFor}
+use Rattle.answers.specs.Plan.{planChild, planChildren, planFor, rankFor}
 
 -- the cost of a class once the run has ended
 abbrev pub costOf : Table → ℕ → ℕ → ℕ

@@ -13,8 +13,8 @@ use Rattle.demand.specs.Deriving.{Cheapest}
 use Rattle.format.specs.Table.{Table}
 use Rattle.rules.specs.Rows.{tableRows, usable}
 use Rattle.rules.specs.Terms.{termOf}
-use Rattle.extract.specs.Answers.{Answer, value, refusal, After, refused}
-use Rattle.extract.specs.Best.{BestTerm}
+use Rattle.answers.specs.Answers.{Answer, value, refusal, After, refused}
+use Rattle.answers.specs.Best.{BestTerm}
 
 -- "a deriving term comes back; its exact cost is the number reported; none is cheaper; and down its chosen rows no class is
 -- met twice on a path": the term that the number names in the returned store. What was there before is still there.
