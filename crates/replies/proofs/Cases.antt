@@ -1,7 +1,22 @@
 -- The worked cases compute. Assumes nothing.
 use mathlib.Core.Path.{refl}
 use Rattle.replies.specs.Query.{queryAt}
-use Rattle.replies.specs.Reply.{emptyStore, emptyLending, refusedLine, bestReply, variantLines, variantsReply, inRoom, bestAnswer, variantsAnswer, callOf, reply}
+use Rattle.headlines.specs.Lines.{numberText, bestLine, variantsLine, variantLine, refusedLine}
+use Rattle.replies.specs.Reply.{
+  emptyStore,
+  emptyLending,
+  bestReply,
+  variantReply,
+  variantReplies,
+  variantsReply,
+  bestAnswer,
+  variantsAnswer,
+  callOf,
+  answerTo,
+  inRoom,
+  written,
+  reply,
+}
 use Rattle.names.specs.Entries.{nameAt, entry, putName, findFrom, findName}
 use Rattle.names.specs.Name.{allowed, allAllowed, valid, same}
 use Rattle.fields.specs.Bits.{bitsOf, value, number}
@@ -48,7 +63,7 @@ use Rattle.text_rules.specs.PlainText.{plainLine, plainText}
 use Rattle.replies.specs.Cases.{Cases}
 
 pub cases : Cases
-unfolding queryAt emptyStore emptyLending refusedLine bestReply variantLines variantsReply inRoom bestAnswer variantsAnswer callOf reply nameAt entry putName findFrom findName allowed allAllowed valid same bitsOf value number holds field then must pick many padWith blocks versionAt sortsPart literalsPart functionsPart rowsPart endAt tableAt bytesAt nameAt-format-Functions taken newNameAt costAt flagsAt outputAt argumentAt argumentsAt functionAt functionsAt signed literalAt literalsAt range cellAt cellsAt rowAt rowsAt classesOf sortAt sortsAt firstFrom findTerm symbolFor withName withRecord append roomForName roomFor add recordIn termRoom symbolRoom byKind nodeOf nodeAt sameNode recordOf every allZero allBelow sameInt soundName soundLiteral soundVariable soundApplication soundRecord sameTerm newName newTerm wellFormed heldBy argumentsIn broughtIn viewIn has picked inTurn functionsOf rowsOf join brought visits sortsReached functionsInOrder rowsInOrder answerOf treeCost forestCost childRank isEdge firstRow sumOf allOf tabulate childCost priced rowCost improves relax pass passes runFrom run given inOrder numbers lists count insert sorted keyIn compareKeys compareRows runOf answerFor edgeFor edgeRow flatClass childOf rangeOf isRoot viewOf scanOrder scanned headCost childrenOf rowBy tableRows usableFunction usable added kept childIn childrenIn ownIn buildIn childOf-build-Plan childrenOf-build-Plan left whole bestLiteral bestBuilt bestClass bestOf bestAt planChild planChildren planFor costFor isVariant variantRows keyFor keptRows anyDear ownVariant variantIn variantsIn variantsKept roomForResults variantLiteral variantsBuilt variantsOfRows variantsOf variantsAt digitsIn digits literalText find toBind bind meetIn bindings inTurn-text-rules-Counts member reachIn reached places placesIn count-text-rules-Counts sumOf-text-rules-Counts sizeIn size each form shown childText lineIn line countText letName calledAt called several anySeveral newLine breaks ownIn-text-rules-LetText own bodyGap letLine letLines textWith bindingsOf letLayout letText nextCount plainLine plainText
+unfolding queryAt emptyStore emptyLending numberText bestLine variantsLine variantLine refusedLine bestReply variantReply variantReplies variantsReply bestAnswer variantsAnswer callOf answerTo inRoom written reply nameAt entry putName findFrom findName allowed allAllowed valid same bitsOf value number holds field then must pick many padWith blocks versionAt sortsPart literalsPart functionsPart rowsPart endAt tableAt bytesAt nameAt-format-Functions taken newNameAt costAt flagsAt outputAt argumentAt argumentsAt functionAt functionsAt signed literalAt literalsAt range cellAt cellsAt rowAt rowsAt classesOf sortAt sortsAt firstFrom findTerm symbolFor withName withRecord append roomForName roomFor add recordIn termRoom symbolRoom byKind nodeOf nodeAt sameNode recordOf every allZero allBelow sameInt soundName soundLiteral soundVariable soundApplication soundRecord sameTerm newName newTerm wellFormed heldBy argumentsIn broughtIn viewIn has picked inTurn functionsOf rowsOf join brought visits sortsReached functionsInOrder rowsInOrder answerOf treeCost forestCost childRank isEdge firstRow sumOf allOf tabulate childCost priced rowCost improves relax pass passes runFrom run given inOrder numbers lists count insert sorted keyIn compareKeys compareRows runOf answerFor edgeFor edgeRow flatClass childOf rangeOf isRoot viewOf scanOrder scanned headCost childrenOf rowBy tableRows usableFunction usable added kept childIn childrenIn ownIn buildIn childOf-build-Plan childrenOf-build-Plan left whole bestLiteral bestBuilt bestClass bestOf bestAt planChild planChildren planFor costFor isVariant variantRows keyFor keptRows anyDear ownVariant variantIn variantsIn variantsKept roomForResults variantLiteral variantsBuilt variantsOfRows variantsOf variantsAt digitsIn digits literalText find toBind bind meetIn bindings inTurn-text-rules-Counts member reachIn reached places placesIn count-text-rules-Counts sumOf-text-rules-Counts sizeIn size each form shown childText lineIn line countText letName calledAt called several anySeveral newLine breaks ownIn-text-rules-LetText own bodyGap letLine letLines textWith bindingsOf letLayout letText nextCount plainLine plainText
 cases = record {
   given-whole = refl;
   zero-cost-loop = refl;

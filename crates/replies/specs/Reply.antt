@@ -7,7 +7,7 @@ use lib.IntN.{ℤ, pos}
 use lib.ListN.{length, getD, drop, take, replicate}
 use Rattle.refusals.specs.Numbers.{refusalNo}
 use Rattle.fields.specs.Got.{Got, got, refused as fault}
-use Rattle.decimal.specs.Decimal.{digits}
+use Rattle.headlines.specs.Lines.{bestLine, variantsLine, variantLine, refusedLine}
 use Rattle.store.specs.Lent.{Store, store}
 use Rattle.text_rules.specs.PlainText.{plainText}
 use Rattle.text_rules.specs.LetText.{Naming, letText}
@@ -28,67 +28,42 @@ emptyLending = record { store = emptyStore; costs = replicate 256 0; terms = rep
 abbrev pub letNaming : Naming
 letNaming = record { prefix = []; hint = 116 ∷ []; start = 0; bareZero = false }
 
--- "best ", "variants ", "variant " and "refused ".
-abbrev pub bestWord : List ℕ
-bestWord = 98 ∷ 101 ∷ 115 ∷ 116 ∷ 32 ∷ []
-
-abbrev pub variantWord : List ℕ
-variantWord = 118 ∷ 97 ∷ 114 ∷ 105 ∷ 97 ∷ 110 ∷ 116 ∷ 32 ∷ []
-
-abbrev pub variantsWord : List ℕ
-variantsWord = 118 ∷ 97 ∷ 114 ∷ 105 ∷ 97 ∷ 110 ∷ 116 ∷ 115 ∷ 32 ∷ []
-
-abbrev pub refusedWord : List ℕ
-refusedWord = 114 ∷ 101 ∷ 102 ∷ 117 ∷ 115 ∷ 101 ∷ 100 ∷ 32 ∷ []
-
 -- "Every line ends in a newline."
 abbrev pub endLine : List ℕ
 endLine = 10 ∷ []
 
--- "A refusal prints `refused K` with its number."
-unfoldable pub refusedLine : ℕ → List ℕ
-refusedLine k = refusedWord ++ (digits k ++ endLine)
-
--- "`best C N P`, then the text": C the cost, N the terms in the store after the call, P the passes.
+-- "`best C N P`, then the text", plain or with lets.
 unfoldable pub bestReply : Bool → Store → BestTerm → List ℕ
 bestReply plain s b =
-    bestWord
-    ++ (digits (b .cost)
-    ++ (32 ∷ (digits (s .terms)
-    ++ (32 ∷ (digits (b .passes)
-    ++ (10 ∷ (elim plain [ true ↦ plainText s (b .term) | false ↦ letText s letNaming (b .term) ] ++ endLine)))))))
+    bestLine (b .cost) (s .terms) (b .passes)
+    ++ (elim plain [ true ↦ plainText s (b .term) | false ↦ letText s letNaming (b .term) ] ++ endLine)
 
--- "K times `variant I C N` and the plain text", I from 1.
-unfoldable pub variantLines : Store → ℕ → List ℕ → List ℕ → List ℕ
-variantLines s i [] ts = []
-variantLines s i (w ∷ ws) [] = []
-variantLines s i (w ∷ ws) (t ∷ ts) =
-    (variantWord
-    ++ (digits i ++ (32 ∷ (digits w ++ (32 ∷ (digits (s .terms) ++ (10 ∷ (plainText s t ++ endLine))))))))
-    ++ variantLines s (suc i) ws ts
+-- "`variant I C N` and the plain text"
+unfoldable pub variantReply : Store → ℕ → ℕ → ℕ → List ℕ
+variantReply s i w t = variantLine i w (s .terms) ++ (plainText s t ++ endLine)
 
--- "`variants K P`", K the kept number.
+-- "K times", I from the number given: costs ws and terms ts.
+unfoldable pub variantReplies : Store → ℕ → List ℕ → List ℕ → List ℕ
+variantReplies s i [] ts = []
+variantReplies s i (w ∷ ws) [] = []
+variantReplies s i (w ∷ ws) (t ∷ ts) = variantReply s i w t ++ variantReplies s (suc i) ws ts
+
+-- "`variants K P`, then K times .."
 unfoldable pub variantsReply : VariantsAfter → Kept → List ℕ
 variantsReply a k =
-    variantsWord
-    ++ (digits (k .count)
-    ++ (32 ∷ (digits (k .passes)
-    ++ (10 ∷ variantLines (a .store) 1 (take (k .count) (a .costs)) (take (k .count) (a .terms))))))
+    variantsLine (k .count) (k .passes)
+    ++ variantReplies (a .store) 1 (take (k .count) (a .costs)) (take (k .count) (a .terms))
 
--- "Output in at most 16,384 bytes, else NoRoom".
-unfoldable pub inRoom : List ℕ → List ℕ
-inRoom text = elim (leb (length text) 16384) [ true ↦ text | false ↦ refusedLine 13 ]
+unfoldable pub bestAnswer : Bool → Store → Answer BestTerm → Answer (List ℕ)
+bestAnswer plain s (value b) = value (bestReply plain s b)
+bestAnswer plain s (refusal k) = refusal k
 
-unfoldable pub bestAnswer : Bool → Store → Answer BestTerm → List ℕ
-bestAnswer plain s (value b) = inRoom (bestReply plain s b)
-bestAnswer plain s (refusal k) = refusedLine k
+unfoldable pub variantsAnswer : VariantsAfter → Answer Kept → Answer (List ℕ)
+variantsAnswer a (value k) = value (variantsReply a k)
+variantsAnswer a (refusal k) = refusal k
 
-unfoldable pub variantsAnswer : VariantsAfter → Answer Kept → List ℕ
-variantsAnswer a (value k) = inRoom (variantsReply a k)
-variantsAnswer a (refusal k) = refusedLine k
-
--- The call that a query makes on a file.
-unfoldable pub callOf : Query → List ℕ → List ℕ
+-- What a query on a file is answered: a text or a refusal.
+unfoldable pub callOf : Query → List ℕ → Answer (List ℕ)
 callOf q file =
     elim (eqb (q .mode) 1) [
       | true ↦
@@ -98,9 +73,37 @@ callOf q file =
     ]
 
 -- "The program reads its query fields first, in order, each checked as it is read (1, or 16 at the mode), then makes the call."
-unfoldable pub reply : List ℕ → List ℕ
-reply input =
+unfoldable pub answerTo : List ℕ → Answer (List ℕ)
+answerTo input =
     elim (queryAt input) [
-      | fault r ↦ refusedLine (refusalNo r)
+      | fault r ↦ refusal (refusalNo r)
       | got q p ↦ callOf q (drop 3 input)
     ]
+
+-- "Output in at most .. bytes, else NoRoom": a text where there is room for n bytes.
+unfoldable pub inRoom : ℕ → Answer (List ℕ) → Answer (List ℕ)
+inRoom n (value text) = elim (leb (length text) n) [ true ↦ value text | false ↦ refusal 13 ]
+inRoom n (refusal k) = refusal k
+
+-- What is written: the text, or "`refused K`".
+unfoldable pub written : Answer (List ℕ) → List ℕ
+written (value text) = text
+written (refusal k) = refusedLine k
+
+-- What the program writes: "Output in at most 16,384 bytes".
+unfoldable pub reply : List ℕ → List ℕ
+reply input = written (inRoom 16384 (answerTo input))
+
+-- What a call on a lent buffer gives back: the length of the text, or a refusal; and the buffer as it is then.
+pub record Replied : Type 0 where
+  pub answer : Answer ℕ
+  pub out : List ℕ
+
+-- The text stands at the start of the buffer, and what is past it stays; a refusal changes nothing.
+unfoldable pub putIn : Answer (List ℕ) → List ℕ → Replied
+putIn (value text) out = record { answer = value (length text); out = text ++ drop (length text) out }
+putIn (refusal k) out = record { answer = refusal k; out = out }
+
+-- The answer to an input in a lent buffer: NoRoom exactly where the text is longer than the buffer.
+unfoldable pub replied : List ℕ → List ℕ → Replied
+replied input out = putIn (inRoom (length out) (answerTo input)) out
