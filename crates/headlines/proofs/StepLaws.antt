@@ -3,6 +3,7 @@ use mathlib.Core.Path.{_≡_, refl, sym, ap, subst, _∙_}
 use mathlib.Core.List.{List, [], _∷_, _++_, append-assoc, append-nil}
 use Prim.Native.Nat.{ℕ, suc, _+_, _-_, _<_, _≤_}
 use native.Mathlib.Omega.{arith}
+use native.Mathlib.Nat.{add-zero}
 use native.Mathlib.Numerals.{add-one}
 use lib.ListN.{length, set, take, drop, length-append, length-drop, length-take, take-append-drop}
 use lib.Seq.{length-take-le, drop-drop, drop-at, take-at, set-split}
@@ -77,3 +78,7 @@ step-then o e o₁ f o₂ p r q s t l =
       place = t .place ∙ (rw (s .place, length-append) (omega arith));
       bytes = t .bytes ∙ rw (s .place, kept, after, append-assoc, append-assoc) refl;
     }
+
+-- Nothing.
+pub step-none : (o : List ℕ) (p : ℕ) → Step [] p p o o
+step-none o p = record { place = omega arith; bytes = sym (take-append-drop p o) ∙ rw (add-zero p) refl }
