@@ -1,6 +1,6 @@
 -- The worked cases compute. Assumes nothing.
 use mathlib.Core.Path.{refl}
-use Rattle.replies.specs.Query.{queryAt}
+use Rattle.queries.specs.Query.{queryAt}
 use Rattle.headlines.specs.Lines.{numberText, bestLine, variantsLine, variantLine, refusedLine}
 use Rattle.replies.specs.Reply.{
   emptyStore,

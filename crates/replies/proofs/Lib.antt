@@ -1,2 +1,3 @@
 -- The laws of the crate `replies`.
 pub mod Cases
+pub mod RoomLaws

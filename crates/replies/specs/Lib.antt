@@ -1,4 +1,4 @@
 -- The definitions of the crate `replies`: document 01, 'The program'.
-pub mod Query
 pub mod Reply
+pub mod Seen
 pub mod Cases

@@ -14,7 +14,7 @@ use Rattle.text_rules.specs.LetText.{Naming, letText}
 use Rattle.answers.specs.Answers.{Answer, value, refusal, After}
 use Rattle.answers.specs.Best.{BestTerm, bestAt}
 use Rattle.answers.specs.Variants.{Kept, Lending, VariantsAfter, variantsAt}
-use Rattle.replies.specs.Query.{Query, queryAt}
+use Rattle.queries.specs.Query.{Query, queryAt}
 
 -- "the store starts empty": with room for all that document 01 allows.
 unfoldable pub emptyStore : Store

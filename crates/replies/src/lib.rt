@@ -1,1 +1,8 @@
-// What the program answers: definitions in specs/, worked cases in proofs/. No code.
+// What the program answers: the definitions are in specs/, and this is the form of the answer.
+use refusals::Refusal;
+
+// How long the text is that was written, or why none was.
+pub enum Answered {
+    Written(usize),
+    Refused(Refusal),
+}

@@ -1,0 +1,3 @@
+-- The definitions of the crate `queries`: the query that stands before the table file.
+pub mod Query
+pub mod Asked
