@@ -11,7 +11,7 @@ use Rattle.store.specs.Nodes.{nodeOf, nodeAt}
 use Rattle.store.specs.WellFormed.{wellFormed}
 use Rattle.text_rules.specs.PlainText.{plainLine, plainText}
 use Rattle.heads.specs.Readable.{nodes}
-use Rattle.texts.specs.Told.{written, refusal, told, placed, plainTold, Zeros}
+use Rattle.texts.specs.Told.{refusal, told, placed, plainPlaced, plainTold, Zeros}
 
 module _ {A : Type 0} (text : List ℕ) (done noRoom : A) (out : List ℕ) where
   pub placed-fits : length text ≤ length out → placed text done noRoom out ≡ told done (text ++ drop (length text) out)
@@ -32,21 +32,16 @@ module _ (s : Store) (t : ℕ) (out : List ℕ) where
     unfolding plainTold
     plain-term-refuses l = rw (e, le-ltb t (s .terms) l, plainTold)
 
-    pub plain-placed :
-        t < s .terms →
-        plainTold s t out ≡ placed (plainText s t) (written (length (plainText s t))) (refusal 13) out
+    pub plain-placed : t < s .terms → plainTold s t out ≡ plainPlaced s t out
     unfolding plainTold
     plain-placed l = rw (e, lt-ltb t (s .terms) l, plainTold)
 
 -- a term's node does not depend on the counts, so neither does its plain text
-pub plain-text-placed :
-    (rs : List ℕ) (ls : List ℤ) (ns : List ℕ) (terms symbols t : ℕ) (out : List ℕ) →
-    wellFormed (store rs ls ns terms symbols) ≡ true →
-    t < terms →
-    plainTold (store rs ls ns terms symbols) t out
-    ≡ placed (plainLine (nodes rs ls ns) t) (written (length (plainLine (nodes rs ls ns) t))) (refusal 13) out
+pub plain-text-nodes :
+    (rs : List ℕ) (ls : List ℤ) (ns : List ℕ) (terms symbols t : ℕ) →
+    plainText (store rs ls ns terms symbols) t ≡ plainLine (nodes rs ls ns) t
 unfolding plainText nodeAt nodeOf
-plain-text-placed rs ls ns terms symbols t out e l = plain-placed (store rs ls ns terms symbols) t out e l
+plain-text-nodes rs ls ns terms symbols t = refl
 
 -- a table of zeros
 pub zeros-get : (n : ℕ) → Zeros (replicate n 0)

@@ -42,14 +42,14 @@ placed text done noRoom out =
 abbrev pub Zeros : List ℕ → Type 0
 Zeros xs = (k : ℕ) → getD xs k 0 ≡ 0
 
+-- the plain text of term t, or 13
+abbrev pub plainPlaced : Store → ℕ → List ℕ → Told Answer
+plainPlaced s t out = placed (plainText s t) (written (length (plainText s t))) (refusal 13) out
+
 -- "Texts: 17, 14, [..] then 13": the plain text of term t
 unfoldable pub plainTold : Store → ℕ → List ℕ → Told Answer
 plainTold s t out =
     elim (wellFormed s) [
       | false ↦ told (refusal 17) out
-      | true ↦
-          elim (ltb t (s .terms)) [
-            | false ↦ told (refusal 14) out
-            | true ↦ placed (plainText s t) (written (length (plainText s t))) (refusal 13) out
-          ]
+      | true ↦ elim (ltb t (s .terms)) [ false ↦ told (refusal 14) out | true ↦ plainPlaced s t out ]
     ]

@@ -1,11 +1,13 @@
 // Plain text and let text, byte for byte (`src/termdag.rs`, to_string and to_string_with_let).
 ghost use mathlib.Core.Path.{_≡_};
+ghost use mathlib.Core.Bool.{true};
 ghost use Prim.Native.Nat.{_<_, _≤_};
 ghost use lib.ListN.{length};
 ghost use Rattle.store.specs.Lent.{store};
+ghost use Rattle.store.specs.WellFormed.{wellFormed};
 ghost use Rattle.text_rules.specs.PlainText.{plainLine};
 ghost use Rattle.heads.specs.Readable.{nodes, Readable};
-ghost use Rattle.texts.specs.Told.{answerOf, told, placed, plainTold, written, refusal, Zeros};
+ghost use Rattle.texts.specs.Told.{answerOf, told, placed, plainPlaced, plainTold, written, refusal, Zeros};
 use refusals::Refusal;
 
 // The length of the text that was written, or why none was.
@@ -61,6 +63,39 @@ fn put_plain(
     Text::Written(long)
 }
 
+// The plain text of term `term` of a well-formed store, at the start of `out` (`src/termdag.rs`, to_string).
+pub fn plain_of(
+    out: &mut [u8],
+    records: &[u64],
+    literals: &[i64],
+    names: &[u8],
+    terms: usize,
+    symbols: usize,
+    term: usize,
+) -> Text
+    requires { ⌜ wellFormed (store (now records) (now literals) (now names) terms symbols) ≡ true ⌝ }
+    requires { ⌜ term < terms ⌝ }
+    ensures { λ r. ⌜
+        told (answerOf r) (now (out .exit))
+        ≡ plainPlaced
+        (store (now (records .entry)) (now (literals .entry)) (now (names .entry)) terms symbols) term
+        (now (out .entry))
+        ⌝ }
+{
+    let places = [0u64; 1024];
+    let mut wides = [0u64; 1024];
+    put_plain(
+        out,
+        records,
+        literals,
+        names,
+        &places,
+        &mut wides,
+        term + 1,
+        term,
+    )
+}
+
 // The plain text of a term, at the start of `out`.
 pub fn plain_text(
     records: &[u64],
@@ -84,16 +119,5 @@ pub fn plain_text(
     if terms <= term {
         return Text::Refused(Refusal::BadTerm);
     }
-    let places = [0u64; 1024];
-    let mut wides = [0u64; 1024];
-    put_plain(
-        out,
-        records,
-        literals,
-        names,
-        &places,
-        &mut wides,
-        term + 1,
-        term,
-    )
+    plain_of(out, records, literals, names, terms, symbols, term)
 }

@@ -1,0 +1,3 @@
+-- The laws of the crate `alike`.
+pub mod KidLaws
+pub mod TextLaws

@@ -1,0 +1,2 @@
+-- The definitions of the crate `alike`.
+pub mod Alike
