@@ -3,10 +3,10 @@ use mathlib.Core.Path.{_≡_, refl, sym, ap, subst, _∙_}
 use mathlib.Core.List.{List, [], _∷_, _++_, append-assoc, append-nil}
 use Prim.Native.Nat.{ℕ, suc, _+_, _-_, _<_, _≤_}
 use native.Mathlib.Omega.{arith}
-use native.Mathlib.Nat.{add-zero}
+use native.Mathlib.Nat.{zero-add, add-zero}
 use native.Mathlib.Numerals.{add-one}
 use lib.ListN.{length, set, take, drop, length-append, length-drop, length-take, take-append-drop}
-use lib.Seq.{length-take-le, drop-drop, drop-at, take-at, set-split}
+use lib.Seq.{length-take-le, drop-append-le, drop-drop, drop-at, take-at, set-split}
 use borrow.Rule.Slice.PartMut.{putMid}
 use Rattle.decimal.specs.Written.{Wrote}
 use Rattle.decimal.proofs.WrittenLaws.{laid, Stands, stands-then}
@@ -82,3 +82,49 @@ step-then o e o₁ f o₂ p r q s t l =
 -- Nothing.
 pub step-none : (o : List ℕ) (p : ℕ) → Step [] p p o o
 step-none o p = record { place = omega arith; bytes = sym (take-append-drop p o) ∙ rw (add-zero p) refl }
+
+-- From the start: the text, then what was past it.
+pub step-whole : (o e o′ : List ℕ) (r : ℕ) → Step e 0 r o o′ → (r ≡ length e) × (o′ ≡ e ++ drop (length e) o)
+step-whole o e o′ r s = (s .place ∙ zero-add (length e), s .bytes ∙ ap (λ (k : ℕ). e ++ drop k o) (zero-add (length e)))
+
+-- A callee wrote e at the start of the part from p to q.
+pub step-of-middle :
+    (o e m : List ℕ) (p q r : ℕ) →
+    p ≤ q →
+    q ≤ length o →
+    length e ≤ q - p →
+    Wrote e r (take (q - p) (drop p o)) m →
+    Step e p (p + r) o (putMid p (q - p) o m)
+step-of-middle o e m p q r l h small w =
+    let mid : length (take (q - p) (drop p o)) ≡ q - p =
+    length-take-le (q - p) (drop p o) (omega (arith, l, h, length-drop p o)) in
+    let rest : drop (length e) (take (q - p) (drop p o)) ++ drop (q - p) (drop p o) ≡ drop (p + length e) o =
+    sym
+    (drop-append-le (length e) (take (q - p) (drop p o)) (drop (q - p) (drop p o)) (omega (arith, small, mid)))
+    ∙ (ap (drop (length e)) (take-append-drop (q - p) (drop p o)) ∙ drop-drop (length e) p o) in
+    let all : m ++ drop (q - p) (drop p o) ≡ e ++ drop (p + length e) o =
+    ap (λ (x : List ℕ). x ++ drop (q - p) (drop p o)) (w .bytes)
+    ∙ (append-assoc e (drop (length e) (take (q - p) (drop p o))) (drop (q - p) (drop p o)) ∙ ap (λ (x : List ℕ). e ++ x) rest) in
+    record { place = ap (λ (k : ℕ). p + k) (w .long); bytes = ap (λ (x : List ℕ). take p o ++ x) all }
+
+-- A text in front of what was written from its end on.
+pub step-front :
+    (o f o₁ e o₂ : List ℕ) (p r z : ℕ) →
+    p ≡ length e →
+    p + length f ≤ length o →
+    Step f p r o o₁ →
+    Step e 0 z o₁ o₂ →
+    Step (e ++ f) 0 r o o₂
+step-front o f o₁ e o₂ p r z h l s t =
+    let seam : length (take p o) ≡ p = length-take-le p o (omega (arith, l)) in
+    let tail : drop (length e) o₁ ≡ f ++ drop (p + length f) o =
+    ap (λ (k : ℕ). drop k o₁) (sym h)
+    ∙ (ap (drop p) (s .bytes) ∙ drop-at (take p o) (f ++ drop (p + length f) o) p seam) in
+    let sum : p + length f ≡ 0 + length (e ++ f) = rw length-append (omega (arith, h)) in
+    record {
+      place = s .place ∙ sum;
+      bytes =
+          step-whole o₁ e o₂ z t .1
+          ∙ (ap (λ (x : List ℕ). e ++ x) tail
+          ∙ (sym (append-assoc e f (drop (p + length f) o)) ∙ ap (λ (k : ℕ). (e ++ f) ++ drop k o) sum));
+    }

@@ -1,0 +1,2 @@
+-- The definitions of the crate `variants_reply`.
+pub mod Text
