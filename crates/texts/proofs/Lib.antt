@@ -1,3 +1,5 @@
 -- The laws of the crate `texts`.
 pub mod ToldLaws
 pub mod PlainLaws
+pub mod LaidLaws
+pub mod LetToldLaws

@@ -1,2 +1,3 @@
 -- The definitions of the crate `texts`.
 pub mod Told
+pub mod LetTold

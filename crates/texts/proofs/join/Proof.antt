@@ -1,0 +1,49 @@
+-- `texts::join` meets its contract: the prefix, and the hint after it. Assumes nothing.
+use mathlib.Core.List.{_++_}
+use Rattle.decimal.proofs.WrittenLaws.{stands-of-wrote, wrote-of-stands, stands-then}
+use native.Mathlib.Omega.{arith}
+use borrow.Author.Needs.{needs}
+use Rattle.texts.proofs.join.Statement.{statement}
+use Rattle.texts.proofs.join.Tie as tie
+
+put-bytes-requires : tie.Need-put-bytes-requires
+put-bytes-requires c κs = search needs
+
+sub-put-bytes : tie.Need-sub-put-bytes
+sub-put-bytes c = search needs
+
+part-put-bytes-start : tie.Need-part-put-bytes-start
+part-put-bytes-start c = search needs
+
+part-put-bytes-end : tie.Need-part-put-bytes-end
+part-put-bytes-end c = search needs
+
+put-bytes-requires-2 : tie.Need-put-bytes-requires-2
+put-bytes-requires-2 c κs = search needs
+
+add-result : tie.Need-add-result
+add-result c = search needs
+
+same-length : tie.Need-same-length
+same-length c = search needs
+
+returns : tie.Need-returns
+returns c =
+    let a = c .before .before .before .before .before .before .before .before .before .before .before .args in
+    wrote-of-stands (a .stem .now) (a .prefix .now ++ a .hint .now) _ _
+    (stands-then (a .stem .now) (a .prefix .now) _ _
+    (stands-of-wrote (a .stem .now) (a .prefix .now) _ _ (c .before .before .before .before .before .before .put-bytes .ensures)) (a .hint .now)
+    (c .before .before .put-bytes2 .last .0) (c .before .before .put-bytes2 .result) (c .before .before .put-bytes2 .ensures))
+
+pub join-spec : {M : Type 1} → statement M
+join-spec =
+    tie.close
+    (tie.spec
+    put-bytes-requires
+    sub-put-bytes
+    part-put-bytes-start
+    part-put-bytes-end
+    put-bytes-requires-2
+    add-result
+    same-length
+    returns)
