@@ -77,8 +77,8 @@ module _
   solve-ready = record {
     flat = v .flat;
     order-length = order-length;
-    rows = λ i h. omega (arith, order-below i h, v .functions-length);
-    few-functions = omega (arith, v .known .few-rows, v .functions-length);
+    rows = λ i h. omega (arith, order-below i h, v .functions-long);
+    few-functions = v .functions-few;
     arity = v .arity;
   }
 

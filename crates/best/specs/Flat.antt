@@ -32,7 +32,8 @@ pub record FlatTable
   pub flat : FlatOk (classCount t) outputs heads starts children
   pub order-is : order ≡ scanOrder t root
   pub arity : (i : ℕ) → i < length order → getD starts (i + 1) 0 ≤ getD starts i 0 + 8
-  pub functions-length : length functions ≡ length (t .rows)
+  pub functions-long : length (t .rows) ≤ length functions
+  pub functions-few : length functions ≤ 1024
   pub label : (r : ℕ) → r < length (t .rows) → nameAt labels (getD functions r 0) ≡ nameOf t r
   pub label-place : (r : ℕ) → r < length (t .rows) → getD functions r 0 * 32 + 32 ≤ length labels
   pub label-short : (r : ℕ) → r < length (t .rows) → lengthAt labels (getD functions r 0) ≤ 31
