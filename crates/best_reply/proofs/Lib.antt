@@ -1,0 +1,3 @@
+-- The laws of the crate `best_reply`.
+pub mod PlacedLaws
+pub mod ReplyLaws

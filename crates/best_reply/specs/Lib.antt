@@ -1,0 +1,2 @@
+-- The definitions of the crate `best_reply`.
+pub mod Text
