@@ -45,7 +45,12 @@ both-length P [] (y ∷ ys) b = absurd b
 both-length P (x ∷ xs) [] b = absurd b
 both-length P (x ∷ xs) (y ∷ ys) b = ap suc (both-length P xs ys (b .1))
 
-pub both-same : {A : Type 0} (P : A → A → Type 0) → ((x y : A) → P x y → x ≡ y) → (xs ys : List A) → Both P xs ys → xs ≡ ys
+pub both-same :
+    {A : Type 0} (P : A → A → Type 0) →
+    ((x y : A) → P x y → x ≡ y) →
+    (xs ys : List A) →
+    Both P xs ys →
+    xs ≡ ys
 unfolding Both
 both-same P h [] [] b = refl
 both-same P h [] (y ∷ ys) b = absurd b

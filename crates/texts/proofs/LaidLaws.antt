@@ -1,4 +1,4 @@
--- The laws of let text: what the tables hold, and that what is written from them is the definition's text. Assumes nothing.
+-- The laws of let text: what the tables hold, and that the definition's text is written from them. Assumes nothing.
 use mathlib.Core.Path.{_≡_, refl, sym, ap, subst, _∙_}
 use mathlib.Core.Bool.{Bool, false}
 use mathlib.Core.List.{List, _++_}

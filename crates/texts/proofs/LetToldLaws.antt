@@ -138,10 +138,18 @@ module _ (rs : List ℕ) (ls : List ℤ) (ns : List ℕ) (terms symbols : ℕ) (
   }
 
 -- ---- the stem
-pub stem-long : (prefix hint : List ℕ) → validPrefix prefix ≡ true → valid hint ≡ true → length prefix + length hint ≤ 62
+pub stem-long :
+    (prefix hint : List ℕ) →
+    validPrefix prefix ≡ true →
+    valid hint ≡ true →
+    length prefix + length hint ≤ 62
 stem-long prefix hint p h = omega (arith, short-of-prefix prefix p, short-of-valid hint h)
 
-pub stem-clean : (prefix hint : List ℕ) → validPrefix prefix ≡ true → valid hint ≡ true → several (prefix ++ hint) ≡ false
+pub stem-clean :
+    (prefix hint : List ℕ) →
+    validPrefix prefix ≡ true →
+    valid hint ≡ true →
+    several (prefix ++ hint) ≡ false
 stem-clean prefix hint p h = several-append prefix hint (clean-of-prefix prefix p) (clean-of-valid hint h)
 
 pub stem-is : (d o o′ : List ℕ) (r : ℕ) → Wrote d r o o′ → take r o′ ≡ d

@@ -3,3 +3,6 @@ pub mod ToldLaws
 pub mod PlainLaws
 pub mod LaidLaws
 pub mod LetToldLaws
+pub mod TwinLaws
+pub mod PromiseLaws
+pub mod Promises

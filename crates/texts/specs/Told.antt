@@ -29,8 +29,8 @@ pub record Told (A : Type 0) : Type 0 where
 abbrev pub told : {A : Type 0} → A → List ℕ → Told A
 told a o = record { answer = a; out = o }
 
--- "Text is written [..] from the start of the lent part; bytes past the returned length stay." NoRoom where it does not fit:
--- "Nothing lent is changed."
+-- "Text is written [..] from the start of the lent part; bytes past the returned length stay." NoRoom where it does not
+-- fit: "Nothing lent is changed."
 unfoldable pub placed : {A : Type 0} → List ℕ → A → A → List ℕ → Told A
 placed text done noRoom out =
     elim (leb (length text) (length out)) [

@@ -14,7 +14,8 @@ all-allowed-requires c κs = search needs
 
 returns-2 : tie.Need-returns-2
 returns-2 c =
-    let s = c .before .before .before in c .all-allowed .ensures ∙ sym (prefix-allowed (s .args .s .now) (c .before .if1 .left))
+    let s = c .before .before .before in
+    c .all-allowed .ensures ∙ sym (prefix-allowed (s .args .s .now) (c .before .if1 .left))
 
 pub is-prefix-spec : {M : Type 1} → statement M
 is-prefix-spec = tie.close (tie.spec returns all-allowed-requires returns-2)

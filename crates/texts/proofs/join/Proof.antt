@@ -29,11 +29,14 @@ same-length c = search needs
 
 returns : tie.Need-returns
 returns c =
-    let a = c .before .before .before .before .before .before .before .before .before .before .before .args in
+    let d6 = c .before .before .before .before .before .before in
+    let d11 = d6 .before .before .before .before .before in
+    let a = d11 .args in
+    let q = c .before .before .put-bytes2 in
     wrote-of-stands (a .stem .now) (a .prefix .now ++ a .hint .now) _ _
     (stands-then (a .stem .now) (a .prefix .now) _ _
-    (stands-of-wrote (a .stem .now) (a .prefix .now) _ _ (c .before .before .before .before .before .before .put-bytes .ensures)) (a .hint .now)
-    (c .before .before .put-bytes2 .last .0) (c .before .before .put-bytes2 .result) (c .before .before .put-bytes2 .ensures))
+    (stands-of-wrote (a .stem .now) (a .prefix .now) _ _ (d6 .put-bytes .ensures)) (a .hint .now)
+    (q .last .0) (q .result) (q .ensures))
 
 pub join-spec : {M : Type 1} → statement M
 join-spec =

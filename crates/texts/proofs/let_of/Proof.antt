@@ -1,6 +1,6 @@
 -- `texts::let_of` meets its contract: the stem, and then the text. Assumes nothing.
-use Prim.Native.Nat.{ℕ, _+_, _-_, _≤_}
-use mathlib.Core.Path.{_≡_, sym, ap, subst, _∙_}
+use Prim.Native.Nat.{ℕ, _+_, _≤_}
+use mathlib.Core.Path.{_≡_, sym, ap, _∙_}
 use mathlib.Core.Bool.{false}
 use mathlib.Core.List.{List, _++_}
 use lib.ListN.{length, take, length-append, length-replicate}
@@ -9,7 +9,7 @@ use Rattle.store.specs.Lent.{Store, store}
 use Rattle.store.proofs.FactsLaws.{sound-of-wellFormed}
 use Rattle.text_rules.specs.LetText.{Naming, several}
 use Rattle.texts.specs.LetTold.{naming}
-use Rattle.texts.proofs.LetToldLaws.{stem-long, stem-clean, stem-is, layable-of-sound, let-text-nodes, let-text-last}
+use Rattle.texts.proofs.LetToldLaws.{stem-long, stem-clean, stem-is, layable-of-sound, let-text-last}
 use native.Mathlib.Omega.{arith}
 use borrow.Author.Needs.{needs}
 use Rattle.texts.proofs.let_of.Statement.{statement}
@@ -46,24 +46,30 @@ slice-aggregate-join c = search needs
 
 join-requires : tie.Need-join-requires
 join-requires c κs =
-    fits (c .before .before .before .before .before .before)
+    let d6 = c .before .before .before .before .before .before in
+    fits d6
 
 array-share-prefix-stem : tie.Need-array-share-prefix-stem
 array-share-prefix-stem c =
-    omega (arith, c .before .before .join .ensures .long, c .before .before .join .kept .0, fits-all (c .before .before .before .before .before .before .before .before .before), length-replicate {A = ℕ} 62 0)
+    let d9 = c .before .before .before .before .before .before .before .before .before in
+    let j = c .before .before .join in
+    omega (arith, j .ensures .long, j .kept .0, fits-all d9, length-replicate {A = ℕ} 62 0)
 
 slice-aggregate-put-let : tie.Need-slice-aggregate-put-let
 slice-aggregate-put-let c =
-    let j = c .before .before .before .join in
-    j .ensures .long ∙ ap length (sym (is (c .before .before .before .before .before .before .before .before .before .before) _ (j .last .0) (j .result) (j .ensures)))
+    let d3 = c .before .before .before in
+    let d10 = d3 .before .before .before .before .before .before .before in
+    let j = d3 .join in
+    j .ensures .long ∙ ap length (sym (is (d10) _ (j .last .0) (j .result) (j .ensures)))
 
 add-put-let : tie.Need-add-put-let
 add-put-let c = search needs
 
 put-let-requires : tie.Need-put-let-requires
 put-let-requires c κs =
-    let s = c .before .before .before .before .before .before .before .before .before .before in
-    let j = c .before .before .before .join in
+    let d3 = c .before .before .before in
+    let s = d3 .before .before .before .before .before .before .before in
+    let j = d3 .join in
     layable-of-sound (s .args .records .now) (s .args .literals .now) (s .args .names .now) (s .args .terms)
     (s .args .symbols) (sound-of-wellFormed (lent s) (s .pre .0)) (take (j .result) (j .last .0)) (s .args .term)
     (s .args .start) (s .pre .1 .0) (clean s _ (j .last .0) (j .result) (j .ensures)) (s .pre .1 .1 .1)
@@ -73,8 +79,9 @@ same-length c = search needs
 
 returns : tie.Need-returns
 returns c =
-    let s = c .before .before .before .before .before .before .before .before .before .before .before .before .before in
-    let j = c .before .before .before .before .before .before .join in
+    let d6 = c .before .before .before .before .before .before in
+    let s = d6 .before .before .before .before .before .before .before in
+    let j = d6 .join in
     c .before .before .put-let .ensures .right (s .args .prefix .now) (s .args .hint .now)
     (sym (is s _ (j .last .0) (j .result) (j .ensures)))
     ∙ let-text-last (s .args .records .now) (s .args .literals .now) (s .args .names .now) (s .args .terms)

@@ -49,8 +49,9 @@ same-length c = search needs
 
 returns : tie.Need-returns
 returns c =
-    let s = c .before .before .before .before .before .before .before .before .before .before in
-    c .before .before .before .put-plain .ensures
+    let d3 = c .before .before .before in
+    let s = d3 .before .before .before .before .before .before .before in
+    d3 .put-plain .ensures
     ∙ sym
     (ap (λ (text : List ℕ). placed text (written (length text)) (refusal 13) (s .args .out .now))
     (plain-text-nodes (s .args .records .now) (s .args .literals .now) (s .args .names .now) (s .args .terms)

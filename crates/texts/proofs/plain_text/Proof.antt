@@ -30,23 +30,27 @@ returns-2 c =
     (sym (c .before .before .check .ensures) ∙ not-false _ (c .before .if1 .left)) (c .if2 .taken))
 
 plain-of-requires : tie.Need-plain-of-requires
-plain-of-requires c κs = (
-  sym (c .before .before .before .check .ensures) ∙ not-false _ (c .before .before .if1 .left),
-  c .before .if2 .left,
-)
+plain-of-requires c κs =
+    let d3 = c .before .before .before in (
+      sym (d3 .check .ensures) ∙ not-false _ (c .before .before .if1 .left),
+      c .before .if2 .left,
+    )
 
 same-length : tie.Need-same-length
 same-length c = search needs
 
 returns-3 : tie.Need-returns-3
 returns-3 c =
-    let s = c .before .before .before .before .before .before .before .before .before .before in
+    let d4 = c .before .before .before .before in
+    let d5 = d4 .before in
+    let d6 = d5 .before in
+    let s = d6 .before .before .before .before in
     c .before .before .plain-of .ensures
     ∙ sym
     (plain-placed (lent s) (s .args .term) (s .args .out .now)
-    (sym (c .before .before .before .before .before .before .check .ensures)
-    ∙ not-false _ (c .before .before .before .before .before .if1 .left))
-    (c .before .before .before .before .if2 .left))
+    (sym (d6 .check .ensures)
+    ∙ not-false _ (d5 .if1 .left))
+    (d4 .if2 .left))
 
 pub plain-text-spec : {M : Type 1} → statement M
 plain-text-spec =

@@ -82,19 +82,23 @@ module _ (s : tie.Start) where
           e
 
 widths-requires : tie.Need-widths-requires
-widths-requires c κs = tables (c .before .before .before .before .before .before .before .before .before)
+widths-requires c κs =
+    let d9 = c .before .before .before .before .before .before .before .before .before in
+    tables d9
 
 let-length-requires : tie.Need-let-length-requires
 let-length-requires c κs =
-    let s = c .before .before .before .before .before .before .before .before .before .before .before .before .before in
-    (sheet s (c .before .before .before .widths .last .0) (c .before .before .before .widths .ensures) (c .before .before .before .widths .kept .0), (s .pre .0 .some, bundle s))
+    let d3 = c .before .before .before in
+    let s = d3 .before .before .before .before .before .before .before .before .before .before in
+    (sheet s (d3 .widths .last .0) (d3 .widths .ensures) (d3 .widths .kept .0), (s .pre .0 .some, bundle s))
 
 same-length : tie.Need-same-length
 same-length c = search needs
 
 returns : tie.Need-returns
 returns c =
-    let s = c .before .before .before .before .before .before .before .before .before .before .before .before .before .before .before in
+    let d5 = c .before .before .before .before .before in
+    let s = d5 .before .before .before .before .before .before .before .before .before .before in
     record {
       right = λ prefix hint e.
           sym
@@ -104,22 +108,27 @@ returns c =
             arith,
             c .if1 .taken,
             c .before .let-length .ensures,
-            ap length (right s (c .before .before .before .before .before .widths .last .0) (c .before .before .before .before .before .widths .ensures) prefix hint e),
+            ap length (right s (d5 .widths .last .0) (d5 .widths .ensures) prefix hint e),
           )));
     }
 
 put-let-requires : tie.Need-put-let-requires
 put-let-requires c κs =
-    let s = c .before .before .before .before .before .before .before .before .before .before .before .before .before .before .before .before .before in (
-      sheet s (c .before .before .before .before .before .before .before .widths .last .0) (c .before .before .before .before .before .before .before .widths .ensures) (c .before .before .before .before .before .before .before .widths .kept .0),
+    let d3 = c .before .before .before in
+    let d7 = d3 .before .before .before .before in
+    let s = d7 .before .before .before .before .before .before .before .before .before .before in (
+      sheet s (d7 .widths .last .0) (d7 .widths .ensures) (d7 .widths .kept .0),
       (
         s .pre .0 .some,
-        (bundle s, omega (arith, c .before .before .if1 .left, s .good, c .before .before .before .let-length .ensures)),
+        (bundle s, omega (arith, c .before .before .if1 .left, s .good, d3 .let-length .ensures)),
       ),
     )
 
 add-t29 : tie.Need-add-t29
-add-t29 c = let s = c .before .before .before .before .before .before .before .before .before .before .before .before .before .before .before .before .before .before .before .before in omega (arith, s .pre .0 .low, s .pre .1 .0 .met .free, s .pre .1 .1 .2)
+add-t29 c =
+    let d12 = c .before .before .before .before .before .before .before .before .before .before .before .before in
+    let s = d12 .before .before .before .before .before .before .before .before in
+    omega (arith, s .pre .0 .low, s .pre .1 .0 .met .free, s .pre .1 .1 .2)
 
 same-length-2 : tie.Need-same-length-2
 same-length-2 c = search needs
@@ -129,16 +138,20 @@ same-length-3 c = search needs
 
 returns-2 : tie.Need-returns-2
 returns-2 c =
-    let s = c .before .before .before .before .before .before .before .before .before .before .before .before .before .before .before .before .before .before .before .before in
+    let d5 = c .before .before .before .before .before in
+    let d6 = d5 .before in
+    let d10 = d6 .before .before .before .before in
+    let s = d10 .before .before .before .before .before .before .before .before .before .before in
     let w = c .before .before .put-let .ensures in
-    let fits : length (whole s (c .before .before .before .before .before .before .before .before .before .before .widths .last .0)) ≤ length (s .args .out .now) =
-    omega (arith, c .before .before .before .before .before .if1 .left, s .good, c .before .before .before .before .before .before .let-length .ensures) in
+    let fits : length (whole s (d10 .widths .last .0)) ≤ length (s .args .out .now) =
+    omega (arith, d5 .if1 .left, s .good, d6 .let-length .ensures) in
     record {
       right = λ prefix hint e.
-          let q = right s (c .before .before .before .before .before .before .before .before .before .before .widths .last .0) (c .before .before .before .before .before .before .before .before .before .before .widths .ensures) prefix hint e in
+          let q = right s (d10 .widths .last .0) (d10 .widths .ensures) prefix hint e in
           ap (λ (n : ℕ). told (written n (s .args .start + s .args .m)) (c .before .before .put-let .last .0))
           (w .long ∙ ap length q)
-          ∙ (ap (λ (n : ℕ). told (written (length (text s prefix hint)) n) (c .before .before .put-let .last .0)) (count s)
+          ∙ (ap (λ (n : ℕ). told (written (length (text s prefix hint)) n) (c .before .before .put-let .last .0))
+          (count s)
           ∙ (ap (λ (o : List ℕ). told (written (length (text s prefix hint)) (next s)) o)
           (w .bytes ∙ ap (λ (x : List ℕ). x ++ drop (length x) (s .args .out .now)) q)
           ∙ sym

@@ -44,8 +44,9 @@ slice-aggregate-put-bound-4 c = search needs
 
 put-bound-requires : tie.Need-put-bound-requires
 put-bound-requires c κs =
-    let s = c .before .before .before .before .before .before .before .before .before .before .before .before .before .before .before .before .before .before .before .before in
-    let q = c .before .before .before .before .before .before .before .before .before .before .bind in (
+    let d10 = c .before .before .before .before .before .before .before .before .before .before in
+    let s = d10 .before .before .before .before .before .before .before .before .before .before in
+    let q = d10 .bind in (
       s .pre,
       (
         q .ensures,

@@ -37,7 +37,8 @@ module _
 
     sheet :
         length ws ≡ length (s .args .wides .now) →
-        Sheet (s .args .records .now) (s .args .literals .now) (s .args .names .now) (s .args .places .now) ws (s .args .n) 0
+        Sheet (s .args .records .now) (s .args .literals .now) (s .args .names .now) (s .args .places .now) ws
+        (s .args .n) 0
     sheet e =
         plain-sheet (s .args .records .now) (s .args .literals .now) (s .args .names .now) (s .args .places .now)
         (s .args .names .now) (s .args .n) (s .pre .0) (s .pre .1 .1 .1) ws w (s .pre .1 .1 .0 .0)
@@ -70,21 +71,28 @@ same-length c = search needs
 
 returns : tie.Need-returns
 returns c =
-    let s = c .before .before .before .before .before .before .before .before .before .before .before in
+    let d4 = c .before .before .before .before in
+    let s = d4 .before .before .before .before .before .before .before in
     sym
     (placed-refuses (plain s) (written (length (plain s))) (refusal 13) (s .args .out .now)
-    (omega (arith, c .if1 .taken, wide s (c .before .before .before .before .widths .last .0) (c .before .before .before .before .widths .ensures))))
+    (omega (arith, c .if1 .taken, wide s (d4 .widths .last .0) (d4 .widths .ensures))))
 
 put-requires : tie.Need-put-requires
 put-requires c κs =
-    let s = c .before .before .before .before .before .before .before .before .before .before .before .before .before in (
-      sheet s (c .before .before .before .before .before .before .widths .last .0) (c .before .before .before .before .before .before .widths .ensures) (c .before .before .before .before .before .before .widths .kept .0),
+    let d6 = c .before .before .before .before .before .before in
+    let s = d6 .before .before .before .before .before .before .before in (
+      sheet s (d6 .widths .last .0) (d6 .widths .ensures) (d6 .widths .kept .0),
       (
         s .pre .1 .0,
         (
           omega (arith, s .pre .0 .few, s .pre .1 .0),
-          rw (text s (c .before .before .before .before .before .before .widths .last .0) (c .before .before .before .before .before .before .widths .ensures))
-              (omega (arith, c .before .before .if1 .left, s .good, wide s (c .before .before .before .before .before .before .widths .last .0) (c .before .before .before .before .before .before .widths .ensures))),
+          rw (text s (d6 .widths .last .0) (d6 .widths .ensures))
+              (omega (
+                arith,
+                c .before .before .if1 .left,
+                s .good,
+                wide s (d6 .widths .last .0) (d6 .widths .ensures),
+              )),
         ),
       ),
     )
@@ -97,10 +105,12 @@ same-length-3 c = search needs
 
 returns-2 : tie.Need-returns-2
 returns-2 c =
-    let s = c .before .before .before .before .before .before .before .before .before .before .before .before .before .before .before .before in
-    let w = rw (text s (c .before .before .before .before .before .before .before .before .before .widths .last .0) (c .before .before .before .before .before .before .before .before .before .widths .ensures)) at (c .before .before .put .ensures) in
+    let d5 = c .before .before .before .before .before in
+    let d9 = d5 .before .before .before .before in
+    let s = d9 .before .before .before .before .before .before .before in
+    let w = rw (text s (d9 .widths .last .0) (d9 .widths .ensures)) at (c .before .before .put .ensures) in
     let fits : length (plain s) ≤ length (s .args .out .now) =
-    omega (arith, c .before .before .before .before .before .if1 .left, s .good, wide s (c .before .before .before .before .before .before .before .before .before .widths .last .0) (c .before .before .before .before .before .before .before .before .before .widths .ensures)) in
+    omega (arith, d5 .if1 .left, s .good, wide s (d9 .widths .last .0) (d9 .widths .ensures)) in
     ap (λ (n : ℕ). told (written n) (c .before .before .put .last .0)) (w .long)
     ∙ (ap (λ (o : List ℕ). told (written (length (plain s))) o) (w .bytes)
     ∙ sym (placed-fits (plain s) (written (length (plain s))) (refusal 13) (s .args .out .now) fits))
