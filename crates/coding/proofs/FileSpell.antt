@@ -67,7 +67,7 @@ rows-part s sorts l fs at =
     all-then (field s at 11) _ (λ n p e. all-must _ _ _ (λ _. all-of _ (λ xs q d.
     counted s at 11 codeRow xs e (rows-length s sorts l fs n p d) (all-at (rw d at (rows-spell s sorts l fs n p (end-in s at 11 e)))))))
 
-code-zero : (w : ℕ) → code w 0 ≡ replicate w 0
+pub code-zero : (w : ℕ) → code w 0 ≡ replicate w 0
 unfolding code
 code-zero zero = refl
 code-zero (suc w) = rw (zero-div, code-zero w)

@@ -69,7 +69,7 @@ unfolding code
 code-length zero v = refl
 code-length (suc w) v = ap suc (code-length w v)
 
-shift : (v b p x : ℕ) → (v * 2 + b) * p + x ≡ v * (p * 2) + (b * p + x)
+pub shift : (v b p x : ℕ) → (v * 2 + b) * p + x ≡ v * (p * 2) + (b * p + x)
 shift v b p x =
     let e : (v * 2 + b) * p ≡ v * 2 * p + b * p = add-mul (v * 2) b p in
     let f : v * 2 * p ≡ v * (p * 2) = mul-assoc v 2 p ∙ ap (λ (m : ℕ). v * m) (mul-comm 2 p) in
@@ -85,7 +85,7 @@ value-split v (b ∷ bs) =
     let z : 0 * 2 + b ≡ b = omega arith in
     rw (h, k, z, pow-suc 2 (length bs)) (shift v b (2 ^ length bs) (value 0 bs))
 
-value-lt : {bs : List ℕ} → Every Bit bs → value 0 bs < 2 ^ length bs
+pub value-lt : {bs : List ℕ} → Every Bit bs → value 0 bs < 2 ^ length bs
 unfolding value
 value-lt every-nil = omega arith
 value-lt (every-cons {x = b} {xs = bs} p h) =
@@ -99,7 +99,7 @@ value-high : (v : ℕ) {bs : List ℕ} → Every Bit bs → value v bs / 2 ^ len
 value-high v {bs} h = rw (value-split v bs) (high v (length bs) (value-lt h))
 
 -- Bits are the code of the number that they make.
-code-value : (v : ℕ) {bs : List ℕ} → Every Bit bs → code (length bs) (value v bs) ≡ bs
+pub code-value : (v : ℕ) {bs : List ℕ} → Every Bit bs → code (length bs) (value v bs) ≡ bs
 unfolding code value
 code-value v every-nil = refl
 code-value v (every-cons {x = b} {xs = bs} p h) =

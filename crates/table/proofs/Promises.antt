@@ -1,5 +1,5 @@
 -- The promises of the crate `table`, each from its law. Assumes nothing.
-use Prim.Native.Nat.{ℕ, _≤_}
+use Prim.Native.Nat.{ℕ, _*_, _≤_}
 use mathlib.Core.Logic.{_⊎_, inl, inr}
 use mathlib.Core.Path.{_≡_, refl, sym, ap, _∙_}
 use mathlib.Core.List.{List}
@@ -10,12 +10,18 @@ use Rattle.fields.specs.Got.{Got, got, refused}
 use Rattle.fields.proofs.GotLaws.{all-at}
 use Rattle.format.specs.Table.{Table}
 use Rattle.format.specs.File.{tableAt}
+use Rattle.format.specs.Accepted.{Accepted}
 use Rattle.format.proofs.TableLaws.{TableKept, table-kept}
 use Rattle.coding.proofs.FileSpell.{file-is-code, file-unique}
 use Rattle.coding.proofs.ExtendLaws.{fault-stays, trailing-when-more}
+use Rattle.encoding.specs.Bytes.{fileOf}
+use Rattle.encoding.specs.Longest.{longest}
+use Rattle.encoding.proofs.FileBack.{code-is-file}
+use Rattle.encoding.proofs.BytesLaws.{fileOf-bytes, fileOf-holds}
+use Rattle.encoding.proofs.LongestLaws.{longest-accepted, longest-bytes}
 use Rattle.reader.specs.declared.Outcome.{Outcome}
 use Rattle.table.specs.Lent.{Arrays, Answer, answer}
-use Rattle.table.specs.Promises.{Holding, Fault, Promises}
+use Rattle.table.specs.Promises.{Holding, Fault, Attained, Promises}
 
 either : (s : List ℕ) (g : Got Table) → tableAt s ≡ g → ((t : Table) × Holding s t) ⊎ ((x : Refusal) × Fault s x)
 either s (got t k) e = inl (t, record { end = k; is = e })
@@ -35,6 +41,9 @@ same-table e = cc
 same-refusal : {x y : Refusal} → _≡_ {A = Got Table} (refused x) (refused y) → x ≡ y
 same-refusal e = cc
 
+of : (t : Table) → Accepted t → Holding (fileOf t) t
+of t o = record { end = 8 * length (fileOf t); is = fileOf-holds t o }
+
 pub promises : Promises
 promises =
     record {
@@ -46,7 +55,17 @@ promises =
       one-fault = λ s x y e d. same-refusal (sym e ∙ d);
       file-is-code = λ s t h. file-is-code s (h .is);
       one-file = λ s u t a b h k. file-unique a b (h .is) (k .is);
+      code-is-file = λ s t o e. record { end = 8 * length s; is = code-is-file s t o e };
+      every-table = λ t o. (fileOf t, (fileOf-bytes t, of t o));
       longest = λ s t h. omega (arith, kept s h .last, kept s h .near);
+      attained =
+          record {
+            file = fileOf longest;
+            table = longest;
+            bytes = fileOf-bytes longest;
+            holding = of longest longest-accepted;
+            size = longest-bytes;
+          };
       fault-stays = λ s rest x f n. fault-stays s rest f n;
       nothing-follows = λ s t b rest h. trailing-when-more s b rest (h .is);
     }

@@ -29,6 +29,14 @@ Fault s x = tableAt s ≡ refused x
 abbrev pub Bytes : List ℕ → Type 0
 Bytes s = Every (λ b. b < 256) s
 
+-- A file of bytes that has 21,385 of them and holds a table.
+pub record Attained : Type 0 where
+  pub file : List ℕ
+  pub table : Table
+  pub bytes : Bytes file
+  pub holding : Holding file table
+  pub size : length file ≡ 21385
+
 pub record Promises : Type 0 where
   -- "A file without a fault is accepted, and no other."
   pub accepted-or-refused : (s : List ℕ) → ((t : Table) × Holding s t) ⊎ ((x : Refusal) × Fault s x)
@@ -44,8 +52,12 @@ pub record Promises : Type 0 where
   -- A file is its table's bits, so two different files never hold the same table.
   pub file-is-code : (s : List ℕ) (t : Table) → Holding s t → bitsOf s ≡ codeFile t
   pub one-file : (s u : List ℕ) (t : Table) → Bytes s → Bytes u → Holding s t → Holding u t → s ≡ u
-  -- "The longest valid file has 21,385 bytes."
+  -- And back: the bits of a table that is as `Accepted` says are a file that holds it, so that each such table has a file.
+  pub code-is-file : (s : List ℕ) (t : Table) → Accepted t → bitsOf s ≡ codeFile t → Holding s t
+  pub every-table : (t : Table) → Accepted t → (s : List ℕ) × (Bytes s × Holding s t)
+  -- "The longest valid file has 21,385 bytes.": none is longer, and one is as long.
   pub longest : (s : List ℕ) (t : Table) → Holding s t → length s ≤ 21385
+  pub attained : Attained
   -- Reading looks at no byte past the first fault's field: whatever follows a fault other than Short, the fault stays.
   pub fault-stays : (s rest : List ℕ) (x : Refusal) → Fault s x → (x ≡ Short → ⊥) → Fault (s ++ rest) x
   -- "then the file ends": an accepted file with bytes after it is Trailing.

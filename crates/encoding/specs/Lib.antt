@@ -1,0 +1,3 @@
+-- The definitions of the crate `encoding`.
+pub mod Bytes
+pub mod Longest
