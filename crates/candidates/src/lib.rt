@@ -72,8 +72,9 @@ pub fn find_rows(
     requires { ⌜ PartsIn (length (now ranks)) (length (now outputs)) (now starts) (now children) ⌝ }
     requires { ⌜ length (now outputs) ≤ length (now list) ⌝ }
     ensures { λ r. ⌜ Filled (now (list .exit)) r
-        (picked (isCandidate (now (ranks .entry)) (now (outputs .entry)) (now (starts .entry)) (now (children .entry)) c)
-        0 (length (now (outputs .entry)))) ⌝ }
+        (picked
+        (isCandidate (now (ranks .entry)) (now (outputs .entry)) (now (starts .entry)) (now (children .entry)) c) 0
+        (length (now (outputs .entry)))) ⌝ }
 {
     let mut m = 0;
     let mut i = 0;

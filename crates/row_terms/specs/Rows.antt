@@ -1,4 +1,5 @@
--- The term of one row, each child class by its best term: document 01, 'Costs and choice'. Assumes nothing: definitions.
+-- The term of one row, each child class by its best term: document 01, 'Costs and choice'. Assumes nothing:
+-- definitions.
 use Prim.Native.Nat.{ℕ, _+_, _*_, _-_, _<_, _≤_}
 use mathlib.Core.Path.{_≡_}
 use mathlib.Core.Bool.{true}
