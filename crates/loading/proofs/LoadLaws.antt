@@ -7,7 +7,6 @@ use native.Mathlib.Omega.{arith}
 use lib.IntN.{ℤ}
 use lib.ListN.{length, length-map}
 use Rattle.refusals.specs.declared.Refusal.{Refusal}
-use Rattle.refusals.specs.declared.Refusal.the-variants.{BadRoot}
 use Rattle.fields.specs.Got.{Got, got, refused}
 use Rattle.fields.proofs.GotLaws.{all-at}
 use Rattle.format.specs.Table.{Sort, Function, Row, Table}
@@ -30,9 +29,9 @@ use Rattle.prepare.specs.Opening.{OpenedOf, rootIn, OnClass as OnOpened}
 use Rattle.prepare.proofs.StandLaws.{stands-of-holds}
 use Rattle.prepare.specs.declared.Opened.{Opened}
 use Rattle.prepare.specs.declared.Opened.the-variants.{Bad, Class as OpenedClass, Literal as OpenedLiteral}
-use Rattle.loading.specs.Loading.{askedIn, askedOf, asked, OnClass, Standing, Loads}
+use Rattle.loading.specs.Loading.{askedIn, askedOf, asked, loadedOf, OnClass, Standing, Loads}
 use Rattle.loading.specs.declared.Loaded.{Loaded}
-use Rattle.loading.specs.declared.Loaded.the-variants.{Refused, Class, Literal}
+use Rattle.loading.specs.declared.Loaded.the-variants.{Refused}
 
 -- The table that was read, with the counts that were answered.
 pub record ReadOf (g : Got Table) (a b c d : ℕ) (P : Table → Type 0) : Type 0 where
@@ -74,6 +73,17 @@ accepted-of s e = all-at (rw e at (table-kept s)) .ok
 padded : {A : Type 0} (n : ℕ) (f : A → ℕ) (xs : List A) (l : List ℕ) →
     l ≡ pad n (map f xs) → length xs ≤ n → n ≡ length l
 padded n f xs l e h = rw e (sym (padWith-length 0 n (map f xs) (omega (arith, length-map xs f))))
+
+-- The root and the rows of what is loaded are those of what was opened.
+asked-of-opened : (o : Opened) → askedIn (loadedOf o) ≡ askedOf (rootIn o)
+asked-of-opened Bad = refl
+asked-of-opened (OpenedLiteral i) = refl
+asked-of-opened (OpenedClass c n m w) = refl
+
+reached-of-opened : (o : Opened) (P : ℕ → ℕ → ℕ → Type 0) → OnOpened o P → OnClass (loadedOf o) P
+reached-of-opened Bad P x = tt
+reached-of-opened (OpenedLiteral i) P x = tt
+reached-of-opened (OpenedClass c n m w) P x = x
 
 module _ {kinds classes : List ℕ} {literals : List ℤ} {names declared costs unextractable hidden : List ℕ}
     {outputs arities arguments rowFunctions subsumed cells : List ℕ} {t : Table}
@@ -136,14 +146,12 @@ module _ {kinds classes : List ℕ} {literals : List ℤ} {names declared costs 
   module _ (s v : ℕ) (o : Opened) (order flat heads starts children : List ℕ)
       (w : OpenedOf t s v o order flat heads starts children) where
     -- What is loaded is what was opened.
-    loads :
-        (g : Got Table) (k : ℕ) → g ≡ got t k → (r : Loaded) →
-        askedIn r ≡ askedOf (rootIn o) →
-        OnClass r (λ n m. Flattened t s n m order flat heads starts children) →
+    pub loads-of-opened :
+        (g : Got Table) (k : ℕ) → g ≡ got t k → (r : Loaded) → r ≡ loadedOf o →
         Loads g s v r literals names arities rowFunctions cells order flat heads starts children
     unfolding asked OnGot
-    loads g k e r a f = record {
-      answer = rw e (a ∙ ap askedOf (w .root-is));
+    loads-of-opened g k e r q = record {
+      answer = rw e (ap askedIn q ∙ asked-of-opened o ∙ ap askedOf (w .root-is));
       filled = subst (λ (x : Got Table). OnGot x (λ t. Standing t s r literals names arities rowFunctions cells order flat heads
           starts children)) (sym e)
           (record {
@@ -152,26 +160,11 @@ module _ {kinds classes : List ℕ} {literals : List ℤ} {names declared costs 
             arities-are = h .functions-held .arities-are;
             row-functions-are = h .rows-held .functions-are;
             cells-are = h .rows-held .cells-are;
-            reached = f;
+            reached =
+                subst (λ (x : Loaded). OnClass x (λ n m w. Flattened t s n m w order flat heads starts children)) (sym q)
+                (reached-of-opened o (λ n m w. Flattened t s n m w order flat heads starts children) (w .reached));
           });
     }
-
-    pub loads-of-bad :
-        (g : Got Table) (k : ℕ) → g ≡ got t k → o ≡ Bad →
-        Loads g s v (Refused BadRoot) literals names arities rowFunctions cells order flat heads starts children
-    loads-of-bad g k e q = loads g k e (Refused BadRoot) (rw q refl) tt
-
-    pub loads-of-literal :
-        (g : Got Table) (k i : ℕ) → g ≡ got t k → o ≡ OpenedLiteral i →
-        Loads g s v (Literal i) literals names arities rowFunctions cells order flat heads starts children
-    loads-of-literal g k i e q = loads g k e (Literal i) (rw q refl) tt
-
-    pub loads-of-class :
-        (g : Got Table) (k i n m : ℕ) → g ≡ got t k → o ≡ OpenedClass i n m →
-        Loads g s v (Class i n m) literals names arities rowFunctions cells order flat heads starts children
-    loads-of-class g k i n m e q =
-        loads g k e (Class i n m) (rw q refl)
-        (subst (λ (x : Opened). OnOpened x (λ n m. Flattened t s n m order flat heads starts children)) q (w .reached))
 
 -- A file that is refused is refused whatever the root.
 pub loads-of-refused :

@@ -16,6 +16,8 @@ use Rattle.prepare.specs.Rooted.{rootOf}
 use Rattle.prepare.specs.Flattened.{Flattened}
 use Rattle.prepare.specs.declared.Root.{Root}
 use Rattle.prepare.specs.declared.Root.the-variants.{Bad as NoRoot, Class as RootClass, Literal as RootLiteral}
+use Rattle.prepare.specs.declared.Opened.{Opened}
+use Rattle.prepare.specs.declared.Opened.the-variants.{Bad, Class as OpenedClass, Literal as OpenedLiteral}
 use Rattle.loading.specs.declared.Loaded.{Loaded}
 use Rattle.loading.specs.declared.Loaded.the-variants.{Refused, Class, Literal}
 
@@ -35,7 +37,7 @@ pub data Asked : Type 0 where
 abbrev pub askedIn : Loaded → Asked
 askedIn (Refused r) = fault r
 askedIn (Literal i) = literal i
-askedIn (Class c n m) = class c
+askedIn (Class c n m w) = class c
 
 -- "BadRoot: asked sort not below S, or value out of its range"
 abbrev pub askedOf : Root → Asked
@@ -48,11 +50,17 @@ unfoldable pub asked : Got Table → ℕ → ℕ → Asked
 asked (refused r) s v = fault r
 asked (got t k) s v = askedOf (rootOf t s v)
 
--- P of the numbers of rows and children, where the answer is a class.
-abbrev pub OnClass : Loaded → (ℕ → ℕ → Type 0) → Type 0
+-- What is answered for what was opened.
+abbrev pub loadedOf : Opened → Loaded
+loadedOf Bad = Refused BadRoot
+loadedOf (OpenedLiteral i) = Literal i
+loadedOf (OpenedClass c n m w) = Class c n m w
+
+-- P of the numbers of rows, children and classes, where the answer is a class.
+abbrev pub OnClass : Loaded → (ℕ → ℕ → ℕ → Type 0) → Type 0
 OnClass (Refused r) P = Unit {0}
 OnClass (Literal i) P = Unit {0}
-OnClass (Class c n m) P = P n m
+OnClass (Class c n m w) P = P n m w
 
 -- What stands in the lent arrays and lists, where a table was read.
 pub record Standing (t : Table) (s : ℕ) (r : Loaded) (literals : List ℤ) (names arities rowFunctions cells : List ℕ)
@@ -62,7 +70,7 @@ pub record Standing (t : Table) (s : ℕ) (r : Loaded) (literals : List ℤ) (na
   pub arities-are : arities ≡ pad 128 (map (λ (f : Function). length (f .arguments)) (t .functions))
   pub row-functions-are : rowFunctions ≡ pad 1024 (map (λ (r : Row). r .function) (t .rows))
   pub cells-are : cells ≡ pad 9216 (blocks (λ (r : Row). pad 9 (r .cells)) (t .rows))
-  pub reached : OnClass r (λ n m. Flattened t s n m order flat heads starts children)
+  pub reached : OnClass r (λ n m w. Flattened t s n m w order flat heads starts children)
 
 pub record Loads (g : Got Table) (s v : ℕ) (r : Loaded) (literals : List ℤ) (names arities rowFunctions cells : List ℕ)
     (order flat heads starts children : List ℕ) : Type 0 where

@@ -4,16 +4,28 @@ ghost use lib.IntN.{pos};
 ghost use lib.ListN.{replicate};
 ghost use Rattle.format.specs.File.{tableAt};
 ghost use Rattle.prepare.specs.Flattened.{Space};
-ghost use Rattle.loading.specs.Loading.{Blank, Loads};
+ghost use Rattle.loading.specs.Loading.{Blank, Loads, loadedOf};
 use prepare::Opened;
 use reader::Outcome;
 use refusals::Refusal;
 
-// The first fault, a literal's index, or a flat class with the number of rows that its sort reaches and of their children.
+// The first fault, a literal's index, or a flat class with the number of rows that its sort reaches, of their children and of
+// all classes.
 pub enum Loaded {
     Refused(Refusal),
     Literal(u64),
-    Class(u64, usize, usize),
+    Class(u64, usize, usize, usize),
+}
+
+// A root out of the table's range is the fault of the call.
+fn answer_of(opened: Opened) -> Loaded
+    ensures { λ r. ⌜ r ≡ loadedOf opened ⌝ }
+{
+    match opened {
+        Opened::Bad => Loaded::Refused(Refusal::BadRoot),
+        Opened::Literal(i) => Loaded::Literal(i),
+        Opened::Class(c, n, m, w) => Loaded::Class(c, n, m, w),
+    }
 }
 
 // The table file is read, the root looked up, and the rows that its sort reaches laid flat.
@@ -98,11 +110,7 @@ pub fn load(
                 starts,
                 children,
             );
-            match opened {
-                Opened::Bad => Loaded::Refused(Refusal::BadRoot),
-                Opened::Literal(i) => Loaded::Literal(i),
-                Opened::Class(k, n, m) => Loaded::Class(k, n, m),
-            }
+            answer_of(opened)
         }
     }
 }

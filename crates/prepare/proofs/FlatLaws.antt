@@ -13,6 +13,7 @@ use Rattle.scan.proofs.OrderLaws.{rowsInOrder-length}
 use Rattle.flatrows.specs.Classes.{firstClass, Bases}
 use Rattle.flatrows.specs.Arrays.{arityIn, Each, ArityFits, RowsFit, Room, Sums, Laid}
 use Rattle.flatrows.proofs.FillLaws.{sumOf-next}
+use Rattle.rules.specs.Classes.{classCount}
 use Rattle.rules.specs.Order.{viewOf, scanOrder}
 use Rattle.rules.specs.Facts.{Known}
 use Rattle.rules.proofs.CoverLaws.{view-sound}
@@ -51,14 +52,15 @@ module _ (sorts functions rows : ℕ)
   pub classes-long : sorts ≤ length classes
   classes-long = rw (h .held .sorts-held .classes-are) (padded-long 32 sorts _ (omega (arith, sorts-few)))
 
-  -- The classes of all sorts are few.
+  -- The classes of all sorts, which are few.
+  count-is : firstClass classes sorts ≡ classCount t
+  count-is =
+      subst (λ (n : ℕ). firstClass classes n ≡ classCount t) (h .sorts-are)
+      (class-count-held t known kinds classes (h .names) declared costs unextractable hidden outputs arities arguments
+      rowFunctions subsumed cells (h .held))
+
   pub count-few : firstClass classes sorts ≤ 512
-  count-few =
-      rw (h .sorts-are) at
-      (let e = class-count-held t known kinds classes (h .names) declared costs unextractable hidden outputs arities
-      arguments rowFunctions subsumed cells (h .held) in
-      let d : firstClass classes (length (t .sorts)) ≤ 512 = omega (arith, e, known .few-classes) in
-      d)
+  count-few = omega (arith, count-is, known .few-classes)
 
   module _ (root : ℕ) (l : root < sorts) where
     below : root < length (t .sorts)
@@ -123,12 +125,14 @@ module _ (sorts functions rows : ℕ)
 
         -- What is laid is the rows that the root sort reaches.
         pub flattened :
-            (m : ℕ) (flat heads starts children : List ℕ) →
+            (m w : ℕ) (flat heads starts children : List ℕ) →
+            w ≡ firstClass classes sorts →
             Laid kinds bases declared costs outputs arities arguments rowFunctions cells (take n order) m flat heads starts
             children →
-            Flattened t root n m order flat heads starts children
-        flattened m flat heads starts children v = record {
+            Flattened t root n m w order flat heads starts children
+        flattened m w flat heads starts children e v = record {
           few = order-few;
+          classes-are = e ∙ count-is;
           order-room = filled .room;
           flat-room = omega (arith, order-length, v .classes-are .room);
           heads-room = omega (arith, order-length, v .heads-are .room);

@@ -17,10 +17,11 @@ pub record Space (order flat heads starts children : List ℕ) : Type 0 where
   pub starts-room : 1024 < length starts
   pub children-room : 8192 ≤ length children
 
--- n rows with m children in all, where the lists have so many: those that the root sort reaches, in scan order, over all classes
--- of the table, each with at most eight children.
-pub record Flattened (t : Table) (root n m : ℕ) (order flat heads starts children : List ℕ) : Type 0 where
+-- n rows with m children in all, where the lists have so many: those that the root sort reaches, in scan order, over all w
+-- classes of the table, each with at most eight children.
+pub record Flattened (t : Table) (root n m w : ℕ) (order flat heads starts children : List ℕ) : Type 0 where
   pub few : n ≤ length (t .rows)
+  pub classes-are : w ≡ classCount t
   pub order-room : n ≤ length order
   pub flat-room : n ≤ length flat
   pub heads-room : n ≤ length heads
@@ -37,10 +38,10 @@ abbrev pub Flattens :
     ℕ → ℕ → ℕ → ℕ →
     List ℕ → List ℕ → List ℕ → List ℕ → List ℕ → List ℕ →
     List ℕ → List ℕ → List ℕ → List ℕ → List ℕ → List ℕ →
-    ℕ → ℕ → List ℕ → List ℕ → List ℕ → List ℕ → List ℕ → Type 0
+    ℕ → ℕ → ℕ → List ℕ → List ℕ → List ℕ → List ℕ → List ℕ → Type 0
 Flattens sorts functions rows root kinds classes declared costs unextractable hidden outputs arities arguments rowFunctions
-    subsumed cells n m order flat heads starts children =
+    subsumed cells n m w order flat heads starts children =
     (t : Table) →
     Stands sorts functions rows kinds classes declared costs unextractable hidden outputs arities arguments rowFunctions
     subsumed cells t →
-    Flattened t root n m order flat heads starts children
+    Flattened t root n m w order flat heads starts children

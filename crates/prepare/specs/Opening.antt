@@ -16,18 +16,18 @@ use Rattle.prepare.specs.declared.Opened.the-variants.{Bad, Class, Liter
 abbrev pub rootIn : Opened → Root
 rootIn Bad = NoRoot
 rootIn (Literal i) = RootLiteral i
-rootIn (Class c n m) = RootClass c
+rootIn (Class c n m w) = RootClass c
 
--- P of the numbers of rows and children, where the answer is a class.
-abbrev pub OnClass : Opened → (ℕ → ℕ → Type 0) → Type 0
+-- P of the numbers of rows, children and classes, where the answer is a class.
+abbrev pub OnClass : Opened → (ℕ → ℕ → ℕ → Type 0) → Type 0
 OnClass Bad P = Unit {0}
 OnClass (Literal i) P = Unit {0}
-OnClass (Class c n m) P = P n m
+OnClass (Class c n m w) P = P n m w
 
 -- The answer is the table's root, and the lists hold the rows that its sort reaches.
 pub record OpenedOf (t : Table) (s v : ℕ) (r : Opened) (order flat heads starts children : List ℕ) : Type 0 where
   pub root-is : rootIn r ≡ rootOf t s v
-  pub reached : OnClass r (λ n m. Flattened t s n m order flat heads starts children)
+  pub reached : OnClass r (λ n m w. Flattened t s n m w order flat heads starts children)
 
 -- So of every table that stands in the arrays.
 abbrev pub Opens :

@@ -43,10 +43,11 @@ pub fn root_of(
     Root::Class(bases[s] + value)
 }
 
-// How many rows the root sort reaches, and how many children they have in all.
+// How many rows the root sort reaches, how many children they have in all, and how many classes the table has.
 pub struct Flat {
     pub rows: usize,
     pub children: usize,
+    pub classes: usize,
 }
 
 // The rows that the root sort reaches, in scan order: their numbers in the file, and as flat rows.
@@ -80,11 +81,11 @@ pub fn flatten(
     ensures { λ r. ⌜ Flattens sorts functions rows root (now (kinds .entry)) (now (classes .entry)) (now (declared .entry))
         (now (costs .entry)) (now (unextractable .entry)) (now (hidden .entry)) (now (outputs .entry))
         (now (arities .entry)) (now (arguments .entry)) (now (rowfunctions .entry)) (now (subsumed .entry))
-        (now (cells .entry)) (r .rows) (r .children) (now (order .exit)) (now (flat .exit)) (now (heads .exit))
-        (now (starts .exit)) (now (children .exit)) ⌝ }
+        (now (cells .entry)) (r .rows) (r .children) (r .classes) (now (order .exit)) (now (flat .exit))
+        (now (heads .exit)) (now (starts .exit)) (now (children .exit)) ⌝ }
 {
     let mut bases: [u64; 32] = [0; 32];
-    flatrows::classes::number_sorts(sorts, classes, &mut bases);
+    let total = flatrows::classes::number_sorts(sorts, classes, &mut bases);
     let n = scan::scan_rows(
         sorts,
         functions,
@@ -118,15 +119,16 @@ pub fn flatten(
     Flat {
         rows: n,
         children: m,
+        classes: total as usize,
     }
 }
 
 // What a root asks for: nothing of the table, a literal's index, or a flat class with the number of rows that its sort
-// reaches and of their children.
+// reaches, of their children and of all classes.
 pub enum Opened {
     Bad,
     Literal(u64),
-    Class(u64, usize, usize),
+    Class(u64, usize, usize, usize),
 }
 
 // The root of a sort and a value, and if it is a class, the rows that its sort reaches.
@@ -193,7 +195,7 @@ pub fn open(
                 starts,
                 children,
             );
-            Opened::Class(c, r.rows, r.children)
+            Opened::Class(c, r.rows, r.children, r.classes)
         }
     }
 }

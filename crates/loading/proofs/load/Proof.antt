@@ -15,9 +15,7 @@ use Rattle.loading.proofs.LoadLaws.{
   arguments-length,
   subsumed-length,
   stands-with,
-  loads-of-bad,
-  loads-of-literal,
-  loads-of-class,
+  loads-of-opened,
   loads-of-refused,
 }
 use borrow.Author.Needs.{needs}
@@ -169,14 +167,8 @@ open-requires c κs =
           .before .before .before .before .before .before .before .before .pre .1 .1,
     )
 
-enum-told : tie.Need-enum-told
-enum-told c = search needs
-
-enum-known-opened : tie.Need-enum-known-opened
-enum-known-opened c = search needs
-
-enum-known-opened-2 : tie.Need-enum-known-opened-2
-enum-known-opened-2 c = search needs
+answer-of-requires : tie.Need-answer-of-requires
+answer-of-requires c κs = search needs
 
 returns : tie.Need-returns
 returns c =
@@ -201,91 +193,12 @@ same-length-5 c = search needs
 
 returns-2 : tie.Need-returns-2
 returns-2 c =
-    let f = c .before .before .before .before .before .before .before .before .before .before .before .before
-    .before .before .before .before .before .before .before .before .before .before .before .before
-    .before .before .before .before .before .before .before .before .before .before .before .before
-    .before .before .before .before .before .before .before .before .before .before .before .before
-    .before .before .before .before .before .before .before .before .before .args .file .now in
-    let w = c .before .before .before .before .before .before .before .before .before .before .before .before
-    .before .before .before .before .before .before .before .before .before .before .before .before
-    .before .before .before .before .before .before .before .before .before .before .before .before .read-into in
-    let q = read-of (tableAt f) (w .ensures) (c .before .before .before .before .before .before .before .before .before .before .before .before
-    .before .before .before .before .before .before .before .before .before .before .before .before
-    .before .before .before .before .before .before .before .before .before .before .read2 .given .1) in
+    let f = c .before .before .before .before .before .before .before .before .before .before .before .before .before .before .before .before .before .before .before .before .before .before .before .before .before .before .before .before .before .before .before .before .before .before .before .before .before .before .before .before .before .before .before .before .before .before .before .before .before .before .before .before .before .before .before .before .args .file .now in
+    let q = read-of (tableAt f) (c .before .before .before .before .before .before .before .before .before .before .before .before .before .before .before .before .before .before .before .before .before .before .before .before .before .before .before .before .before .before .before .before .before .before .before .read-into .ensures) (c .before .before .before .before .before .before .before .before .before .before .before .before .before .before .before .before .before .before .before .before .before .before .before .before .before .before .before .before .before .before .before .before .before .read2 .given .1) in
     let ok = accepted-of f (q .is) in
-    let o = c .before .before .before .before .before .before .before .before .before .before .before .before .«open» in
+    let o = c .before .before .before .before .before .before .before .before .before .before .before .«open» in
     let v = o .ensures (q .table) (stands-with ok (q .held) (q .sorts-are) (q .literals-are) (q .functions-are) (q .rows-are)) in
-    loads-of-bad ok (q .held) _ _ (o .result) _ _ _ _ _ v (tableAt f) (q .place) (q .is) (c .enum-told .given .1)
-
-same-length-6 : tie.Need-same-length-6
-same-length-6 c = search needs
-
-same-length-7 : tie.Need-same-length-7
-same-length-7 c = search needs
-
-same-length-8 : tie.Need-same-length-8
-same-length-8 c = search needs
-
-same-length-9 : tie.Need-same-length-9
-same-length-9 c = search needs
-
-same-length-10 : tie.Need-same-length-10
-same-length-10 c = search needs
-
-returns-3 : tie.Need-returns-3
-returns-3 c =
-    let f = c .before .before .before .before .before .before .before .before .before .before .before .before
-    .before .before .before .before .before .before .before .before .before .before .before .before
-    .before .before .before .before .before .before .before .before .before .before .before .before
-    .before .before .before .before .before .before .before .before .before .before .before .before
-    .before .before .before .before .before .before .before .before .before .before .args .file .now in
-    let w = c .before .before .before .before .before .before .before .before .before .before .before .before
-    .before .before .before .before .before .before .before .before .before .before .before .before
-    .before .before .before .before .before .before .before .before .before .before .before .before
-    .before .read-into in
-    let q = read-of (tableAt f) (w .ensures) (c .before .before .before .before .before .before .before .before .before .before .before .before
-    .before .before .before .before .before .before .before .before .before .before .before .before
-    .before .before .before .before .before .before .before .before .before .before .before .read2 .given .1) in
-    let ok = accepted-of f (q .is) in
-    let o = c .before .before .before .before .before .before .before .before .before .before .before .before
-    .before .«open» in
-    let v = o .ensures (q .table) (stands-with ok (q .held) (q .sorts-are) (q .literals-are) (q .functions-are) (q .rows-are)) in
-    loads-of-literal ok (q .held) _ _ (o .result) _ _ _ _ _ v (tableAt f) (q .place) _ (q .is) (c .before .opened .given .1)
-
-same-length-11 : tie.Need-same-length-11
-same-length-11 c = search needs
-
-same-length-12 : tie.Need-same-length-12
-same-length-12 c = search needs
-
-same-length-13 : tie.Need-same-length-13
-same-length-13 c = search needs
-
-same-length-14 : tie.Need-same-length-14
-same-length-14 c = search needs
-
-same-length-15 : tie.Need-same-length-15
-same-length-15 c = search needs
-
-returns-4 : tie.Need-returns-4
-returns-4 c =
-    let f = c .before .before .before .before .before .before .before .before .before .before .before .before
-    .before .before .before .before .before .before .before .before .before .before .before .before
-    .before .before .before .before .before .before .before .before .before .before .before .before
-    .before .before .before .before .before .before .before .before .before .before .before .before
-    .before .before .before .before .before .before .before .before .before .before .args .file .now in
-    let w = c .before .before .before .before .before .before .before .before .before .before .before .before
-    .before .before .before .before .before .before .before .before .before .before .before .before
-    .before .before .before .before .before .before .before .before .before .before .before .before
-    .before .read-into in
-    let q = read-of (tableAt f) (w .ensures) (c .before .before .before .before .before .before .before .before .before .before .before .before
-    .before .before .before .before .before .before .before .before .before .before .before .before
-    .before .before .before .before .before .before .before .before .before .before .before .read2 .given .1) in
-    let ok = accepted-of f (q .is) in
-    let o = c .before .before .before .before .before .before .before .before .before .before .before .before
-    .before .«open» in
-    let v = o .ensures (q .table) (stands-with ok (q .held) (q .sorts-are) (q .literals-are) (q .functions-are) (q .rows-are)) in
-    loads-of-class ok (q .held) _ _ (o .result) _ _ _ _ _ v (tableAt f) (q .place) _ _ _ (q .is) (c .before .opened2 .given .1)
+    loads-of-opened ok (q .held) _ _ (o .result) _ _ _ _ _ v (tableAt f) (q .place) (q .is) _ (c .answer-of .ensures)
 
 pub load-spec : {M : Type 1} → statement M
 load-spec =
@@ -304,25 +217,11 @@ load-spec =
     slice-aggregate-open-8
     slice-aggregate-open-9
     open-requires
-    enum-told
-    enum-known-opened
-    enum-known-opened-2
+    answer-of-requires
     returns
     same-length
     same-length-2
     same-length-3
     same-length-4
     same-length-5
-    returns-2
-    same-length-6
-    same-length-7
-    same-length-8
-    same-length-9
-    same-length-10
-    returns-3
-    same-length-11
-    same-length-12
-    same-length-13
-    same-length-14
-    same-length-15
-    returns-4)
+    returns-2)

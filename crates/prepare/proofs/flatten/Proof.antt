@@ -114,8 +114,8 @@ returns c t h =
     (a .rowfunctions .now) (a .subsumed .now) (a .cells .now) t h
     (a .root) (g .pre .1 .0) (w .result) (w .last .1 .1 .1 .1 .1 .1 .1 .1 .1 .1 .1 .0) (w .ensures)
     (u .last .1 .1 .0) (u .ensures .1) long
-    (v .result) (v .last .1 .1 .1 .1 .1 .1 .1 .1 .1 .1 .0) (v .last .1 .1 .1 .1 .1 .1 .1 .1 .1 .1 .1 .0)
-    (v .last .1 .1 .1 .1 .1 .1 .1 .1 .1 .1 .1 .1 .0) (v .last .1 .1 .1 .1 .1 .1 .1 .1 .1 .1 .1 .1 .1 .0) (v .ensures)
+    (v .result) _ (v .last .1 .1 .1 .1 .1 .1 .1 .1 .1 .1 .0) (v .last .1 .1 .1 .1 .1 .1 .1 .1 .1 .1 .1 .0)
+    (v .last .1 .1 .1 .1 .1 .1 .1 .1 .1 .1 .1 .1 .0) (v .last .1 .1 .1 .1 .1 .1 .1 .1 .1 .1 .1 .1 .1 .0) (u .ensures .0) (v .ensures)
 
 pub flatten-spec : {M : Type 1} → statement M
 flatten-spec =

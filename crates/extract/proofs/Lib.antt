@@ -1,0 +1,4 @@
+-- The laws of the crate `extract`.
+pub mod TableLaws
+pub mod RootLaws
+pub mod CallLaws

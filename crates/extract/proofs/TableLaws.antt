@@ -1,0 +1,155 @@
+-- The lists that a loaded table leaves are a flat table. Assumes nothing.
+use mathlib.Core.Path.{_≡_, refl, ap, sym, _∙_, subst}
+use mathlib.Core.List.{List, _∷_, _++_, append-assoc, map}
+use Prim.Native.Nat.{ℕ, suc, _+_, _*_, _-_, _<_, _≤_}
+use native.Mathlib.Nat.{add-zero}
+use native.Mathlib.Omega.{arith}
+use lib.IntN.{ℤ, pos}
+use lib.ListN.{length, getD, take, drop, replicate, length-map}
+use lib.Seq.{length-take-le, getD-drop, drop-drop, take-append-seam}
+use Rattle.names.specs.Entries.{lengthAt, nameAt, entry}
+use Rattle.names.proofs.EntryLaws.{entry-length}
+use Rattle.adding.proofs.NamingLaws.{valid-short}
+use Rattle.format.specs.Table.{Function, Row, Table}
+use Rattle.format.specs.Every.{Every}
+use Rattle.format.specs.Arrays.{padWith, pad, blocks}
+use Rattle.format.proofs.ArraysLaws.{padWith-length, padWith-get}
+use Rattle.format.proofs.BlockLaws.{every-map, blocks-drop, blocks-length}
+use Rattle.rules.specs.Classes.{classCount}
+use Rattle.rules.specs.Rows.{noFunction, noTableRow, functionOf, tableRowOf}
+use Rattle.rules.specs.Terms.{literalOf, nameOf}
+use Rattle.rules.specs.Facts.{Known}
+use Rattle.held.proofs.PlaceLaws.{pad-map-get}
+use Rattle.held.proofs.HeldLaws.{every-of-get}
+use Rattle.prepare.specs.Flattened.{Flattened}
+use Rattle.loading.specs.Loading.{OnClass, Standing}
+use Rattle.loading.specs.declared.Loaded.{Loaded}
+use Rattle.loading.specs.declared.Loaded.the-variants.{Class}
+use Rattle.best.specs.Flat.{FlatTable}
+use Rattle.extract.specs.Answered.{FlatClass}
+
+-- The functions' names in an array of n bytes, 32 for each.
+module _
+    (n : ℕ) (fs : List Function) (short : Every (λ (f : Function). length (f .name) ≤ 31) fs) (d : Function) (k : ℕ)
+    (h : k < length fs) where
+  abbrev labelled : List ℕ
+  labelled = pad n (blocks (λ (f : Function). entry (f .name)) fs)
+
+  abbrev name : List ℕ
+  name = getD fs k d .name
+
+  label-drop : (rest : List ℕ) × (drop (k * 32) labelled ≡ length name ∷ (name ++ rest))
+  unfolding padWith entry
+  label-drop =
+      let b : List ℕ = blocks (λ (f : Function). entry (f .name)) fs in
+      let z : List ℕ = replicate (n - length b) 0 in
+      let w = every-map (λ (f : Function) (l : length (f .name) ≤ 31). entry-length (f .name) l) short in
+      let e = blocks-drop (λ (f : Function). entry (f .name)) 32 w k d z h in (
+        replicate (31 - length name) 0 ++ (blocks (λ (f : Function). entry (f .name)) (drop (suc k) fs) ++ z),
+        e
+            ∙ ap (λ (x : List ℕ). length name ∷ x)
+            (append-assoc name (replicate (31 - length name) 0)
+            (blocks (λ (f : Function). entry (f .name)) (drop (suc k) fs) ++ z)),
+      )
+
+  pub label-length : lengthAt labelled k ≡ length name
+  label-length =
+      ap (λ (i : ℕ). getD labelled i 0) (sym (add-zero (k * 32)))
+      ∙ sym (getD-drop (k * 32) labelled 0 0)
+      ∙ ap (λ (x : List ℕ). getD x 0 0) (label-drop .1)
+
+  pub label-name : nameAt labelled k ≡ name
+  unfolding nameAt
+  label-name =
+      let e : k * 32 + 1 + lengthAt labelled k - (k * 32 + 1) ≡ length name = omega (arith, label-length) in
+      ap (λ (j : ℕ). take j (drop (k * 32 + 1) labelled)) e
+      ∙ ap (take (length name)) (sym (drop-drop 1 (k * 32) labelled) ∙ ap (drop 1) (label-drop .1))
+      ∙ take-append-seam name (label-drop .0)
+
+module _
+    (t : Table) (known : Known t) (root : ℕ) (r : Loaded) (values : List ℤ)
+    (labels arities functions cells order flat heads starts children : List ℕ)
+    (h : Standing t root r values labels arities functions cells order flat heads starts children) where
+  short-names : Every (λ (f : Function). length (f .name) ≤ 31) (t .functions)
+  short-names =
+      every-of-get (λ (f : Function). length (f .name) ≤ 31) (t .functions) noFunction
+      (λ f l. valid-short (functionOf t f .name) (known .name f l))
+
+  pub functions-length : 1024 ≡ length functions
+  functions-length =
+      rw (h .row-functions-are)
+      (sym (padWith-length 0 1024 (map (λ (x : Row). x .function) (t .rows))
+      (omega (arith, length-map (t .rows) (λ (x : Row). x .function), known .few-rows))))
+
+  pub labels-length : 4096 ≡ length labels
+  labels-length =
+      let w = every-map (λ (f : Function) (l : length (f .name) ≤ 31). entry-length (f .name) l) short-names in
+      let b = blocks-length (λ (f : Function). entry (f .name)) 32 w in
+      rw (h .names-are)
+      (sym (padWith-length 0 4096 (blocks (λ (f : Function). entry (f .name)) (t .functions))
+      (omega (arith, b, known .few-functions))))
+
+  pub values-length : 512 ≡ length values
+  values-length =
+      rw (h .literals-held .literals-are)
+      (sym (padWith-length (pos 0) 512 (t .literals) (omega (arith, known .few-literals))))
+
+  pub value-is : (i : ℕ) → i < length (t .literals) → getD values i (pos 0) ≡ literalOf t i
+  value-is i l = rw (h .literals-held .literals-are) (padWith-get (pos 0) 512 (t .literals) i (pos 0) l)
+
+  function-is : (i : ℕ) → getD functions i 0 ≡ tableRowOf t i .function
+  function-is i =
+      rw (h .row-functions-are) (pad-map-get (λ (x : Row). x .function) noTableRow refl 1024 (t .rows) i)
+
+  name-is : (f : ℕ) → f < length (t .functions) → nameAt labels f ≡ functionOf t f .name
+  name-is f l = rw (h .names-are) (label-name 4096 (t .functions) short-names noFunction f l)
+
+  length-is : (f : ℕ) → f < length (t .functions) → lengthAt labels f ≡ length (functionOf t f .name)
+  length-is f l = rw (h .names-are) (label-length 4096 (t .functions) short-names noFunction f l)
+
+  -- A row's function, and its name among the labels.
+  row-function : (i : ℕ) → i < length (t .rows) → getD functions i 0 < length (t .functions)
+  row-function i l = omega (arith, known .function i l, function-is i)
+
+  row-name : (i : ℕ) → i < length (t .rows) → nameAt labels (getD functions i 0) ≡ nameOf t i
+  row-name i l =
+      name-is (getD functions i 0) (row-function i l) ∙ ap (λ (f : ℕ). functionOf t f .name) (function-is i)
+
+  -- The lists of a class.
+  module _ (c n m w : ℕ) (e : r ≡ Class c n m w) (below : root < length (t .sorts)) where
+    laid : Flattened t root n m w order flat heads starts children
+    laid =
+        subst (λ (x : Loaded). OnClass x (λ n m w. Flattened t root n m w order flat heads starts children)) e
+        (h .reached)
+
+    flat-table :
+        FlatTable t root (take n flat) (take n heads) (take (n + 1) starts) (take m children) (take n order) functions
+        labels values
+    flat-table = record {
+      known = known;
+      root-below = below;
+      rows-are = laid .rows-are;
+      flat = laid .flat-ok;
+      order-is = laid .order-is;
+      arity = λ i l. laid .arity i (omega (arith, length-take-le n order (laid .order-room)));
+      functions-long = omega (arith, known .few-rows, functions-length);
+      functions-few = omega (arith, functions-length);
+      label = row-name;
+      label-place = λ i l. omega (arith, row-function i l, known .few-functions, labels-length);
+      label-short = λ i l.
+          omega (
+            arith,
+            length-is (getD functions i 0) (row-function i l),
+            valid-short (functionOf t (getD functions i 0) .name) (known .name (getD functions i 0) (row-function i l)),
+          );
+      values-length = omega (arith, known .few-literals, values-length);
+      value = value-is;
+    }
+
+    pub flat-class :
+        c < classCount t → FlatClass t root c n m w order flat heads starts children functions labels values
+    flat-class l = record {
+      flattened = laid;
+      is = flat-table;
+      class = subst (λ (x : ℕ). c < x) (sym (laid .classes-are)) l;
+    }
