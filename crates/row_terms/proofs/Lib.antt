@@ -1,0 +1,3 @@
+-- The laws of the crate `row_terms`.
+pub mod ChildLaws
+pub mod TurnLaws

@@ -1,0 +1,98 @@
+-- The terms of rows in turn, over flat lists, and all or nothing. Document 01, 'Costs and choice'. Assumes nothing:
+-- definitions.
+use Prim.Native.Nat.{ℕ, _+_, _<_, _≤_}
+use mathlib.Core.Path.{_≡_}
+use mathlib.Core.Bool.{true}
+use mathlib.Core.List.{List, [], _∷_, _++_, map}
+use lib.IntN.{ℤ}
+use lib.ListN.{length, getD, replicate}
+use Rattle.names.specs.Entries.{nameAt}
+use Rattle.store.specs.Lent.{Store, store}
+use Rattle.store.specs.WellFormed.{wellFormed}
+use Rattle.relax.specs.Flat.{partOf}
+use Rattle.build.specs.Plan.{Child, Plan, childOf}
+use Rattle.build.specs.Building.{State, state, Out, done, full, childrenIn, buildIn}
+use Rattle.build.specs.Standing.{Stuck}
+use Rattle.build.specs.Ready.{Planned}
+use Rattle.answers.specs.Variants.{ownVariant}
+use Rattle.row_terms.specs.Rows.{Deep, RowIn}
+use Rattle.variant_terms.specs.declared.Turned.{Turned}
+use Rattle.variant_terms.specs.declared.Turned.the-variants.{All, Full}
+
+-- The function of row i of the scan order: `order` has its number in the file, `functions` the function of each row
+-- there.
+abbrev pub functionIn : List ℕ → List ℕ → ℕ → ℕ
+functionIn order functions i = getD functions (getD order i 0) 0
+
+-- Its name, and its children.
+abbrev pub nameIn : List ℕ → List ℕ → List ℕ → ℕ → List ℕ
+nameIn labels order functions i = nameAt labels (functionIn order functions i)
+
+abbrev pub kidsIn : List ℤ → List ℕ → List ℕ → ℕ → List Child
+kidsIn values starts children i = map (childOf values) (partOf starts children i)
+
+-- The terms of rows in turn, after those that have the numbers ts. d bounds the depth.
+unfoldable pub rowsIn : Plan → ℕ → (ℕ → List ℕ) → (ℕ → List Child) → State → List ℕ → List ℕ → Out (List ℕ)
+rowsIn p d name kids s ts [] = done ts s
+rowsIn p d name kids s ts (i ∷ rows) =
+    elim (ownVariant (name i) (childrenIn (buildIn p d) s [] (kids i))) [
+      | done u s′ ↦ rowsIn p d name kids s′ (ts ++ (u ∷ [])) rows
+      | full me rs ls ns ↦ full me rs ls ns
+    ]
+
+-- Row i of the scan order stands in the flat lists and can be built.
+pub record Listed
+    (ranks labels : List ℕ) (values : List ℤ) (starts children order functions : List ℕ) (i : ℕ) : Type 0 where
+  pub place : i < length order
+  pub starts-long : i + 1 < length starts
+  pub rise : getD starts i 0 ≤ getD starts (i + 1) 0
+  pub inside : getD starts (i + 1) 0 ≤ length children
+  pub row : getD order i 0 < length functions
+  pub is : RowIn ranks labels values (functionIn order functions i) (partOf starts children i)
+
+-- So does each row of a list.
+abbrev pub AllListed : List ℕ → List ℕ → List ℤ → List ℕ → List ℕ → List ℕ → List ℕ → List ℕ → Type 0
+AllListed ranks labels values starts children order functions list =
+    (j : ℕ) → j < length list → Listed ranks labels values starts children order functions (getD list j 0)
+
+-- An answer, with the terms' numbers and what was lent as it was left.
+abbrev pub seenAll : Turned → List ℕ → List ℕ → List ℕ → List ℤ → List ℕ → Out (List ℕ)
+seenAll (All n m) ts me rs ls ns = done ts (state me (store rs ls ns n m))
+seenAll Full ts me rs ls ns = full me rs ls ns
+
+-- Where a term had no room, the store was left as it was then.
+abbrev pub LeftStuck : Store → Out (List ℕ) → Type 0
+LeftStuck s (done ts s′) = Unit {0}
+LeftStuck s (full me rs ls ns) = Stuck s rs ls ns
+
+-- The rows were built as the definition builds them, at every depth that is enough.
+pub record RowsMade
+    (p : Plan) (ranks : List ℕ) (name : ℕ → List ℕ) (kids : ℕ → List Child) (rows : List ℕ) (s : State)
+    (o : Out (List ℕ)) : Type 0 where
+  pub same : (d : ℕ) → Deep ranks d → rowsIn p d name kids s [] rows ≡ o
+  pub stuck : LeftStuck (s .lent) o
+
+-- All the terms' numbers and the store then, or nothing and the store as it was.
+pub data Wholly : Type 0 where
+  whole : List ℕ → Store → Wholly
+  nothing : Store → Wholly
+
+-- "Nothing lent is changed" where there is no room.
+unfoldable pub wholly : Store → Out (List ℕ) → Wholly
+wholly s (done ts s′) = whole ts (s′ .lent)
+wholly s (full me rs ls ns) = nothing s
+
+abbrev pub seenWholly : Turned → List ℕ → List ℕ → List ℤ → List ℕ → ℕ → ℕ → Wholly
+seenWholly (All n m) ts rs ls ns terms symbols = whole ts (store rs ls ns n m)
+seenWholly Full ts rs ls ns terms symbols = nothing (store rs ls ns terms symbols)
+
+-- What one call asks of the plan and the store: a plan for every class with a rank, all below 512.
+pub record Steady (plan ranks labels : List ℕ) (values : List ℤ) (s : Store) : Type 0 where
+  pub planned : (k : ℕ) → 0 < getD ranks k 0 → Planned plan ranks labels values k
+  pub inside : (k : ℕ) → 0 < getD ranks k 0 → k < 512
+  pub formed : wellFormed s ≡ true
+
+-- The rows as one call, by a memo that names no class.
+abbrev pub RowsWhole : Plan → List ℕ → (ℕ → List ℕ) → (ℕ → List Child) → List ℕ → Store → Wholly → Type 0
+RowsWhole p ranks name kids rows s w =
+    (d : ℕ) → Deep ranks d → wholly s (rowsIn p d name kids (state (replicate 512 0) s) [] rows) ≡ w
