@@ -98,6 +98,7 @@ module _ (t : Table) (k : Known t) (root : ℕ) (h : root < length (t .sorts)) (
           cost = refl;
           tree = renumber (scanOrder t root) (tree .tree);
           cheapest = tree .cheapest;
+          below = d .stands .below;
           means =
               subst (λ (x : Term). Means (store rs ls ns n m) i x) (childTree-unique (d .stands .of) chosen)
               (d .stands .means);

@@ -1,7 +1,7 @@
 -- Demand 3 of document 00, of what best answers: in its own words, over the table and the returned store.
 -- Assumes nothing: definitions.
 use mathlib.Core.Path.{_≡_}
-use Prim.Native.Nat.{ℕ}
+use Prim.Native.Nat.{ℕ, _<_}
 use Rattle.refusals.specs.declared.Refusal.the-variants.{NoTerm, TooDear}
 use Rattle.store.specs.Lent.{Store}
 use Rattle.store.specs.Nodes.{Node, Means}
@@ -22,6 +22,7 @@ pub record ComesBack (t : Table) (c w : ℕ) (s : Store) (b : BestTerm) (s′ : 
   pub cost : b .cost ≡ w
   pub tree : Tree
   pub cheapest : Cheapest (tableRows t) (usable t) c w tree
+  pub below : b .term < s′ .terms
   pub means : Means s′ (b .term) (termOf t tree)
   pub grows : Grows s s′
 

@@ -2,3 +2,7 @@
 pub mod TableLaws
 pub mod RootLaws
 pub mod CallLaws
+pub mod VerdictLaws
+pub mod WayLaws
+pub mod DeterminedLaws
+pub mod Promises

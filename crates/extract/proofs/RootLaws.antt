@@ -4,7 +4,7 @@ use mathlib.Core.Bool.{true, false, _&&_}
 use mathlib.Core.List.{List}
 use Prim.Native.Nat.{ℕ, _<_}
 use native.Mathlib.Omega.{arith}
-use borrow.Author.Tests.{ltb-true, eqb-false}
+use borrow.Author.Tests.{ltb-true, lt-ltb, eqb-false}
 use lib.Dec.{eqb, ltb}
 use lib.ListN.{length}
 use Rattle.refusals.specs.declared.Refusal.{Refusal}
@@ -47,7 +47,7 @@ module _ (t : Table) (s v : ℕ) where
   unfolding rootOf
   root-class p q = rw (p, q, rootOf)
 
-  sort-below : isRoot t s v ≡ true → s < length (t .sorts)
+  pub sort-below : isRoot t s v ≡ true → s < length (t .sorts)
   unfolding isRoot
   sort-below p = ltb-true s (length (t .sorts)) (and-first (ltb s (length (t .sorts))) (ltb v (rangeOf t s)) p)
 
@@ -55,38 +55,45 @@ module _ (t : Table) (s v : ℕ) where
   unfolding isRoot
   value-below p = ltb-true v (rangeOf t s) (and-second (ltb s (length (t .sorts))) (ltb v (rangeOf t s)) p)
 
-  literal-below : isRoot t s v ≡ true → eqb (sortOf t s .kind) 0 ≡ true → v < length (t .literals)
+  pub literal-below : isRoot t s v ≡ true → eqb (sortOf t s .kind) 0 ≡ true → v < length (t .literals)
   unfolding rangeOf
   literal-below p q = rw (q, rangeOf) at (value-below p)
 
+  pub value-in-sort : isRoot t s v ≡ true → eqb (sortOf t s .kind) 0 ≡ false → v < sortOf t s .classes
+  value-in-sort p q =
+      subst (λ (n : ℕ). v < n) (rangeOf-eq t s (eqb-false (sortOf t s .kind) 0 q)) (value-below p)
+
   class-below : isRoot t s v ≡ true → eqb (sortOf t s .kind) 0 ≡ false → flatClass t s v < classCount t
-  class-below p q =
-      flatClass-below t s v (sort-below p)
-      (subst (λ (n : ℕ). v < n) (rangeOf-eq t s (eqb-false (sortOf t s .kind) 0 q)) (value-below p))
+  class-below p q = flatClass-below t s v (sort-below p) (value-in-sort p q)
+
+  -- A sort of the table and a value in its range are a root.
+  pub root-in : s < length (t .sorts) → v < rangeOf t s → isRoot t s v ≡ true
+  unfolding isRoot
+  root-in h l = rw (lt-ltb s (length (t .sorts)) h, lt-ltb v (rangeOf t s) l)
 
 -- What best answers, by the file, the root and its kind.
 module _ (file : List ℕ) (s v : ℕ) (lent : Store) where
-  best-fault : (x : Refusal) → tableAt file ≡ fault x → bestAt file s v lent ≡ refused x lent
+  pub best-fault : (x : Refusal) → tableAt file ≡ fault x → bestAt file s v lent ≡ refused x lent
   unfolding bestAt
   best-fault x e = rw (e, bestAt)
 
   module _ (t : Table) (k : ℕ) (e : tableAt file ≡ got t k) where
-    best-bad : isRoot t s v ≡ false → bestAt file s v lent ≡ refused BadRoot lent
+    pub best-bad : isRoot t s v ≡ false → bestAt file s v lent ≡ refused BadRoot lent
     unfolding bestAt
     best-bad p = rw (e, p, bestAt)
 
     module _ (p : isRoot t s v ≡ true) where
-      best-rooted : bestAt file s v lent ≡ ifFormed lent (bestOf t s v lent)
+      pub best-rooted : bestAt file s v lent ≡ ifFormed lent (bestOf t s v lent)
       unfolding bestAt ifFormed
       best-rooted = rw (e, p, bestAt)
 
-      best-literal : eqb (sortOf t s .kind) 0 ≡ true → bestAt file s v lent ≡ literalAnswer (literalOf t v) lent
+      pub best-literal : eqb (sortOf t s .kind) 0 ≡ true → bestAt file s v lent ≡ literalAnswer (literalOf t v) lent
       unfolding bestOf
       best-literal q =
           let d : bestOf t s v lent ≡ bestLiteral lent (add lent (literal (literalOf t v))) = rw (q, bestOf) in
           best-rooted ∙ ap (ifFormed lent) d
 
-      best-class :
+      pub best-class :
           eqb (sortOf t s .kind) 0 ≡ false → bestAt file s v lent ≡ classAnswer t s (flatClass t s v) lent
       unfolding bestOf
       best-class q =

@@ -86,7 +86,8 @@ fn choose(
         (now labels) (now values) w c (store (now records) (now literals) (now names) terms symbols) ⌝ }
     ensures { λ r. ⌜ BestAnswers (now (outputs .entry)) (now (heads .entry)) (now (starts .entry))
         (now (children .entry)) (now (order .entry)) (now (functions .entry)) (now (labels .entry))
-        (now (values .entry)) w c (store (now (records .entry)) (now (literals .entry)) (now (names .entry)) terms symbols)
+        (now (values .entry)) w c
+        (store (now (records .entry)) (now (literals .entry)) (now (names .entry)) terms symbols)
         (seenBest r (now (records .exit)) (now (literals .exit)) (now (names .exit)) terms symbols) ⌝ }
 {
     let mut costs: [u64; 512] = [0; 512];

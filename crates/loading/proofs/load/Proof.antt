@@ -108,7 +108,8 @@ slice-aggregate-open-6 c =
     .before .before .before .before .before .before .before .before .before .before .before .before
     .before .before .before .before .before .before .args .file .now in
     let w = c .before .before .before .before .before .before .before .before .before .read-into in
-    let q = read-of (tableAt f) (w .ensures) (c .before .before .before .before .before .before .before .read2 .given .1) in
+    let q = read-of (tableAt f) (w .ensures) (c .before .before .before .before .before .before .before .read2 .given
+    .1) in
     let ok = accepted-of f (q .is) in
     hidden-length ok (q .held)
 
@@ -118,7 +119,8 @@ slice-aggregate-open-7 c =
     .before .before .before .before .before .before .before .before .before .before .before .before
     .before .before .before .before .before .before .before .args .file .now in
     let w = c .before .before .before .before .before .before .before .before .before .before .read-into in
-    let q = read-of (tableAt f) (w .ensures) (c .before .before .before .before .before .before .before .before .read2 .given .1) in
+    let q = read-of (tableAt f) (w .ensures) (c .before .before .before .before .before .before .before .before
+    .read2 .given .1) in
     let ok = accepted-of f (q .is) in
     outputs-length ok (q .held)
 
@@ -129,7 +131,8 @@ slice-aggregate-open-8 c =
     .before .before .before .before .before .before .before .before .before .before .args .file .now in
     let w = c .before .before .before .before .before .before .before .before .before .before .before .before
     .before .read-into in
-    let q = read-of (tableAt f) (w .ensures) (c .before .before .before .before .before .before .before .before .before .before .before .read2 .given .1) in
+    let q = read-of (tableAt f) (w .ensures) (c .before .before .before .before .before .before .before .before
+    .before .before .before .read2 .given .1) in
     let ok = accepted-of f (q .is) in
     arguments-length ok (q .held)
 
@@ -141,7 +144,8 @@ slice-aggregate-open-9 c =
     .before .args .file .now in
     let w = c .before .before .before .before .before .before .before .before .before .before .before .before
     .before .before .before .before .read-into in
-    let q = read-of (tableAt f) (w .ensures) (c .before .before .before .before .before .before .before .before .before .before .before .before
+    let q = read-of (tableAt f) (w .ensures) (c .before .before .before .before .before .before .before .before
+    .before .before .before .before
     .before .before .read2 .given .1) in
     let ok = accepted-of f (q .is) in
     subsumed-length ok (q .held)
@@ -154,7 +158,8 @@ open-requires c κs =
     .before .before .before .before .before .before .before .before .args .file .now in
     let w = c .before .before .before .before .before .before .before .before .before .before .before .before
     .before .before .before .before .before .before .before .before .before .before .before .read-into in
-    let q = read-of (tableAt f) (w .ensures) (c .before .before .before .before .before .before .before .before .before .before .before .before
+    let q = read-of (tableAt f) (w .ensures) (c .before .before .before .before .before .before .before .before
+    .before .before .before .before
     .before .before .before .before .before .before .before .before .before .read2 .given .1) in
     let ok = accepted-of f (q .is) in (
       record {
@@ -173,8 +178,10 @@ answer-of-requires c κs = search needs
 returns : tie.Need-returns
 returns c =
     let f = c .before .before .before .before .before .before .before .before .before .before .before .before
-    .before .before .before .before .before .before .before .before .before .before .before .before .args .file .now in
-    loads-of-refused (tableAt f) _ _ _ _ _ _ _ _ _ _ _ _ (c .before .before .before .read-into .ensures) (c .before .read .given .1)
+    .before .before .before .before .before .before .before .before .before .before .before .before .args .file .now
+    in
+    loads-of-refused (tableAt f) _ _ _ _ _ _ _ _ _ _ _ _ (c .before .before .before .read-into .ensures) (c .before
+    .read .given .1)
 
 same-length : tie.Need-same-length
 same-length c = search needs
@@ -193,11 +200,21 @@ same-length-5 c = search needs
 
 returns-2 : tie.Need-returns-2
 returns-2 c =
-    let f = c .before .before .before .before .before .before .before .before .before .before .before .before .before .before .before .before .before .before .before .before .before .before .before .before .before .before .before .before .before .before .before .before .before .before .before .before .before .before .before .before .before .before .before .before .before .before .before .before .before .before .before .before .before .before .before .before .args .file .now in
-    let q = read-of (tableAt f) (c .before .before .before .before .before .before .before .before .before .before .before .before .before .before .before .before .before .before .before .before .before .before .before .before .before .before .before .before .before .before .before .before .before .before .before .read-into .ensures) (c .before .before .before .before .before .before .before .before .before .before .before .before .before .before .before .before .before .before .before .before .before .before .before .before .before .before .before .before .before .before .before .before .before .read2 .given .1) in
+    let f = c .before .before .before .before .before .before .before .before .before .before .before .before .before
+    .before .before .before .before .before .before .before .before .before .before .before .before .before .before
+    .before .before .before .before .before .before .before .before .before .before .before .before .before .before
+    .before .before .before .before .before .before .before .before .before .before .before .before .before .before
+    .before .args .file .now in
+    let q = read-of (tableAt f) (c .before .before .before .before .before .before .before .before .before .before
+    .before .before .before .before .before .before .before .before .before .before .before .before .before .before
+    .before .before .before .before .before .before .before .before .before .before .before .read-into .ensures) (c
+    .before .before .before .before .before .before .before .before .before .before .before .before .before .before
+    .before .before .before .before .before .before .before .before .before .before .before .before .before .before
+    .before .before .before .before .before .read2 .given .1) in
     let ok = accepted-of f (q .is) in
     let o = c .before .before .before .before .before .before .before .before .before .before .before .«open» in
-    let v = o .ensures (q .table) (stands-with ok (q .held) (q .sorts-are) (q .literals-are) (q .functions-are) (q .rows-are)) in
+    let v = o .ensures (q .table) (stands-with ok (q .held) (q .sorts-are) (q .literals-are) (q .functions-are) (q
+    .rows-are)) in
     loads-of-opened ok (q .held) _ _ (o .result) _ _ _ _ _ v (tableAt f) (q .place) (q .is) _ (c .answer-of .ensures)
 
 pub load-spec : {M : Type 1} → statement M
