@@ -1,0 +1,3 @@
+-- The laws of the crate `answering`.
+pub mod CallLaws
+pub mod AnswerLaws
