@@ -1,10 +1,10 @@
 // Makes each call of data/calls.bin on its store, with `texts::plain_text` or `texts::let_text`, and writes the answer:
-// `plain` and the length, or `let`, the next unused count and the length, and the text on the lines after it; or `refused`
-// and the number. Calls and answers are recorded ones of the oracle; scripts/text-calls takes them from
+// `plain` and the length, or `let`, the next unused count and the length, and the text on the lines after it; or else
+// `refused` and the number. Calls and answers are recorded ones of the oracle; scripts/text-calls takes them from
 // examples/recorded/terms-0.bin.
 //
 // In calls.bin each call stands after its length, two bytes, the higher first. Its bytes are: 0 for plain text or 1 for
-// let text; the zero flag; the lengths of prefix and hint; how many records are lent; a zero; then two bytes each, terms,
+// let text; the zero flag; the lengths of prefix and hint; how many records are lent; a zero; two bytes each, terms,
 // symbols, the term and the room; eight bytes, the start count; prefix; hint; a byte for each number of the records;
 // eight bytes for each literal; and the names.
 ghost use Prim.Native.Nat.{_+_, _≤_};
