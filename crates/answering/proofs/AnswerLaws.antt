@@ -17,11 +17,8 @@ use Rattle.replies.specs.Reply.{emptyStore, emptyLending, callOf, answerTo, inR
 use Rattle.replies.specs.Seen.{seen}
 use Rattle.replies.specs.declared.Answered.{Answered}
 use Rattle.replies.specs.declared.Answered.the-variants.{Written, Refused}
-use Rattle.answering.specs.Calls.{bestTold, bestCall, variantsCall}
+use Rattle.answering.specs.Calls.{asked, bestTold, bestCall, variantsTold, variantsCall}
 use Rattle.answering.proofs.CallLaws.{refusal-stays}
-
-abbrev query : ℕ → ℕ → ℕ → ℕ → Query
-query m s v n = record { mode = m; sort = s; value = v; most = n }
 
 module _ (input out : List ℕ) where
   by-answer : (a : Answer (List ℕ)) → answerTo input ≡ a → replied input out ≡ putIn (inRoom (length out) a) out
@@ -34,24 +31,38 @@ module _ (input out : List ℕ) where
       sym (by-answer (refusal (refusalNo r)) (rw (sym e, answerTo) refl) ∙ refusal-stays (refusalNo r) out)
 
   -- the table file is what follows the query's three bytes
-  pub file-is : (m s v n : ℕ) → got (query m s v n) 24 ≡ queryAt input → (3 ≤ length input) × (take (length input - 3) (drop 3 input) ≡ drop 3 input)
+  pub file-is : (m s v n : ℕ) → got (asked m s v n) 24 ≡ queryAt input → (3 ≤ length input) × (take (length input - 3) (drop 3 input) ≡ drop 3 input)
   file-is m s v n e =
-      let l : 3 ≤ length input = query-long input (query m s v n) 24 (sym e) in
+      let l : 3 ≤ length input = query-long input (asked m s v n) 24 (sym e) in
       (l, take-all (length input - 3) (drop 3 input) (omega (arith, length-drop 3 input)))
 
-  module _ (m s v n : ℕ) (e : got (query m s v n) 24 ≡ queryAt input) (r : Answered) (after : List ℕ) where
-    pub best-replied :
-        eqb m 1 ≡ false →
-        seen r after ≡ putIn (inRoom (length out) (bestCall (eqb m 2) (drop 3 input) s v)) out →
-        seen r after ≡ replied input out
-    unfolding answerTo callOf bestCall bestTold
-    best-replied b h =
-        h ∙ sym (by-answer (bestCall (eqb m 2) (drop 3 input) s v) (rw (sym e, answerTo) (rw (b, callOf) refl)))
+  -- what the mode's call answers is the reply
+  pub query-replied :
+      (m s v n : ℕ) →
+      got (asked m s v n) 24 ≡ queryAt input →
+      (r : Answered) (after file : List ℕ) →
+      file ≡ drop 3 input →
+      seen r after ≡ putIn (inRoom (length out) (callOf (asked m s v n) file)) out →
+      seen r after ≡ replied input out
+  unfolding answerTo
+  query-replied m s v n e r after file f h =
+      h
+      ∙ sym
+      (by-answer (callOf (asked m s v n) file)
+      (rw (sym e, answerTo) (ap (callOf (asked m s v n)) (sym f))))
 
-    pub variants-replied :
-        eqb m 1 ≡ true →
-        seen r after ≡ putIn (inRoom (length out) (variantsCall (drop 3 input) s v n)) out →
-        seen r after ≡ replied input out
-    unfolding answerTo callOf variantsCall
-    variants-replied b h =
-        h ∙ sym (by-answer (variantsCall (drop 3 input) s v n) (rw (sym e, answerTo) (rw (b, callOf) refl)))
+-- The call by its mode.
+module _ (m s v n : ℕ) (file out : List ℕ) (r : Answered) (after : List ℕ) where
+  pub best-by-mode :
+      eqb m 1 ≡ false →
+      seen r after ≡ putIn (inRoom (length out) (bestCall (eqb m 2) file s v)) out →
+      seen r after ≡ putIn (inRoom (length out) (callOf (asked m s v n) file)) out
+  unfolding callOf bestCall bestTold
+  best-by-mode b h = h ∙ ap (λ (x : Answer (List ℕ)). putIn (inRoom (length out) x) out) (sym (rw (b, callOf) refl))
+
+  pub variants-by-mode :
+      eqb m 1 ≡ true →
+      seen r after ≡ putIn (inRoom (length out) (variantsCall file s v n)) out →
+      seen r after ≡ putIn (inRoom (length out) (callOf (asked m s v n) file)) out
+  unfolding callOf variantsCall variantsTold
+  variants-by-mode b h = h ∙ ap (λ (x : Answer (List ℕ)). putIn (inRoom (length out) x) out) (sym (rw (b, callOf) refl))

@@ -1,3 +1,4 @@
 -- The laws of the crate `answering`.
 pub mod CallLaws
 pub mod AnswerLaws
+pub mod RespondLaws
