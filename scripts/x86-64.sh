@@ -90,4 +90,4 @@ find_rust() {
 find_emulator() { ! arm || command -v qemu-x86_64-static >/dev/null 2>&1; }
 
 # Compiles Rust for x86-64: the words are rustc's.
-build_rust() { "$rustc" -O --target x86_64-unknown-linux-gnu -C linker="$cc" "$@"; }
+build_rust() { "$rustc" -O --edition 2021 --target x86_64-unknown-linux-gnu -C linker="$cc" "$@"; }
