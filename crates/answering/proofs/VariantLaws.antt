@@ -66,8 +66,7 @@ variants-return file sort v n k p s paid found e =
     let q = variants-returned lendings file sort v n (record { count = k; passes = p })
     (sym (ap (λ (a : VariantsAfter). a .answer) e)) in
     let r : Returned start s paid found k =
-    subst (λ (a : VariantsAfter). Returned start (a .store) (a .costs) (a .terms) k) (sym e) q in
-    (
+    subst (λ (a : VariantsAfter). Returned start (a .store) (a .costs) (a .terms) k) (sym e) q in (
       r .grows .formed,
       record { costs-long = r .costs-long; terms-long = r .terms-long; below = r .below },
     )

@@ -1,0 +1,13 @@
+// Document 01's program: a query and a table file on standard input, the answer on standard output.
+// The buffer has a place more than the longest valid input of 21,388 bytes, so that what is longer is seen to be so. An input
+// that is closed or cannot be read counts as empty.
+use libc::STDIN_FILENO;
+use libc::STDOUT_FILENO;
+
+fn main() {
+    let mut input = [0u8; 21389];
+    let n = io::read_full(STDIN_FILENO, &mut input);
+    let mut out = [0u8; 16384];
+    let k = answering::respond(&input[..n], &mut out);
+    io::write_all(STDOUT_FILENO, &out[..k]);
+}
