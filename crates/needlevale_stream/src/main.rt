@@ -20,6 +20,38 @@ fn byte(x: usize) -> u8 {
     (x % 256) as u8
 }
 
+// Reads the `n` bytes of an item to the start of `input`; whether they were there.
+fn read_item(input: &mut [u8], n: usize) -> bool {
+    if input.len() < n {
+        return false;
+    }
+    let got = io::read_full(STDIN_FILENO, &mut input[..n]);
+    got == n
+}
+
+// Writes a length.
+fn write_length(k: usize) -> bool {
+    let mut head = [0u8; 4];
+    head[0] = byte(k);
+    head[1] = byte(k / 256);
+    head[2] = byte(k / 65536);
+    head[3] = byte(k / 16777216);
+    io::write_all(STDOUT_FILENO, &head)
+}
+
+// Writes the answer to the first `n` bytes of `input`; whether it could be written.
+fn answer_item(input: &[u8], n: usize) -> bool {
+    if input.len() < n {
+        return false;
+    }
+    let mut out = [0u8; 16384];
+    let k = answering::respond(&input[..n], &mut out);
+    if !write_length(k) {
+        return false;
+    }
+    io::write_all(STDOUT_FILENO, &out[..k])
+}
+
 // Answers the next item; whether there was one.
 fn one() -> bool {
     let mut head = [0u8; 4];
@@ -29,20 +61,10 @@ fn one() -> bool {
     }
     let n = length_in(&head);
     let mut input = [0u8; 32768];
-    if 32768 < n {
+    if !read_item(&mut input, n) {
         return false;
     }
-    let got = io::read_full(STDIN_FILENO, &mut input[..n]);
-    if got < n {
-        return false;
-    }
-    let mut out = [0u8; 16384];
-    let k = answering::respond(&input[..n], &mut out);
-    head[0] = byte(k);
-    head[1] = byte(k / 256);
-    head[2] = byte(k / 65536);
-    head[3] = byte(k / 16777216);
-    io::write_all(STDOUT_FILENO, &head) && io::write_all(STDOUT_FILENO, &out[..k])
+    answer_item(&input, n)
 }
 
 fn main() {
