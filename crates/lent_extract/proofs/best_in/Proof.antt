@@ -98,7 +98,8 @@ returns c =
     ∙ length-take-le (names .result * 32) (names .last .1 .0) (omega (arith, names .ensures .room)) in
     worked (After BestTerm) (λ a. a .store) (λ rs ls bs. seenBest (call .result) rs ls bs (g .terms) (g .symbols))
     (best-faithful (call .result) (g .terms) (g .symbols)) f (g .ns .now) (g .terms) (g .symbols)
-    (λ (s : Store). bestAt (g .file .now) (g .sort) (g .value) s) (call .last .1 .1 .1 .0) _ (call .last .1 .1 .1 .1 .0) long wide
+    (λ (s : Store). bestAt (g .file .now) (g .sort) (g .value) s) (call .last .1 .1 .1 .0) _
+    (call .last .1 .1 .1 .1 .0) long wide
     (names .ensures .bytes) (names .ensures .wide) (call .last .1 .1 .1 .1 .1 .0) _ (c .before .unload-names .last .0)
     (size ∙ ap (λ (k : ℕ). k * 32) (names .ensures .room)) (c .before .unload-names .ensures) (call .ensures)
 
