@@ -22,9 +22,13 @@ use Rattle.lent.proofs.StoreLaws.{
 }
 use Rattle.answers.specs.Answers.{After}
 use Rattle.answers.specs.Best.{BestTerm}
+use Rattle.answers.specs.Variants.{VariantsAfter}
 use Rattle.extract.specs.Answered.{seenBest}
 use Rattle.extract.specs.declared.BestAnswer.{BestAnswer}
 use Rattle.extract.specs.declared.BestAnswer.the-variants.{Found, Refused}
+use Rattle.several.specs.Several.{seenVariants}
+use Rattle.several.specs.declared.VariantsAnswer.{VariantsAnswer}
+use Rattle.several.specs.declared.VariantsAnswer.the-variants.{Kept, Refused as NotKept}
 use Rattle.lent_extract.specs.Left.{Seen, Lent, Worked}
 
 -- what a result says has the lists that it is seen with
@@ -39,6 +43,14 @@ pub best-faithful :
 best-faithful (Found w i p n′ m′) n m =
     record { records = λ rs ls bs. refl; literals = λ rs ls bs. refl; names = λ rs ls bs. refl }
 best-faithful (Refused r) n m =
+    record { records = λ rs ls bs. refl; literals = λ rs ls bs. refl; names = λ rs ls bs. refl }
+
+pub variants-faithful :
+    (r : VariantsAnswer) (n m : ℕ) (ws us : List ℕ) →
+    Faithful VariantsAfter (λ a. a .store) (λ rs ls bs. seenVariants r n m rs ls bs ws us)
+variants-faithful (Kept k p n′ m′) n m ws us =
+    record { records = λ rs ls bs. refl; literals = λ rs ls bs. refl; names = λ rs ls bs. refl }
+variants-faithful (NotKept r) n m ws us =
     record { records = λ rs ls bs. refl; literals = λ rs ls bs. refl; names = λ rs ls bs. refl }
 
 -- the store that the flat call is lent

@@ -11,9 +11,13 @@ use Rattle.lent.specs.Records.{lentStore, recordsAfter}
 use Rattle.lent.specs.declared.Flat.{Flat}
 use Rattle.answers.specs.Answers.{After}
 use Rattle.answers.specs.Best.{BestTerm}
+use Rattle.answers.specs.Variants.{VariantsAfter}
 use Rattle.extract.specs.declared.BestAnswer.{BestAnswer}
 use Rattle.extract.specs.Answered.{seenBest}
+use Rattle.several.specs.declared.VariantsAnswer.{VariantsAnswer}
+use Rattle.several.specs.Several.{seenVariants}
 use Rattle.lent_extract.specs.declared.Chosen.{Chosen}
+use Rattle.lent_extract.specs.declared.Varied.{Varied}
 
 -- What is wanted of a call, A, tells of a store; `seen` is what a result says, with the flat lists as they are then.
 abbrev pub Seen : Type 0 → Type 0
@@ -49,3 +53,16 @@ LentBest ts ns n m wanted r ts′ ns′ =
 abbrev pub BestIn : Flat → List (List ℕ) → ℕ → ℕ → After BestTerm → Chosen → List (List ℕ) → Type 0
 BestIn f ns n m wanted r ns′ =
     Worked (After BestTerm) (λ a. a .store) f ns wanted (λ rs ls bs. seenBest (r .answer) rs ls bs n m) (r .flat) ns′
+
+-- of the variants, with the two lists of results as they are then
+abbrev pub LentVariants :
+    List Term → List (List ℕ) → ℕ → ℕ → VariantsAfter → VariantsAnswer → List Term → List (List ℕ) → List ℕ → List ℕ →
+    Type 0
+LentVariants ts ns n m wanted r ts′ ns′ ws us =
+    Lent VariantsAfter (λ a. a .store) ts ns n m wanted (λ rs ls bs. seenVariants r n m rs ls bs ws us) ts′ ns′
+
+abbrev pub VariantsIn :
+    Flat → List (List ℕ) → ℕ → ℕ → VariantsAfter → Varied → List (List ℕ) → List ℕ → List ℕ → Type 0
+VariantsIn f ns n m wanted r ns′ ws us =
+    Worked VariantsAfter (λ a. a .store) f ns wanted (λ rs ls bs. seenVariants (r .answer) n m rs ls bs ws us)
+    (r .flat) ns′
