@@ -1,7 +1,8 @@
-// Each call on lent structs as a step of a run: an array of 40 records is lent to it, and comes back by value where the
-// call adds. Assumes nothing.
+// Each call on lent structs as a step of a run: an array of 40 records is lent to it, and comes back by value where
+// the call adds. Assumes nothing.
 use entries::Name;
 use extract::BestAnswer;
+use several::VariantsAnswer;
 use store::Term;
 use terms::Added;
 use terms::Compared;
@@ -24,12 +25,22 @@ pub struct Chosen {
     pub answer: BestAnswer,
 }
 
+// The same of variants.
+pub struct Varied {
+    pub ts: [Term; 40],
+    pub answer: VariantsAnswer,
+}
+
 fn with_added(answer: Added, ts: [Term; 40]) -> Step {
     Step { ts, answer }
 }
 
 fn with_best(answer: BestAnswer, ts: [Term; 40]) -> Chosen {
     Chosen { ts, answer }
+}
+
+fn with_variants(answer: VariantsAnswer, ts: [Term; 40]) -> Varied {
+    Varied { ts, answer }
 }
 
 pub fn add_literal(
@@ -174,4 +185,31 @@ pub fn best(
 ) -> Chosen {
     let answer = lent_extract::best(file, sort, value, &mut ts, ns, terms, symbols);
     with_best(answer, ts)
+}
+
+pub fn variants(
+    file: &[u8],
+    sort: u64,
+    value: u64,
+    most: usize,
+    mut ts: [Term; 40],
+    ns: &mut [Name],
+    terms: usize,
+    symbols: usize,
+    costs: &mut [u64],
+    found: &mut [u64],
+) -> Varied {
+    let answer = lent_extract::variants(
+        file,
+        sort,
+        value,
+        most,
+        &mut ts,
+        ns,
+        terms,
+        symbols,
+        costs,
+        found,
+    );
+    with_variants(answer, ts)
 }

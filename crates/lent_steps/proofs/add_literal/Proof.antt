@@ -1,5 +1,5 @@
--- `lent_steps::add_literal` is safe and ends: a walk of its MIR. The records are lent to `lent_terms::add_literal`,
--- and `with_added` has them then. Assumes nothing.
+-- `lent_steps::add_literal` is safe and ends: a walk of its MIR. The records are lent to
+-- `lent_terms::add_literal`, and `with_added` has them then. Assumes nothing.
 use mathlib.Core.Path.{_≡_, refl}
 use Prim.Native.Nat.{ℕ}
 use mathlib.Core.List.{List, [], _∷_}

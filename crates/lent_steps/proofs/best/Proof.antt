@@ -1,5 +1,5 @@
--- `lent_steps::best` is safe and ends: a walk of its MIR. The records are lent to `lent_extract::best`,
--- and `with_best` has them then. Assumes nothing.
+-- `lent_steps::best` is safe and ends: a walk of its MIR. The records are lent to
+-- `lent_extract::best`, and `with_best` has them then. Assumes nothing.
 use mathlib.Core.Path.{_≡_, refl}
 use Prim.Native.Nat.{ℕ}
 use mathlib.Core.List.{List, [], _∷_}

@@ -1,4 +1,5 @@
--- `lent_steps::compare` is safe and ends: a walk of its MIR. The records are lent to `lent_terms::compare`. Assumes nothing.
+-- `lent_steps::compare` is safe and ends: a walk of its MIR. The records are lent to
+-- `lent_terms::compare`. Assumes nothing.
 use mathlib.Core.Path.{_≡_, refl}
 use Prim.Native.Nat.{ℕ}
 use mathlib.Core.List.{List, [], _∷_}

@@ -1,4 +1,5 @@
--- `lent_steps::get` is safe and ends: a walk of its MIR. The records are lent to `lent_terms::get`. Assumes nothing.
+-- `lent_steps::get` is safe and ends: a walk of its MIR. The records are lent to
+-- `lent_terms::get`. Assumes nothing.
 use mathlib.Core.Path.{_≡_, refl}
 use Prim.Native.Nat.{ℕ}
 use mathlib.Core.List.{List, [], _∷_}

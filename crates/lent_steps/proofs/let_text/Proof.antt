@@ -1,4 +1,5 @@
--- `lent_steps::let_text` is safe and ends: a walk of its MIR. The records are lent to `lent_lets::let_text`. Assumes nothing.
+-- `lent_steps::let_text` is safe and ends: a walk of its MIR. The records are lent to
+-- `lent_lets::let_text`. Assumes nothing.
 use mathlib.Core.Path.{_≡_, refl}
 use Prim.Native.Nat.{ℕ}
 use mathlib.Core.Bool.{Bool}
