@@ -1,0 +1,215 @@
+// Each call on lent structs as a step of a run: an array of 40 records is lent to it, and comes back by value where
+// the call adds. Assumes nothing.
+use entries::Name;
+use extract::BestAnswer;
+use several::VariantsAnswer;
+use store::Term;
+use terms::Added;
+use terms::Compared;
+use terms::Counted;
+use terms::Got;
+use terms::Looked;
+use terms::Verdict;
+use texts::LetText;
+use texts::Text;
+
+// What an adding call answered, and the records after it.
+pub struct Step {
+    pub ts: [Term; 40],
+    pub answer: Added,
+}
+
+// The same of the best term.
+pub struct Chosen {
+    pub ts: [Term; 40],
+    pub answer: BestAnswer,
+}
+
+// The same of variants.
+pub struct Varied {
+    pub ts: [Term; 40],
+    pub answer: VariantsAnswer,
+}
+
+fn with_added(answer: Added, ts: [Term; 40]) -> Step {
+    Step { ts, answer }
+}
+
+fn with_best(answer: BestAnswer, ts: [Term; 40]) -> Chosen {
+    Chosen { ts, answer }
+}
+
+fn with_variants(answer: VariantsAnswer, ts: [Term; 40]) -> Varied {
+    Varied { ts, answer }
+}
+
+pub fn add_literal(
+    mut ts: [Term; 40],
+    ns: &[Name],
+    terms: usize,
+    symbols: usize,
+    literal: i64,
+) -> Step {
+    let answer = lent_terms::add_literal(&mut ts, ns, terms, symbols, literal);
+    with_added(answer, ts)
+}
+
+pub fn add_variable(
+    mut ts: [Term; 40],
+    ns: &mut [Name],
+    terms: usize,
+    symbols: usize,
+    name: &[u8],
+) -> Step {
+    let answer = lent_terms::add_variable(&mut ts, ns, terms, symbols, name);
+    with_added(answer, ts)
+}
+
+pub fn add_application(
+    mut ts: [Term; 40],
+    ns: &mut [Name],
+    terms: usize,
+    symbols: usize,
+    name: &[u8],
+    children: &[u64],
+) -> Step {
+    let answer = lent_terms::add_application(&mut ts, ns, terms, symbols, name, children);
+    with_added(answer, ts)
+}
+
+pub fn find_literal(
+    ts: [Term; 40],
+    ns: &[Name],
+    terms: usize,
+    symbols: usize,
+    literal: i64,
+) -> Looked {
+    lent_terms::find_literal(&ts, ns, terms, symbols, literal)
+}
+
+pub fn find_variable(
+    ts: [Term; 40],
+    ns: &[Name],
+    terms: usize,
+    symbols: usize,
+    name: &[u8],
+) -> Looked {
+    lent_terms::find_variable(&ts, ns, terms, symbols, name)
+}
+
+pub fn find_application(
+    ts: [Term; 40],
+    ns: &[Name],
+    terms: usize,
+    symbols: usize,
+    name: &[u8],
+    children: &[u64],
+) -> Looked {
+    lent_terms::find_application(&ts, ns, terms, symbols, name, children)
+}
+
+pub fn size(ts: [Term; 40], ns: &[Name], terms: usize, symbols: usize) -> Counted {
+    lent_terms::size(&ts, ns, terms, symbols)
+}
+
+pub fn get(ts: [Term; 40], ns: &[Name], terms: usize, symbols: usize, i: usize) -> Got {
+    lent_terms::get(&ts, ns, terms, symbols, i)
+}
+
+pub fn compare(
+    ts: [Term; 40],
+    ns: &[Name],
+    terms: usize,
+    symbols: usize,
+    i: usize,
+    j: usize,
+) -> Compared {
+    lent_terms::compare(&ts, ns, terms, symbols, i, j)
+}
+
+pub fn sort(
+    ts: [Term; 40],
+    ns: &[Name],
+    terms: usize,
+    symbols: usize,
+    list: &mut [u64],
+) -> Verdict {
+    lent_terms::sort(&ts, ns, terms, symbols, list)
+}
+
+pub fn plain_text(
+    ts: [Term; 40],
+    ns: &[Name],
+    terms: usize,
+    symbols: usize,
+    term: usize,
+    out: &mut [u8],
+) -> Text {
+    lent_texts::plain_text(&ts, ns, terms, symbols, term, out)
+}
+
+pub fn let_text(
+    ts: [Term; 40],
+    ns: &[Name],
+    terms: usize,
+    symbols: usize,
+    term: usize,
+    prefix: &[u8],
+    hint: &[u8],
+    start: u64,
+    bare: bool,
+    out: &mut [u8],
+) -> LetText {
+    lent_lets::let_text(
+        &ts,
+        ns,
+        terms,
+        symbols,
+        term,
+        prefix,
+        hint,
+        start,
+        bare,
+        out,
+    )
+}
+
+pub fn best(
+    file: &[u8],
+    sort: u64,
+    value: u64,
+    mut ts: [Term; 40],
+    ns: &mut [Name],
+    terms: usize,
+    symbols: usize,
+) -> Chosen {
+    let answer = lent_extract::best(file, sort, value, &mut ts, ns, terms, symbols);
+    with_best(answer, ts)
+}
+
+pub fn variants(
+    file: &[u8],
+    sort: u64,
+    value: u64,
+    most: usize,
+    mut ts: [Term; 40],
+    ns: &mut [Name],
+    terms: usize,
+    symbols: usize,
+    costs: &mut [u64],
+    found: &mut [u64],
+) -> Varied {
+    let answer = lent_extract::variants(
+        file,
+        sort,
+        value,
+        most,
+        &mut ts,
+        ns,
+        terms,
+        symbols,
+        costs,
+        found,
+    );
+    with_variants(answer, ts)
+}
