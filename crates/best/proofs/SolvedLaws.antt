@@ -45,12 +45,12 @@ use Rattle.best.specs.Flat.{FlatTable}
 use Rattle.best.proofs.ChildLaws.{InTable, row-children-in, number-children}
 
 -- past its end a list reads 0, and so a rank that is not 0 has its place
-getD-past : (l : List ℕ) (i : ℕ) → length l ≤ i → getD l i 0 ≡ 0
+pub getD-past : (l : List ℕ) (i : ℕ) → length l ≤ i → getD l i 0 ≡ 0
 getD-past [] i h = refl
 getD-past (x ∷ l) zero h = absurd (omega arith)
 getD-past (x ∷ l) (suc i) h = getD-past l i (omega arith)
 
-past-rank : (l : List ℕ) (i : ℕ) → 0 < getD l i 0 → i < length l
+pub past-rank : (l : List ℕ) (i : ℕ) → 0 < getD l i 0 → i < length l
 past-rank l i h = go (decLt i (length l))
   where
     go : Dec (i < length l) → i < length l
@@ -68,7 +68,7 @@ module _
       ∙ sym (ap (λ (x : List Row). length x) (v .rows-are))
       ∙ rows-length outputs heads starts children
 
-  order-below : (i : ℕ) → i < length order → getD order i 0 < length (t .rows)
+  pub order-below : (i : ℕ) → i < length order → getD order i 0 < length (t .rows)
   order-below i h =
       subst (λ (x : List ℕ). getD x i 0 < length (t .rows)) (sym (v .order-is))
       (scanned-below t (v .known) root (v .root-below) i (subst (λ (x : List ℕ). i < length x) (v .order-is) h))
@@ -83,7 +83,7 @@ module _
   }
 
   -- the children of row i of the scan order
-  part-children :
+  pub part-children :
       (i : ℕ) → i < length order → map flatChild (partOf starts children i) ≡ rowAt (tableRows t) (getD order i 0) .children
   unfolding scanned
   part-children i h =
@@ -95,7 +95,7 @@ module _
       ∙ inOrder-get (tableRows t) (scanOrder t root) i m
       ∙ ap (λ (x : List ℕ). rowAt (tableRows t) (getD x i 0)) (sym (v .order-is)))
 
-  part-in :
+  pub part-in :
       (i : ℕ) →
       i < length order →
       (j : ℕ) →
@@ -191,10 +191,10 @@ module _
           ∙ ap (map (planChild t)) (part-children (getD marks c 0) place)
           ∙ ap (λ (r : ℕ). map (planChild t) (rowAt (tableRows t) r .children)) row-is
 
-    rank-is : (c : ℕ) → rankFor t root c ≡ getD ranks c 0
+    pub rank-is : (c : ℕ) → rankFor t root c ≡ getD ranks c 0
     rank-is c = ap (λ (x : Run). getD (x .state .ranks) c 0) run-is
 
-    cost-is : (c : ℕ) → costOf t root c ≡ getD costs c 0
+    pub cost-is : (c : ℕ) → costOf t root c ≡ getD costs c 0
     cost-is c = ap (λ (x : Run). getD (x .state .costs) c 0) run-is
 
     -- the rank by which the builder goes

@@ -12,7 +12,6 @@ use Rattle.store.specs.Lent.{Store, store}
 use Rattle.store.specs.WellFormed.{wellFormed}
 use Rattle.store.specs.Nodes.{literal}
 use Rattle.store.specs.Adding.{Adds, at, noRoom, add}
-use Rattle.choice.proofs.ListLaws.{replicate-get}
 use Rattle.fields.specs.Got.{Got, got}
 use Rattle.format.specs.Table.{Table}
 use Rattle.format.specs.File.{tableAt}
@@ -25,7 +24,6 @@ use Rattle.loading.specs.Loading.{askedIn, Blank as BlankArrays, Standing, Load
 use Rattle.loading.specs.declared.Loaded.{Loaded}
 use Rattle.loading.specs.declared.Loaded.the-variants.{Refused as NotLoaded, Class, Literal}
 use Rattle.loading.proofs.LoadLaws.{accepted-of}
-use Rattle.solving.specs.Solved.{Blank}
 use Rattle.build.specs.Building.{Out, done, full, state, added}
 use Rattle.build.specs.Ready.{LiteralExact, seen as seenBuilt}
 use Rattle.build.specs.declared.Built.{Built}
@@ -33,6 +31,7 @@ use Rattle.build.specs.declared.Built.the-variants.{Done, Full}
 use Rattle.answers.specs.Answers.{After, found, refused}
 use Rattle.answers.specs.Best.{BestTerm, bestTerm, bestLiteral, bestAt}
 use Rattle.best.specs.Flat.{BestReady, seen}
+use Rattle.several.proofs.ZeroLaws.{zeros, zeros-room}
 use Rattle.best.specs.declared.Best.{Best}
 use Rattle.best.specs.declared.Best.the-variants.{
   Found as Chosen,
@@ -120,41 +119,6 @@ module _ (s : Store) (z : ℤ) (rs : List ℕ) (ls : List ℤ) (ns : List ℕ) (
           let u : ns ≡ s .names = cc in
           rw (d, x, y, u)
 
--- The first places of a list of zeros.
-abbrev zeros : ℕ → List ℕ
-zeros n = replicate n 0
-
-take-zeros : (w n : ℕ) → w ≤ n → take w (zeros n) ≡ zeros w
-take-zeros zero n h = refl
-take-zeros (suc w) zero h = absurd (omega arith)
-take-zeros (suc w) (suc n) h = ap (λ (x : List ℕ). 0 ∷ x) (take-zeros w n (omega arith))
-
-pub zeros-room : (n k : ℕ) → k ≤ n → k ≤ length (zeros n)
-zeros-room n k h = subst (λ (m : ℕ). k ≤ m) (sym (length-replicate n 0)) h
-
-pub take-zeros-length : (w n : ℕ) → w ≤ n → w ≡ length (take w (zeros n))
-take-zeros-length w n h = sym (ap length (take-zeros w n h) ∙ length-replicate w 0)
-
--- The lists of the call's own, before: zeros for each of w classes.
-pub blank-lists :
-    (w n k : ℕ) (xs plan : List ℕ) → xs ≡ take w (zeros n) → plan ≡ zeros k → w ≤ n → n * 10 ≤ k →
-    Blank (length xs) xs xs xs xs plan
-blank-lists w n k xs plan e f h l =
-    let z : xs ≡ zeros w = e ∙ take-zeros w n h in
-    let j : length xs ≡ w = ap length z ∙ length-replicate w 0 in
-    record {
-      fresh = record {
-        long = refl;
-        costs-zero = λ c. ap (λ (x : List ℕ). getD x c 0) z ∙ replicate-get w c;
-        ranks-zero = λ c. ap (λ (x : List ℕ). getD x c 0) z ∙ replicate-get w c;
-      };
-      ranks-length = refl;
-      edges-length = refl;
-      known-zero = z ∙ ap zeros (sym j);
-      plan-long =
-          subst (λ (x : List ℕ). length xs * 10 ≤ length x) (sym f) (zeros-room k (length xs * 10) (omega arith));
-    }
-
 pub few-classes :
     {outputs heads starts children order functions labels : List ℕ} {values : List ℤ} {n c : ℕ} {s : Store} →
     BestReady outputs heads starts children order functions labels values n c s →
@@ -194,7 +158,7 @@ module _
     (file : List ℕ) (s v : ℕ) (r : Loaded) (values : List ℤ)
     (labels arities functions cells order flat heads starts children : List ℕ)
     (l : Loads (tableAt file) s v r values labels arities functions cells order flat heads starts children) where
-  standing :
+  pub standing :
       (t : Table) (k : ℕ) → tableAt file ≡ got t k →
       Standing t s r values labels arities functions cells order flat heads starts children
   unfolding OnGot

@@ -2,6 +2,9 @@
 pub mod TableLaws
 pub mod RootLaws
 pub mod CallLaws
+pub mod KeyedLaws
+pub mod VariantRootLaws
+pub mod VariantCallLaws
 pub mod VerdictLaws
 pub mod WayLaws
 pub mod DeterminedLaws

@@ -30,20 +30,20 @@ use Rattle.rules.specs.Choosing.{answerFor}
 use Rattle.answers.specs.Best.{BestTerm, bestLiteral, bestClass, bestOf, bestAt}
 use Rattle.extract.specs.Answered.{ifFormed, literalAnswer, classAnswer}
 
-differ : {P : Type 0} → _≡_ {A = ℕ} 0 1 → P
+pub differ : {P : Type 0} → _≡_ {A = ℕ} 0 1 → P
 differ z = absurd (omega arith)
 
 -- A root out of range, a literal, a class.
 module _ (t : Table) (s v : ℕ) where
-  root-bad : isRoot t s v ≡ false → rootOf t s v ≡ Bad
+  pub root-bad : isRoot t s v ≡ false → rootOf t s v ≡ Bad
   unfolding rootOf
   root-bad p = rw (p, rootOf)
 
-  root-literal : isRoot t s v ≡ true → eqb (sortOf t s .kind) 0 ≡ true → rootOf t s v ≡ RootLiteral v
+  pub root-literal : isRoot t s v ≡ true → eqb (sortOf t s .kind) 0 ≡ true → rootOf t s v ≡ RootLiteral v
   unfolding rootOf
   root-literal p q = rw (p, q, rootOf)
 
-  root-class : isRoot t s v ≡ true → eqb (sortOf t s .kind) 0 ≡ false → rootOf t s v ≡ RootClass (flatClass t s v)
+  pub root-class : isRoot t s v ≡ true → eqb (sortOf t s .kind) 0 ≡ false → rootOf t s v ≡ RootClass (flatClass t s v)
   unfolding rootOf
   root-class p q = rw (p, q, rootOf)
 

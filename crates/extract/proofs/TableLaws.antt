@@ -97,14 +97,14 @@ module _
   pub value-is : (i : ℕ) → i < length (t .literals) → getD values i (pos 0) ≡ literalOf t i
   value-is i l = rw (h .literals-held .literals-are) (padWith-get (pos 0) 512 (t .literals) i (pos 0) l)
 
-  function-is : (i : ℕ) → getD functions i 0 ≡ tableRowOf t i .function
+  pub function-is : (i : ℕ) → getD functions i 0 ≡ tableRowOf t i .function
   function-is i =
       rw (h .row-functions-are) (pad-map-get (λ (x : Row). x .function) noTableRow refl 1024 (t .rows) i)
 
   name-is : (f : ℕ) → f < length (t .functions) → nameAt labels f ≡ functionOf t f .name
   name-is f l = rw (h .names-are) (label-name 4096 (t .functions) short-names noFunction f l)
 
-  length-is : (f : ℕ) → f < length (t .functions) → lengthAt labels f ≡ length (functionOf t f .name)
+  pub length-is : (f : ℕ) → f < length (t .functions) → lengthAt labels f ≡ length (functionOf t f .name)
   length-is f l = rw (h .names-are) (label-length 4096 (t .functions) short-names noFunction f l)
 
   -- A row's function, and its name among the labels.
@@ -117,12 +117,12 @@ module _
 
   -- The lists of a class.
   module _ (c n m w : ℕ) (e : r ≡ Class c n m w) (below : root < length (t .sorts)) where
-    laid : Flattened t root n m w order flat heads starts children
+    pub laid : Flattened t root n m w order flat heads starts children
     laid =
         subst (λ (x : Loaded). OnClass x (λ n m w. Flattened t root n m w order flat heads starts children)) e
         (h .reached)
 
-    flat-table :
+    pub flat-table :
         FlatTable t root (take n flat) (take n heads) (take (n + 1) starts) (take m children) (take n order) functions
         labels values
     flat-table = record {

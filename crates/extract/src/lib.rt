@@ -1,4 +1,5 @@
-// The best term of a root of a table file: document 01, 'Costs and choice'. (src/extract.rs, extract_best_with_sort)
+// The best term of a root of a table file, and its variants: document 01, 'Costs and choice'. (src/extract.rs,
+// extract_best_with_sort and extract_variants_with_sort)
 // A refusal leaves all that is lent as it was.
 ghost use mathlib.Core.Path.{_≡_};
 ghost use Prim.Native.Nat.{_<_};
@@ -6,11 +7,15 @@ ghost use lib.IntN.{pos};
 ghost use lib.ListN.{length, getD};
 ghost use Rattle.store.specs.Lent.{store};
 ghost use Rattle.answers.specs.Best.{bestAt};
+ghost use Rattle.answers.specs.Variants.{variantsAt};
+ghost use Rattle.variant_answers.specs.Kept.{lending};
+ghost use Rattle.several.specs.Several.{seenVariants};
 ghost use Rattle.best.specs.Flat.{BestReady, BestAnswers};
 ghost use Rattle.extract.specs.Answered.{seenBest, answerFrom, literalAnswer, SomeClass, ClassAnswers};
 use build::Built;
 use loading::Loaded;
 use refusals::Refusal;
+use several::VariantsAnswer;
 
 // The cost, the term's number, the passes and the counts of terms and symbols then; or the refusal.
 pub enum BestAnswer {
@@ -232,6 +237,95 @@ pub fn best(
             names,
             terms,
             symbols,
+        ),
+    }
+}
+
+// The variants of the root: the first fault of the file, else the first of BadRoot, BadStore, TooDear and NoRoom, else
+// how many are kept, at most `most` of a class and one of a literal: their costs at the front of `costs`, and the
+// numbers of their terms in the store at the front of `found`.
+pub fn variants(
+    file: &[u8],
+    sort: u64,
+    value: u64,
+    most: usize,
+    records: &mut [u64],
+    literals: &mut [i64],
+    names: &mut [u8],
+    terms: usize,
+    symbols: usize,
+    costs: &mut [u64],
+    found: &mut [u64],
+) -> VariantsAnswer
+    ensures { λ r. ⌜
+        seenVariants r terms symbols (now (records .exit)) (now (literals .exit)) (now (names .exit))
+        (now (costs .exit)) (now (found .exit))
+        ≡ variantsAt (now (file .entry)) sort value most
+        (lending (store (now (records .entry)) (now (literals .entry)) (now (names .entry)) terms symbols)
+        (now (costs .entry)) (now (found .entry)))
+        ⌝ }
+{
+    let mut values: [i64; 512] = [0; 512];
+    let mut labels: [u8; 4096] = [0; 4096];
+    let mut arities: [u64; 128] = [0; 128];
+    let mut functions: [u64; 1024] = [0; 1024];
+    let mut cells: [u64; 9216] = [0; 9216];
+    let mut order: [u64; 1024] = [0; 1024];
+    let mut flat: [u64; 1024] = [0; 1024];
+    let mut heads: [u64; 1024] = [0; 1024];
+    let mut starts: [usize; 1025] = [0; 1025];
+    let mut children: [u64; 8192] = [0; 8192];
+    let loaded = loading::load(
+        file,
+        sort,
+        value,
+        &mut values,
+        &mut labels,
+        &mut arities,
+        &mut functions,
+        &mut cells,
+        &mut order,
+        &mut flat,
+        &mut heads,
+        &mut starts,
+        &mut children,
+    );
+    match loaded {
+        Loaded::Refused(r) => VariantsAnswer::Refused(r),
+        Loaded::Literal(i) => several::of_literal(
+            &values,
+            i,
+            records,
+            literals,
+            names,
+            terms,
+            symbols,
+            costs,
+            found,
+        ),
+        Loaded::Class(c, n, m, w) => several::of_class(
+            &flat,
+            &heads,
+            &starts,
+            &children,
+            &order,
+            &functions,
+            &labels,
+            &values,
+            &arities,
+            &cells,
+            c,
+            n,
+            m,
+            w,
+            most,
+            records,
+            literals,
+            names,
+            terms,
+            symbols,
+            costs,
+            found,
         ),
     }
 }

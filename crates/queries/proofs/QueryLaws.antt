@@ -1,13 +1,16 @@
 -- The query, field by field. Assumes nothing.
-use mathlib.Core.Path.{_≡_, refl, sym, ap, _∙_}
+use mathlib.Core.Path.{_≡_, refl, sym, ap, subst, _∙_}
 use mathlib.Core.Bool.{Bool, true, false, not}
 use mathlib.Core.List.{List}
-use Prim.Native.Nat.{ℕ, _+_, _<_}
+use Prim.Native.Nat.{ℕ, _+_, _<_, _≤_}
+use native.Mathlib.Omega.{arith}
+use lib.ListN.{length}
 use lib.Dec.{eqb}
 use Rattle.refusals.specs.declared.Refusal.the-variants.{Short, BadMode}
 use Rattle.fields.specs.Got.{Got, got, refused, then, must}
 use Rattle.fields.specs.Field.{field}
 use Rattle.fields.proofs.FieldLaws.{field-read}
+use Rattle.fields.proofs.GotLaws.{All, all-got, all-at, all-then, all-must}
 use Rattle.queries.specs.Query.{Query, queryAt}
 
 -- a field that was read ends where its width says
@@ -46,3 +49,24 @@ module _ (s : List ℕ) where
           unfolding queryAt then must
           whole-query n t e =
               rw (ends s 0 2 m p em, b, ends s 2 5 o q eo, ends s 7 9 v r ev, ends s 16 8 n t e) refl
+
+-- A whole query has its three bytes.
+all-long : (s : List ℕ) → All (λ (q : Query) (e : ℕ). 3 ≤ length s) (queryAt s)
+unfolding queryAt
+all-long s =
+    all-then (field s 0 2) _ (λ m a em.
+    all-must (not (eqb m 3)) BadMode _ (λ b.
+    all-then (field s a 5) _ (λ o b eo.
+    all-then (field s b 9) _ (λ v c ev.
+    all-then (field s c 8) _ (λ n d en.
+    all-got
+    (omega (
+      arith,
+      field-read s 0 2 em .end,
+      field-read s a 5 eo .end,
+      field-read s b 9 ev .end,
+      field-read s c 8 en .here,
+    )))))))
+
+pub query-long : (s : List ℕ) (q : Query) (e : ℕ) → queryAt s ≡ got q e → 3 ≤ length s
+query-long s q e h = all-at (subst (All (λ (q : Query) (e : ℕ). 3 ≤ length s)) h (all-long s))

@@ -4,5 +4,6 @@ pub mod PlainLaws
 pub mod LaidLaws
 pub mod LetToldLaws
 pub mod TwinLaws
+pub mod NextLaws
 pub mod PromiseLaws
 pub mod Promises

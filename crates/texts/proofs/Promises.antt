@@ -24,6 +24,7 @@ use Rattle.texts.proofs.TwinLaws.{
   let-of-grown,
   next-of-grown,
 }
+use Rattle.texts.proofs.NextLaws.{next-low}
 use Rattle.texts.proofs.PromiseLaws.{
   plain-keeps,
   let-keeps,
@@ -52,6 +53,7 @@ promises = record {
       let-placed s nm t out (h .formed) (h .known) (n .prefix) (n .hint) (n .start) ∙ placed-refuses _ _ _ out l;
   letWritten = λ s nm t out h n l.
       let-placed s nm t out (h .formed) (h .known) (n .prefix) (n .hint) (n .start) ∙ placed-fits _ _ _ out l;
+  letNext = λ s nm t h l. next-low s nm t (h .formed) (h .known) l;
   plainKeeps = plain-keeps;
   letKeeps = let-keeps;
   plainTree = λ s s′ i j t h g m m′. plain-of-tree s s′ i j t (h .formed) (g .formed) (h .known) (g .known) m m′;

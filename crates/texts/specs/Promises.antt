@@ -105,6 +105,9 @@ pub record Promises : Type 0 where
       letTold s nm t out
       ≡ told (lettered (length (letText s nm t)) (nextCount s nm t))
       (letText s nm t ++ drop (length (letText s nm t)) out)
+  -- The next unused count has 32 bits: the start count's limit leaves room for a binding of every term.
+  pub letNext :
+      (s : Store) (nm : Naming) (t : ℕ) → Has s t → nm .start ≤ 4294966271 → nextCount s nm t ≤ 4294967295
   -- Whatever is told, the lent part keeps its length.
   pub plainKeeps : (s : Store) (t : ℕ) (out : List ℕ) → length (plainTold s t out .out) ≡ length out
   pub letKeeps : (s : Store) (nm : Naming) (t : ℕ) (out : List ℕ) → length (letTold s nm t out .out) ≡ length out

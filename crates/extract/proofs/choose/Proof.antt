@@ -2,7 +2,8 @@
 use mathlib.Core.Path.{refl, sym, _∙_}
 use native.Mathlib.Omega.{arith}
 use Rattle.store.specs.Lent.{store}
-use Rattle.extract.proofs.CallLaws.{take-zeros-length, blank-lists, few-classes, ready-with, choice-seen}
+use Rattle.several.proofs.ZeroLaws.{take-zeros-length, blank-lists}
+use Rattle.extract.proofs.CallLaws.{few-classes, ready-with, choice-seen}
 use borrow.Author.Needs.{needs}
 use Rattle.extract.proofs.choose.Statement.{statement}
 use Rattle.extract.proofs.choose.Tie as tie

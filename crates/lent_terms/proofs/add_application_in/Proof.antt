@@ -1,5 +1,6 @@
+-- `lent_terms::add_application_in` meets its contract: the entries are copied, `terms::add_application` does the work,
+-- and the entries are put back. Assumes nothing.
 use native.Mathlib.Omega.{arith}
--- `lent_terms::add_application_in` meets its contract. Assumes nothing.
 use Prim.Native.Nat.{ℕ, _*_}
 use mathlib.Core.Path.{_≡_, sym, ap, _∙_}
 use lib.ListN.{length, length-replicate}

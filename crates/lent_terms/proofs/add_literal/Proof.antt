@@ -1,5 +1,5 @@
--- `lent_terms::add_literal` meets its contract: a walk of its MIR, by hand. The records are copied, `add_literal_in` does the work, and the records
--- are put back. Assumes nothing.
+-- `lent_terms::add_literal` meets its contract: a walk of its MIR, by hand. The records are copied, `add_literal_in`
+-- does the work, and the records are put back. Assumes nothing.
 use mathlib.Core.Path.{_≡_, refl, ap, subst}
 use Prim.Native.Nat.{ℕ, _≤_}
 use mathlib.Core.List.{List, [], _∷_, _++_}
@@ -86,7 +86,16 @@ abbrev Entry : RattleType
 Entry = Array u8 32
 
 abbrev stayed : Stays (it.ended .signature .params) (it.ended .kept)
-stayed = (gave-slice (0 ∷ []) tt (plain (λ _. T.the-row)), (stay-dropped (shrSliceOf (1 ∷ []) tt (arrayOf (plain (λ _. u8)) 32)) yes, (stay-dropped (plain (λ _. usize)) yes, (stay-dropped (plain (λ _. usize)) yes, (stay-dropped (plain (λ _. i64)) yes, tt)))))
+stayed = (
+  gave-slice (0 ∷ []) tt (plain (λ _. T.the-row)),
+  (
+    stay-dropped (shrSliceOf (1 ∷ []) tt (arrayOf (plain (λ _. u8)) 32)) yes,
+    (
+      stay-dropped (plain (λ _. usize)) yes,
+      (stay-dropped (plain (λ _. usize)) yes, (stay-dropped (plain (λ _. i64)) yes, tt)),
+    ),
+  ),
+)
 
 -- of the work's struct: its machine value, its copy of the records, and its answer
 spelled : (r : Adding) (u : Val) → Is D.the-row r (u ∷ []) → u ≡ D′.lowered r
@@ -157,7 +166,8 @@ module _ {M : Type 1} (𝓤 : URA M) (H : Heap 𝓤) (A : Atoms 𝓤) (W : Given
   Unl = Of 𝓤 H A unl.ended (unl.clauses 𝓤 H A mem run)
 
   abbrev to-lod : ℕ → GName → Lod .Ghost
-  to-lod ν δ = (((ν ∷ [], tt), (fullShare, tt), tt, (ref (ts .ptr .0) (ts .ptr .1) δ (ts .now), tt), (v-ts ∷ [], tt)), tt)
+  to-lod ν δ =
+      (((ν ∷ [], tt), (fullShare, tt), tt, (ref (ts .ptr .0) (ts .ptr .1) δ (ts .now), tt), (v-ts ∷ [], tt)), tt)
 
   abbrev Shown : ℕ → GName → Fml
   Shown ν δ = ShrSlice (named 0) (ν ∷ []) T.the-row .own (ref (ts .ptr .0) (ts .ptr .1) δ (ts .now)) (v-ts ∷ [])
@@ -171,7 +181,16 @@ module _ {M : Type 1} (𝓤 : URA M) (H : Heap 𝓤) (A : Atoms 𝓤) (W : Given
       nothing ! $ move ! (2 ∷ 0 ∷ []) $ fjoin ! $ move ! (1 ∷ 0 ∷ []) $ join ! $ frame ! $ done !
 
   abbrev to-wrk : Flat → Val → Wrk .Ghost
-  to-wrk f v = (((κ₁, tt), (q₁, tt), tt, (f, (ns, (terms, (symbols, (literal, tt))))), ((v ∷ []), ((v-ns ∷ []), ((v-terms ∷ []), ((v-symbols ∷ []), ((v-literal ∷ []), tt)))))), tt)
+  to-wrk f v = (
+    (
+      (κ₁, tt),
+      (q₁, tt),
+      tt,
+      (f, (ns, (terms, (symbols, (literal, tt))))),
+      ((v ∷ []), ((v-ns ∷ []), ((v-terms ∷ []), ((v-symbols ∷ []), ((v-literal ∷ []), tt))))),
+    ),
+    tt,
+  )
 
   goes-wrk :
       (f : Flat) (v : Val) → Is F.the-row f (v ∷ []) → Whole f →
@@ -308,7 +327,10 @@ module _ {M : Type 1} (𝓤 : URA M) (H : Heap 𝓤) (A : Atoms 𝓤) (W : Given
   walks =
       walked 𝓤 H A it.ended stayed (it.clauses 𝓤 H A mem run) (WpFn 𝓤 H (𝓣 .C) (𝓣 .Λ) code.function)
       (λ κs. (slice-vals, (slice-vals, ((uint-vals w64), ((uint-vals w64), ((sint-vals w64), tt))))))
-      (λ κs. (mut-slice-tells (named 0) (κs .0) T.the-row, (shr-slice-tells (named 1) (κs .1 .0) Entry, (uint-tells w64, (uint-tells w64, (sint-tells w64, tt))))))
+      (λ κs. (
+        mut-slice-tells (named 0) (κs .0) T.the-row,
+        (shr-slice-tells (named 1) (κs .1 .0) Entry, (uint-tells w64, (uint-tells w64, (sint-tells w64, tt)))),
+      ))
       (λ κs qs bounds a g are. via 𝓤 _ (fst∗ 𝓤 _ (emp 𝓤))
       (walk 𝓤 H A W mem run (κs .0) (κs .1 .0) (qs .0) (qs .1 .0)
       (a .0) (are .0 .0 .1) (a .1 .0) (are .1 .0 .0 .1) (a .1 .1 .0) (are .1 .1 .0) (a .1 .1 .1 .0) (are .1 .1 .1 .0)
@@ -316,8 +338,19 @@ module _ {M : Type 1} (𝓤 : URA M) (H : Heap 𝓤) (A : Atoms 𝓤) (W : Given
 
   meets : Meets 𝓤 H A it.signature (WpFn 𝓤 H (𝓣 .C) (𝓣 .Λ) code.function) (it.spec 𝓤 H A mem run)
   meets =
-      walk-meets 𝓤 H A it.ended stayed W
-      (goes-gave-slice 𝓤 H A W 2 0 tt (plain (λ _. T.the-row)), (goes-dropped 𝓤 H A W 2 (shrSliceOf (1 ∷ []) tt (arrayOf (plain (λ _. u8)) 32)) yes (λ κs x f. refl), (goes-dropped 𝓤 H A W 2 (plain (λ _. usize)) yes (λ κs x f. refl), (goes-dropped 𝓤 H A W 2 (plain (λ _. usize)) yes (λ κs x f. refl), (goes-dropped 𝓤 H A W 2 (plain (λ _. i64)) yes (λ κs x f. refl), tt)))))
+      walk-meets 𝓤 H A it.ended stayed W (
+        goes-gave-slice 𝓤 H A W 2 0 tt (plain (λ _. T.the-row)),
+        (
+          goes-dropped 𝓤 H A W 2 (shrSliceOf (1 ∷ []) tt (arrayOf (plain (λ _. u8)) 32)) yes (λ κs x f. refl),
+          (
+            goes-dropped 𝓤 H A W 2 (plain (λ _. usize)) yes (λ κs x f. refl),
+            (
+              goes-dropped 𝓤 H A W 2 (plain (λ _. usize)) yes (λ κs x f. refl),
+              (goes-dropped 𝓤 H A W 2 (plain (λ _. i64)) yes (λ κs x f. refl), tt),
+            ),
+          ),
+        ),
+      )
       (it.clauses 𝓤 H A mem run) (WpFn 𝓤 H (𝓣 .C) (𝓣 .Λ) code.function) (WpFn-mono 𝓤 H (W .laws) 𝓣 code.function)
       walks
 

@@ -1,5 +1,6 @@
+-- `lent_terms::add_literal_in` meets its contract: the entries are copied, and `terms::add_literal` does the work.
+-- Assumes nothing.
 use native.Mathlib.Omega.{arith}
--- `lent_terms::add_literal_in` meets its contract. Assumes nothing.
 use Prim.Native.Nat.{_*_}
 use mathlib.Core.Path.{_≡_, sym, ap, _∙_}
 use mir.Syntax.{w64}

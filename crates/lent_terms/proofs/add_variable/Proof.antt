@@ -1,5 +1,5 @@
--- `lent_terms::add_variable` meets its contract: a walk of its MIR, by hand. The records are copied, `add_variable_in` does the work, and the records
--- are put back. Assumes nothing.
+-- `lent_terms::add_variable` meets its contract: a walk of its MIR, by hand. The records are copied, `add_variable_in`
+-- does the work, and the records are put back. Assumes nothing.
 use mathlib.Core.Path.{_≡_, refl, ap, subst}
 use Prim.Native.Nat.{ℕ, _≤_}
 use mathlib.Core.List.{List, [], _∷_, _++_}
@@ -84,7 +84,16 @@ abbrev Entry : RattleType
 Entry = Array u8 32
 
 abbrev stayed : Stays (it.ended .signature .params) (it.ended .kept)
-stayed = (gave-slice (0 ∷ []) tt (plain (λ _. T.the-row)), (gave-slice (1 ∷ []) tt (arrayOf (plain (λ _. u8)) 32), (stay-dropped (plain (λ _. usize)) yes, (stay-dropped (plain (λ _. usize)) yes, (stay-dropped (shrSliceOf (2 ∷ []) tt (plain (λ _. u8))) yes, tt)))))
+stayed = (
+  gave-slice (0 ∷ []) tt (plain (λ _. T.the-row)),
+  (
+    gave-slice (1 ∷ []) tt (arrayOf (plain (λ _. u8)) 32),
+    (
+      stay-dropped (plain (λ _. usize)) yes,
+      (stay-dropped (plain (λ _. usize)) yes, (stay-dropped (shrSliceOf (2 ∷ []) tt (plain (λ _. u8))) yes, tt)),
+    ),
+  ),
+)
 
 -- of the work's struct: its machine value, its copy of the records, and its answer
 spelled : (r : Adding) (u : Val) → Is D.the-row r (u ∷ []) → u ≡ D′.lowered r
@@ -158,7 +167,8 @@ module _ {M : Type 1} (𝓤 : URA M) (H : Heap 𝓤) (A : Atoms 𝓤) (W : Given
   Unl = Of 𝓤 H A unl.ended (unl.clauses 𝓤 H A mem run)
 
   abbrev to-lod : ℕ → GName → Lod .Ghost
-  to-lod ν δ = (((ν ∷ [], tt), (fullShare, tt), tt, (ref (ts .ptr .0) (ts .ptr .1) δ (ts .now), tt), (v-ts ∷ [], tt)), tt)
+  to-lod ν δ =
+      (((ν ∷ [], tt), (fullShare, tt), tt, (ref (ts .ptr .0) (ts .ptr .1) δ (ts .now), tt), (v-ts ∷ [], tt)), tt)
 
   abbrev Shown : ℕ → GName → Fml
   Shown ν δ = ShrSlice (named 0) (ν ∷ []) T.the-row .own (ref (ts .ptr .0) (ts .ptr .1) δ (ts .now)) (v-ts ∷ [])
@@ -172,7 +182,16 @@ module _ {M : Type 1} (𝓤 : URA M) (H : Heap 𝓤) (A : Atoms 𝓤) (W : Given
       nothing ! $ move ! (2 ∷ 0 ∷ []) $ fjoin ! $ move ! (1 ∷ 0 ∷ []) $ join ! $ frame ! $ done !
 
   abbrev to-wrk : Flat → Val → Wrk .Ghost
-  to-wrk f v = (((κ₁, (κ₂, tt)), (q₁, (q₂, tt)), tt, (f, (ns, (terms, (symbols, (name, tt))))), ((v ∷ []), ((v-ns ∷ []), ((v-terms ∷ []), ((v-symbols ∷ []), ((v-name ∷ []), tt)))))), tt)
+  to-wrk f v = (
+    (
+      (κ₁, (κ₂, tt)),
+      (q₁, (q₂, tt)),
+      tt,
+      (f, (ns, (terms, (symbols, (name, tt))))),
+      ((v ∷ []), ((v-ns ∷ []), ((v-terms ∷ []), ((v-symbols ∷ []), ((v-name ∷ []), tt))))),
+    ),
+    tt,
+  )
 
   goes-wrk :
       (f : Flat) (v : Val) → Is F.the-row f (v ∷ []) → Whole f →
@@ -322,7 +341,13 @@ module _ {M : Type 1} (𝓤 : URA M) (H : Heap 𝓤) (A : Atoms 𝓤) (W : Given
   walks =
       walked 𝓤 H A it.ended stayed (it.clauses 𝓤 H A mem run) (WpFn 𝓤 H (𝓣 .C) (𝓣 .Λ) code.function)
       (λ κs. (slice-vals, (slice-vals, ((uint-vals w64), ((uint-vals w64), (slice-vals, tt))))))
-      (λ κs. (mut-slice-tells (named 0) (κs .0) T.the-row, (mut-slice-tells (named 1) (κs .1 .0) Entry, (uint-tells w64, (uint-tells w64, (shr-slice-tells (named 2) (κs .1 .1 .0) u8, tt))))))
+      (λ κs. (
+        mut-slice-tells (named 0) (κs .0) T.the-row,
+        (
+          mut-slice-tells (named 1) (κs .1 .0) Entry,
+          (uint-tells w64, (uint-tells w64, (shr-slice-tells (named 2) (κs .1 .1 .0) u8, tt))),
+        ),
+      ))
       (λ κs qs bounds a g are. via 𝓤 _ (fst∗ 𝓤 _ (emp 𝓤))
       (walk 𝓤 H A W mem run (κs .0) (κs .1 .0) (κs .1 .1 .0) (qs .0) (qs .1 .0) (qs .1 .1 .0)
       (a .0) (are .0 .0 .1) (a .1 .0) (are .1 .0 .0 .1) (a .1 .1 .0) (are .1 .1 .0) (a .1 .1 .1 .0) (are .1 .1 .1 .0)
@@ -330,8 +355,19 @@ module _ {M : Type 1} (𝓤 : URA M) (H : Heap 𝓤) (A : Atoms 𝓤) (W : Given
 
   meets : Meets 𝓤 H A it.signature (WpFn 𝓤 H (𝓣 .C) (𝓣 .Λ) code.function) (it.spec 𝓤 H A mem run)
   meets =
-      walk-meets 𝓤 H A it.ended stayed W
-      (goes-gave-slice 𝓤 H A W 3 0 tt (plain (λ _. T.the-row)), (goes-gave-slice 𝓤 H A W 3 1 tt (arrayOf (plain (λ _. u8)) 32), (goes-dropped 𝓤 H A W 3 (plain (λ _. usize)) yes (λ κs x f. refl), (goes-dropped 𝓤 H A W 3 (plain (λ _. usize)) yes (λ κs x f. refl), (goes-dropped 𝓤 H A W 3 (shrSliceOf (2 ∷ []) tt (plain (λ _. u8))) yes (λ κs x f. refl), tt)))))
+      walk-meets 𝓤 H A it.ended stayed W (
+        goes-gave-slice 𝓤 H A W 3 0 tt (plain (λ _. T.the-row)),
+        (
+          goes-gave-slice 𝓤 H A W 3 1 tt (arrayOf (plain (λ _. u8)) 32),
+          (
+            goes-dropped 𝓤 H A W 3 (plain (λ _. usize)) yes (λ κs x f. refl),
+            (
+              goes-dropped 𝓤 H A W 3 (plain (λ _. usize)) yes (λ κs x f. refl),
+              (goes-dropped 𝓤 H A W 3 (shrSliceOf (2 ∷ []) tt (plain (λ _. u8))) yes (λ κs x f. refl), tt),
+            ),
+          ),
+        ),
+      )
       (it.clauses 𝓤 H A mem run) (WpFn 𝓤 H (𝓣 .C) (𝓣 .Λ) code.function) (WpFn-mono 𝓤 H (W .laws) 𝓣 code.function)
       walks
 

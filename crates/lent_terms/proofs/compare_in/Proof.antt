@@ -1,5 +1,6 @@
+-- `lent_terms::compare_in` meets its contract: the entries are copied, and `terms::compare` does the work. Assumes
+-- nothing.
 use native.Mathlib.Omega.{arith}
--- `lent_terms::compare_in` meets its contract. Assumes nothing.
 use Prim.Native.Nat.{_*_}
 use mathlib.Core.Path.{_≡_, sym, ap, _∙_}
 use lib.Seq.{length-take-le}
@@ -27,14 +28,16 @@ array-share-prefix-records c = search needs
 
 slice-aggregate-compare : tie.Need-slice-aggregate-compare
 slice-aggregate-compare c =
-    sym (length-take-le (c .before .before .before .before .before .before .args .f .room * 11) (c .before .before .before .before .before .before .args .f .records) (omega arith))
+    sym (length-take-le (c .before .before .before .before .before .before .args .f .room * 11)
+    (c .before .before .before .before .before .before .args .f .records) (omega arith))
 
 array-share-prefix-literals : tie.Need-array-share-prefix-literals
 array-share-prefix-literals c = search needs
 
 slice-aggregate-compare-2 : tie.Need-slice-aggregate-compare-2
 slice-aggregate-compare-2 c =
-    sym (length-take-le (c .before .before .before .before .before .before .before .args .f .room) (c .before .before .before .before .before .before .before .args .f .literals) (omega arith))
+    sym (length-take-le (c .before .before .before .before .before .before .before .args .f .room)
+    (c .before .before .before .before .before .before .before .args .f .literals) (omega arith))
 
 array-share-prefix-names : tie.Need-array-share-prefix-names
 array-share-prefix-names c = search needs
@@ -43,7 +46,8 @@ slice-aggregate-compare-3 : tie.Need-slice-aggregate-compare-3
 slice-aggregate-compare-3 c =
     let names = c .before .before .before .before .load-names in
     sym
-    (length-take-le (names .result * 32) (names .last .1 .0) (omega (arith, names .ensures .room, names .ensures .long)))
+    (length-take-le (names .result * 32) (names .last .1 .0)
+    (omega (arith, names .ensures .room, names .ensures .long)))
 
 compare-requires : tie.Need-compare-requires
 compare-requires c κs = search needs
@@ -53,7 +57,8 @@ returns c =
     let g = c .before .before .before .before .before .before .before .before .before .args in
     c .compare .ensures
     ∙ ap (λ (s : Store). compareTerms s (g .i) (g .j))
-    (storeIn-is (g .f) (g .ns .now) (g .terms) (g .symbols) _ (c .before .before .before .before .before .load-names .ensures .bytes))
+    (storeIn-is (g .f) (g .ns .now) (g .terms) (g .symbols) _
+    (c .before .before .before .before .before .load-names .ensures .bytes))
 
 pub compare-in-spec : {M : Type 1} → statement M
 compare-in-spec =

@@ -1,5 +1,5 @@
+-- `lent_terms::get_in` meets its contract: the entries are copied, and `terms::get` does the work. Assumes nothing.
 use native.Mathlib.Omega.{arith}
--- `lent_terms::get_in` meets its contract. Assumes nothing.
 use Prim.Native.Nat.{_*_}
 use mathlib.Core.Path.{_≡_, sym, ap, _∙_}
 use lib.Seq.{length-take-le}

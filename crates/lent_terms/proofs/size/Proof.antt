@@ -1,4 +1,5 @@
--- `lent_terms::size` meets its contract: a walk of its MIR, by hand. The records are copied, and `size_in` does the work. Assumes nothing.
+-- `lent_terms::size` meets its contract: a walk of its MIR, by hand. The records are copied, and `size_in` does the
+-- work. Assumes nothing.
 use mathlib.Core.Path.{_≡_, refl, _∙_, ap}
 use Prim.Native.Nat.{ℕ}
 use mathlib.Core.List.{List, [], _∷_}
@@ -71,7 +72,13 @@ abbrev Entry : RattleType
 Entry = Array u8 32
 
 abbrev stayed : Stays (it.ended .signature .params) (it.ended .kept)
-stayed = (stay-dropped (shrSliceOf (0 ∷ []) tt (plain (λ _. T.the-row))) yes, (stay-dropped (shrSliceOf (1 ∷ []) tt (arrayOf (plain (λ _. u8)) 32)) yes, (stay-dropped (plain (λ _. usize)) yes, (stay-dropped (plain (λ _. usize)) yes, tt))))
+stayed = (
+  stay-dropped (shrSliceOf (0 ∷ []) tt (plain (λ _. T.the-row))) yes,
+  (
+    stay-dropped (shrSliceOf (1 ∷ []) tt (arrayOf (plain (λ _. u8)) 32)) yes,
+    (stay-dropped (plain (λ _. usize)) yes, (stay-dropped (plain (λ _. usize)) yes, tt)),
+  ),
+)
 
 module _ {M : Type 1} (𝓤 : URA M) (H : Heap 𝓤) (A : Atoms 𝓤) (W : Given 𝓤 H A)
     (mem : Memory → SProp 𝓤) (run : Routine → Fun 𝓤)
@@ -127,7 +134,16 @@ module _ {M : Type 1} (𝓤 : URA M) (H : Heap 𝓤) (A : Atoms 𝓤) (W : Given
       nothing ! $ move ! (2 ∷ 0 ∷ []) $ fjoin ! $ move ! (1 ∷ 0 ∷ []) $ join ! $ frame ! $ done !
 
   abbrev to-wrk : Flat → Val → Wrk .Ghost
-  to-wrk f v = (((κ₁, tt), (q₁, tt), tt, (f, (ns, (terms, (symbols, tt)))), ((v ∷ []), ((v-ns ∷ []), ((v-terms ∷ []), ((v-symbols ∷ []), tt))))), tt)
+  to-wrk f v = (
+    (
+      (κ₁, tt),
+      (q₁, tt),
+      tt,
+      (f, (ns, (terms, (symbols, tt)))),
+      ((v ∷ []), ((v-ns ∷ []), ((v-terms ∷ []), ((v-symbols ∷ []), tt)))),
+    ),
+    tt,
+  )
 
   goes-wrk :
       (f : Flat) (v : Val) → Is F.the-row f (v ∷ []) → Whole f →
@@ -201,7 +217,10 @@ module _ {M : Type 1} (𝓤 : URA M) (H : Heap 𝓤) (A : Atoms 𝓤) (W : Given
   walks =
       walked 𝓤 H A it.ended stayed (it.clauses 𝓤 H A mem run) (WpFn 𝓤 H (𝓣 .C) (𝓣 .Λ) code.function)
       (λ κs. (slice-vals, (slice-vals, ((uint-vals w64), ((uint-vals w64), tt)))))
-      (λ κs. (shr-slice-tells (named 0) (κs .0) T.the-row, (shr-slice-tells (named 1) (κs .1 .0) Entry, (uint-tells w64, (uint-tells w64, tt)))))
+      (λ κs. (
+        shr-slice-tells (named 0) (κs .0) T.the-row,
+        (shr-slice-tells (named 1) (κs .1 .0) Entry, (uint-tells w64, (uint-tells w64, tt))),
+      ))
       (λ κs qs bounds a g are. via 𝓤 _ (fst∗ 𝓤 _ (emp 𝓤))
       (walk 𝓤 H A W mem run (κs .0) (κs .1 .0) (qs .0) (qs .1 .0)
       (a .0) (are .0 .0 .1) (a .1 .0) (are .1 .0 .0 .1) (a .1 .1 .0) (are .1 .1 .0) (a .1 .1 .1 .0) (are .1 .1 .1 .0)
@@ -209,8 +228,16 @@ module _ {M : Type 1} (𝓤 : URA M) (H : Heap 𝓤) (A : Atoms 𝓤) (W : Given
 
   meets : Meets 𝓤 H A it.signature (WpFn 𝓤 H (𝓣 .C) (𝓣 .Λ) code.function) (it.spec 𝓤 H A mem run)
   meets =
-      walk-meets 𝓤 H A it.ended stayed W
-      (goes-dropped 𝓤 H A W 2 (shrSliceOf (0 ∷ []) tt (plain (λ _. T.the-row))) yes (λ κs x f. refl), (goes-dropped 𝓤 H A W 2 (shrSliceOf (1 ∷ []) tt (arrayOf (plain (λ _. u8)) 32)) yes (λ κs x f. refl), (goes-dropped 𝓤 H A W 2 (plain (λ _. usize)) yes (λ κs x f. refl), (goes-dropped 𝓤 H A W 2 (plain (λ _. usize)) yes (λ κs x f. refl), tt))))
+      walk-meets 𝓤 H A it.ended stayed W (
+        goes-dropped 𝓤 H A W 2 (shrSliceOf (0 ∷ []) tt (plain (λ _. T.the-row))) yes (λ κs x f. refl),
+        (
+          goes-dropped 𝓤 H A W 2 (shrSliceOf (1 ∷ []) tt (arrayOf (plain (λ _. u8)) 32)) yes (λ κs x f. refl),
+          (
+            goes-dropped 𝓤 H A W 2 (plain (λ _. usize)) yes (λ κs x f. refl),
+            (goes-dropped 𝓤 H A W 2 (plain (λ _. usize)) yes (λ κs x f. refl), tt),
+          ),
+        ),
+      )
       (it.clauses 𝓤 H A mem run) (WpFn 𝓤 H (𝓣 .C) (𝓣 .Λ) code.function) (WpFn-mono 𝓤 H (W .laws) 𝓣 code.function)
       walks
 

@@ -1,5 +1,6 @@
+-- `lent_texts::plain_text_in` meets its contract: the entries are copied, and `texts::plain_text` does the work.
+-- Assumes nothing.
 use native.Mathlib.Omega.{arith}
--- `lent_texts::plain_text_in` meets its contract. Assumes nothing.
 use Prim.Native.Nat.{_*_}
 use mathlib.Core.Path.{_≡_, sym, ap, _∙_}
 use lib.Seq.{length-take-le}
@@ -27,14 +28,16 @@ array-share-prefix-records c = search needs
 
 slice-aggregate-plain-text : tie.Need-slice-aggregate-plain-text
 slice-aggregate-plain-text c =
-    sym (length-take-le (c .before .before .before .before .before .before .before .args .f .room * 11) (c .before .before .before .before .before .before .before .args .f .records) (omega arith))
+    sym (length-take-le (c .before .before .before .before .before .before .before .args .f .room * 11)
+    (c .before .before .before .before .before .before .before .args .f .records) (omega arith))
 
 array-share-prefix-literals : tie.Need-array-share-prefix-literals
 array-share-prefix-literals c = search needs
 
 slice-aggregate-plain-text-2 : tie.Need-slice-aggregate-plain-text-2
 slice-aggregate-plain-text-2 c =
-    sym (length-take-le (c .before .before .before .before .before .before .before .before .args .f .room) (c .before .before .before .before .before .before .before .before .args .f .literals) (omega arith))
+    sym (length-take-le (c .before .before .before .before .before .before .before .before .args .f .room)
+    (c .before .before .before .before .before .before .before .before .args .f .literals) (omega arith))
 
 array-share-prefix-names : tie.Need-array-share-prefix-names
 array-share-prefix-names c = search needs
@@ -43,7 +46,8 @@ slice-aggregate-plain-text-3 : tie.Need-slice-aggregate-plain-text-3
 slice-aggregate-plain-text-3 c =
     let names = c .before .before .before .before .load-names in
     sym
-    (length-take-le (names .result * 32) (names .last .1 .0) (omega (arith, names .ensures .room, names .ensures .long)))
+    (length-take-le (names .result * 32) (names .last .1 .0)
+    (omega (arith, names .ensures .room, names .ensures .long)))
 
 plain-text-requires : tie.Need-plain-text-requires
 plain-text-requires c κs = search needs
@@ -53,10 +57,12 @@ same-length c = search needs
 
 returns : tie.Need-returns
 returns c =
-    let g = c .before .before .before .before .before .before .before .before .before .before .before .before .before .args in
+    let g =
+    c .before .before .before .before .before .before .before .before .before .before .before .before .before .args in
     c .before .before .plain-text .ensures
     ∙ ap (λ (s : Store). plainTold s (g .term) (g .out .now))
-    (storeIn-is (g .f) (g .ns .now) (g .terms) (g .symbols) _ (c .before .before .before .before .before .before .before .before .load-names .ensures .bytes))
+    (storeIn-is (g .f) (g .ns .now) (g .terms) (g .symbols) _
+    (c .before .before .before .before .before .before .before .before .load-names .ensures .bytes))
 
 pub plain-text-in-spec : {M : Type 1} → statement M
 plain-text-in-spec =

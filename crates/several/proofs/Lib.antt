@@ -1,0 +1,3 @@
+-- The laws of the crate `several`.
+pub mod ZeroLaws
+pub mod SeveralLaws

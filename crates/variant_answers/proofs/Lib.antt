@@ -1,0 +1,3 @@
+-- The laws of the crate `variant_answers`.
+pub mod LoopLaws
+pub mod AnswerLaws

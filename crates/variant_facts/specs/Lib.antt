@@ -1,0 +1,2 @@
+-- The definitions of the crate `variant_facts`.
+pub mod Returned

@@ -1,0 +1,1 @@
+// What variants give back, by their definition: laws alone, in proofs/.
