@@ -31,6 +31,7 @@ run_rust() (if arm; then find_tools && exec_loaded qemu-x86_64-static "$@"; else
 install_packages() {
   local log status=0 options=(-o Acquire::http::Timeout=30 -o Acquire::Retries=1 -o DPkg::Lock::Timeout=120)
   command -v apt-get >/dev/null 2>&1 || { why="$* cannot be installed without apt-get"; return 1; }
+  echo "installing Debian's packages: $*" >&2
   log=$(mktemp)
   {
     apt-get "${options[@]}" update &&
