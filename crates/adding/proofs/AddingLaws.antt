@@ -1,5 +1,5 @@
--- What adding a node to a well-formed store gives: the node's number in a well-formed store that has all the terms of the
--- first, or that there is no room. Assumes nothing.
+-- What adding a node to a well-formed store gives: the node's number in a well-formed store that has all the terms of
+-- the first, or that there is no room. Assumes nothing.
 use Prim.Native.Nat.{ℕ, _+_, _<_}
 use mathlib.Core.Path.{_≡_, refl, sym, ap, subst, _∙_}
 use mathlib.Core.Bool.{Bool, true, false}
@@ -166,7 +166,8 @@ module _ (s : Store) (sound : Sound s) where
       Takes s node (s .terms) (append s node)
   unfolding append roomFor
   append-takes (literal z) fit missing r b =
-      appended s (literal z) sound fit missing s 0 sound refl (λ i l. refl) tt (literal-sound s z) (room-of-terms s r) b
+      appended s (literal z) sound fit missing s 0 sound refl (λ i l. refl) tt (literal-sound s z)
+      (room-of-terms s r) b
   append-takes (variable n) fit missing r b =
       let named = withName-named s n sound fit (and-second (ltb (s .terms) (termRoom s)) _ r) in
       named-takes s n sound (withName s n) (symbolFor s n) named (variable n) fit missing (named .is)

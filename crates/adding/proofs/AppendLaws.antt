@@ -1,4 +1,5 @@
--- A record that is put behind the others: the others stay, and it is there; so the store stays well formed. Assumes nothing.
+-- A record that is put behind the others: the others stay, and it is there; so the store stays well formed. Assumes
+-- nothing.
 use Prim.Native.Nat.{ℕ, _+_, _*_, _/_, _≤_, _<_, min}
 use mathlib.Core.Path.{_≡_, sym, ap, subst, _∙_}
 use mathlib.Core.Bool.{true}
@@ -65,8 +66,10 @@ module _ (s : Store) (t : Term) (room : Room s) (wide : length (t .children) ≡
       let n : ℕ = s .terms * 11 in
       let get : (k : ℕ) → k < n → getD (paste (s .records) n (numbers t) 11) k 0 ≡ getD (s .records) k 0 =
       λ k b. getD-paste-before (s .records) (s .terms * 11) (numbers t) 11 long eleven k 0 b in
-      term-same (recordAt (withRecord s t) i) (recordAt s i) (get (i * 11) (omega arith)) (get (i * 11 + 1) (omega arith))
-      (get (i * 11 + 2) (omega arith)) (getD-set-other (s .literals) (s .terms) i (t .literal) (pos 0) (λ e. omega arith))
+      term-same (recordAt (withRecord s t) i) (recordAt s i) (get (i * 11) (omega arith))
+      (get (i * 11 + 1) (omega arith))
+      (get (i * 11 + 2) (omega arith))
+      (getD-set-other (s .literals) (s .terms) i (t .literal) (pos 0) (λ e. omega arith))
       (part-paste-before (s .records) (s .terms * 11) (numbers t) 11 long eleven (i * 11 + 3) 8 (omega arith))
 
   -- it is there
@@ -76,17 +79,20 @@ module _ (s : Store) (t : Term) (room : Room s) (wide : length (t .children) ≡
       let n : ℕ = s .terms * 11 in
       let d : List ℕ = paste (s .records) n (numbers t) 11 in
       term-same (recordAt (withRecord s t) (s .terms)) t
-      (ap (λ (k : ℕ). getD d k 0) (sym (add-zero n)) ∙ getD-paste (s .records) n (numbers t) 11 long eleven 0 0 (omega arith))
+      (ap (λ (k : ℕ). getD d k 0) (sym (add-zero n)) ∙ getD-paste (s .records) n (numbers t) 11 long
+      eleven 0 0 (omega arith))
       (getD-paste (s .records) n (numbers t) 11 long eleven 1 0 (omega arith))
       (getD-paste (s .records) n (numbers t) 11 long eleven 2 0 (omega arith))
       (getD-set-same (s .literals) (s .terms) (t .literal) (pos 0) (room .literals))
-      (part-paste (s .records) n (numbers t) 11 long eleven 3 8 (omega arith) ∙ take-all 8 (t .children) (omega (arith, wide)))
+      (part-paste (s .records) n (numbers t) 11 long eleven 3 8 (omega arith) ∙ take-all 8 (t .children)
+      (omega (arith, wide)))
 
   module _
       (sound : Sound s)
       (is : SoundRecord (s .symbols) (s .terms) t)
       (new : (i : ℕ) → i < s .terms → recordAt s i ≡ t → ⊥) where
-    term-by : (i : ℕ) → i < s .terms + 1 → Dec (i ≡ s .terms) → SoundRecord (s .symbols) i (recordAt (withRecord s t) i)
+    term-by : (i : ℕ) → i < s .terms + 1 → Dec (i ≡ s .terms)
+        → SoundRecord (s .symbols) i (recordAt (withRecord s t) i)
     term-by i l (yes e) =
         subst (λ (k : ℕ). SoundRecord (s .symbols) k (recordAt (withRecord s t) k)) (sym e)
         (subst (SoundRecord (s .symbols) (s .terms)) (sym withRecord-at) is)

@@ -59,7 +59,9 @@ module _ (s : Store) where
       Same s (withRecord b t)
   unfolding withRecord
   record-beyond b t h l long wide = record {
-    records = drop-paste-past 11264 (b .records) (b .terms * 11) (numbers t) 11 long (omega arith) (omega arith) ∙ h .records;
+    records =
+        drop-paste-past 11264 (b .records) (b .terms * 11) (numbers t) 11 long (omega arith) (omega arith)
+        ∙ h .records;
     literals = drop-set-lt 1024 (b .literals) (b .terms) (t .literal) l ∙ h .literals;
     names = h .names;
   }
@@ -71,7 +73,8 @@ module _ (s : Store) where
   room-symbols : ltb (s .symbols) (symbolRoom s) ≡ true → (s .symbols < 128) × (s .symbols * 32 ≤ length (s .names))
   unfolding symbolRoom
   room-symbols e =
-      let l : s .symbols < min 128 (length (s .names) / 32) = ltb-true (s .symbols) (min 128 (length (s .names) / 32)) e in
+      let l : s .symbols < min 128 (length (s .names) / 32) =
+      ltb-true (s .symbols) (min 128 (length (s .names) / 32)) e in
       (omega arith, omega arith)
 
   room-terms : ltb (s .terms) (termRoom s) ≡ true → (s .terms < 1024) × (s .terms * 11 ≤ length (s .records))
@@ -107,19 +110,24 @@ module _ (s : Store) where
           (withRecord
           (elim f as (λ _. Store) [
             | At k ↦ s
-            | Missing ↦ store (s .records) (s .literals) (putName (s .names) (s .symbols) name) (s .terms) (s .symbols + 1)
+            | Missing ↦ store (s .records) (s .literals) (putName (s .names) (s .symbols) name)
+                (s .terms) (s .symbols + 1)
           ])
           t)
       by (At k) r =
-          record-beyond s t (record { records = refl; literals = refl; names = refl }) (room-terms e .0) (room-terms e .1) wide
+          record-beyond s t (record { records = refl; literals = refl; names = refl }) (room-terms e .0)
+          (room-terms e .1) wide
       by Missing r =
-          record-beyond (store (s .records) (s .literals) (putName (s .names) (s .symbols) name) (s .terms) (s .symbols + 1)) t
-          (record { records = refl; literals = refl; names = put-beyond name r }) (room-terms e .0) (room-terms e .1) wide
+          record-beyond (store (s .records) (s .literals) (putName (s .names) (s .symbols) name)
+          (s .terms) (s .symbols + 1)) t
+          (record { records = refl; literals = refl; names = put-beyond name r }) (room-terms e .0)
+          (room-terms e .1) wide
 
   append-beyond : (node : Node) → roomFor s node ≡ true → Same s (append s node)
   unfolding roomFor append recordOf
   append-beyond (literal z) r =
-      record-beyond s (recordOf 0 (literal z)) (record { records = refl; literals = refl; names = refl }) (room-terms r .0)
+      record-beyond s (recordOf 0 (literal z))
+      (record { records = refl; literals = refl; names = refl }) (room-terms r .0)
       (room-terms r .1) (omega arith)
   append-beyond (variable n) r =
       named-beyond n (recordOf (symbolFor s n) (variable n)) (and-second (ltb (s .terms) (termRoom s)) _ r)

@@ -87,7 +87,8 @@ unfolding recordOf
 literal-sound s z = aLiteral (record { kind = refl; symbol = refl; count = refl; unused = getD-zeros 8 })
 
 -- a node's record is sound
-pub recordOf-sound : (s : Store) (k m : ℕ) (node : Node) → k < m → Fit s node → SoundRecord m (s .terms) (recordOf k node)
+pub recordOf-sound : (s : Store) (k m : ℕ) (node : Node) → k < m → Fit s node
+    → SoundRecord m (s .terms) (recordOf k node)
 unfolding recordOf
 recordOf-sound s k m (literal z) l f =
     aLiteral (record { kind = refl; symbol = refl; count = refl; unused = getD-zeros 8 })

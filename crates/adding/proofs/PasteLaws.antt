@@ -13,7 +13,8 @@ module _ {A : Type 0} where
       ap (take m) (drop-append-le a p q (omega arith))
       ∙ take-append-le m (drop a p) q (omega (arith, length-drop a p))
 
-  part-take : (n : ℕ) (l : List A) (a m : ℕ) → n ≤ length l → a + m ≤ n → take m (drop a (take n l)) ≡ take m (drop a l)
+  part-take : (n : ℕ) (l : List A) (a m : ℕ) → n ≤ length l → a + m ≤ n
+      → take m (drop a (take n l)) ≡ take m (drop a l)
   part-take n l a m h k =
       sym (part-append (take n l) (drop n l) a m (omega (arith, length-take-le n l h)))
       ∙ ap (λ (r : List A). take m (drop a r)) (take-append-drop n l)

@@ -60,7 +60,8 @@ module _ (s : Store) (name : List ℕ) (sound : Sound s) (v : valid name ≡ tru
     fits : (s .symbols < 128) × (s .symbols * 32 + 32 ≤ length (s .names))
     unfolding symbolRoom
     fits =
-        let l : s .symbols < min 128 (length (s .names) / 32) = ltb-true (s .symbols) (min 128 (length (s .names) / 32)) room in
+        let l : s .symbols < min 128 (length (s .names) / 32) =
+        ltb-true (s .symbols) (min 128 (length (s .names) / 32)) room in
         (omega arith, omega arith)
 
     abbrev new : Store
@@ -112,7 +113,8 @@ module _ (s : Store) (name : List ℕ) (sound : Sound s) (v : valid name ≡ tru
         recordsLong = sound .recordsLong;
         literalsLong = sound .literalsLong;
         symbolLimit = omega (arith, fits .0);
-        namesLong = omega (arith, fits .1, putName-length (s .names) (s .symbols) name long (valid-short name v) (fits .1));
+        namesLong =
+            omega (arith, fits .1, putName-length (s .names) (s .symbols) name long (valid-short name v) (fits .1));
         name = λ k l. name-by k l (ℕ-discrete k (s .symbols));
         nameOnce = λ j k a b e. once-by j k a b e (ℕ-discrete j (s .symbols)) (ℕ-discrete k (s .symbols));
         term = λ i l. soundRecord-mono (omega arith) (sound .term i l);

@@ -23,7 +23,8 @@ module _ (rank : ℕ → ℕ) (g h : State → ℕ → Out ℕ) (same : (s : Sta
   childIn-agrees r s (value z) l = refl
 
   pub childrenIn-agrees :
-      (r : ℕ) (s : State) (ks : List ℕ) (xs : List Child) → AllLower rank r xs → childrenIn g s ks xs ≡ childrenIn h s ks xs
+      (r : ℕ) (s : State) (ks : List ℕ) (xs : List Child) → AllLower rank r xs
+      → childrenIn g s ks xs ≡ childrenIn h s ks xs
   unfolding childrenIn
   childrenIn-agrees r s ks [] l = refl
   childrenIn-agrees r s ks (x ∷ xs) l =
@@ -40,7 +41,8 @@ module _ (rank : ℕ → ℕ) (g h : State → ℕ → Out ℕ) (same : (s : Sta
       go (full me rs ls ns) rest = refl
 
 pub buildIn-agrees :
-    (p q : Plan) (rank : ℕ → ℕ) → Agree p q rank → (f : ℕ) (s : State) (c : ℕ) → 0 < rank c → buildIn p f s c ≡ buildIn q f s c
+    (p q : Plan) (rank : ℕ → ℕ) → Agree p q rank → (f : ℕ) (s : State) (c : ℕ) → 0 < rank c
+    → buildIn p f s c ≡ buildIn q f s c
 unfolding buildIn
 buildIn-agrees p q rank a zero s c l = refl
 buildIn-agrees p q rank a (suc f) s c l =

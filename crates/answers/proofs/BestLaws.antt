@@ -52,7 +52,8 @@ module _ (t : Table) (root c w : ℕ) (e : answerFor t root c ≡ best w) where
       (λ q. differ (let z = rw (p, q) at e in cc)))
       (λ p. differ (let z = rw p at e in cc))
 
-module _ (t : Table) (k : Known t) (root : ℕ) (h : root < length (t .sorts)) (s : Store) (f : wellFormed s ≡ true) where
+module _ (t : Table) (k : Known t) (root : ℕ) (h : root < length (t .sorts)) (s : Store)
+    (f : wellFormed s ≡ true) where
   module _ (c w : ℕ) (r : ReachedClass t root c) (e : answerFor t root c ≡ best w) where
     tree : ChosenTree t root c w
     tree = chosen-tree t k root h c w r e
@@ -70,7 +71,8 @@ module _ (t : Table) (k : Known t) (root : ℕ) (h : root < length (t .sorts)) (
 
     told :
         Tells (planFor t root) s c (whole (planFor t root) (rankFor t root c) s c .answer)
-        (whole (planFor t root) (rankFor t root c) s c .records) (whole (planFor t root) (rankFor t root c) s c .literals)
+        (whole (planFor t root) (rankFor t root c) s c .records)
+        (whole (planFor t root) (rankFor t root c) s c .literals)
         (whole (planFor t root) (rankFor t root c) s c .names)
     told =
         subst
@@ -118,7 +120,8 @@ module _ (t : Table) (k : Known t) (root : ℕ) (h : root < length (t .sorts)) (
     best-comes-back = built (runOf t root .passes) (whole (planFor t root) (rankFor t root c) s c) told
 
   -- of a class that the root sort reaches, by its verdict
-  pub best-kept : (c : ℕ) → ReachedClass t root c → Kept t c s (bestClass t root c s (answerFor t root c)) (answerFor t root c)
+  pub best-kept : (c : ℕ) → ReachedClass t root c
+      → Kept t c s (bestClass t root c s (answerFor t root c)) (answerFor t root c)
   unfolding bestClass
   best-kept c r = go (answerFor t root c) refl
     where
@@ -127,8 +130,8 @@ module _ (t : Table) (k : Known t) (root : ℕ) (h : root < length (t .sorts)) (
       go tooDear e = refl
       go (best w) e = best-comes-back c w r e
 
-  -- "For any accepted table file, well-formed store and, as root, class of a constructor sort": the verdict is demand 3's, and
-  -- best answers by it.
+  -- "For any accepted table file, well-formed store and, as root, class of a constructor sort": the verdict is demand
+  -- 3's, and best answers by it.
   pub record DemandThree (v : ℕ) : Type 0 where
     pub verdict : Answer
     pub is-right : Answered limit (tableRows t) (usable t) (flatClass t root v) verdict

@@ -90,14 +90,16 @@ module _ (t : Table) (k : Known t) (root : ℕ) (h : root < length (t .sorts)) w
   unfolding edgeRow
   edge-known c l = scanned-below t k root h (edgeFor t root c) (edge-place c l)
 
-  edge-row : (c : ℕ) → 0 < buildRank t root c → rowAt (scanned t root) (edgeFor t root c) ≡ rowAt (tableRows t) (edgeRow t root c)
+  edge-row : (c : ℕ) → 0 < buildRank t root c
+      → rowAt (scanned t root) (edgeFor t root c) ≡ rowAt (tableRows t) (edgeRow t root c)
   unfolding scanned edgeRow
   edge-row c l = inOrder-get (tableRows t) (scanOrder t root) (edgeFor t root c) (edge-place c l)
 
   pub plan-ranked : Ranked (planFor t root) (buildRank t root)
   unfolding planFor planChildren
   plan-ranked = record {
-    named = λ c l. k .name (tableRowOf t (edgeRow t root c) .function) (k .function (edgeRow t root c) (edge-known c l));
+    named =
+        λ c l. k .name (tableRowOf t (edgeRow t root c) .function) (k .function (edgeRow t root c) (edge-known c l));
     few = λ c l.
         let r = edge-known c l in
         rw (map-length (planChild t) (rowAt (tableRows t) (edgeRow t root c) .children))

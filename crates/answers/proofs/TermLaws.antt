@@ -33,7 +33,8 @@ use Rattle.answers.specs.Plan.{planChild, planChildren, planFor}
 
 module _ (t : Table) (root : ℕ) where
   mutual
-    unfolding Chosen ChosenAll Derives DeriveAll renumber renumberIn termOf termsOf planChild planChildren planFor edgeRow scanned
+    unfolding Chosen ChosenAll Derives DeriveAll renumber renumberIn termOf termsOf planChild planChildren
+        planFor edgeRow scanned
 
     pub chosen-term :
         (u : Tree) (k : Child) →

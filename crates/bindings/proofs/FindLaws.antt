@@ -26,7 +26,8 @@ unfolding find
 find-none t n = refl
 
 -- a new binding at the end is found there
-pub find-last : (t i n : ℕ) (bs : List Bound) → find t n bs ≡ nowhere → find t n (bs ++ one t i) ≡ place (n + length bs)
+pub find-last : (t i n : ℕ) (bs : List Bound) → find t n bs ≡ nowhere
+    → find t n (bs ++ one t i) ≡ place (n + length bs)
 find-last t i n [] e = find-hit t n i [] ∙ ap place (omega arith)
 find-last t i n (b ∷ bs) e = by (find-last t i (n + 1) bs) (ℕ-discrete (b .term) t)
   where

@@ -1,4 +1,5 @@
--- The laws of meeting terms: it does not depend on the bound of its depth, and binds nothing above a term. Assumes nothing.
+-- The laws of meeting terms: it does not depend on the bound of its depth, and binds nothing above a term. Assumes
+-- nothing.
 use mathlib.Core.Path.{_≡_, refl, sym, ap, subst, _∙_}
 use mathlib.Core.Bool.{Bool, true, false}
 use mathlib.Core.List.{List, [], _∷_, _++_}
@@ -12,7 +13,8 @@ use Rattle.bindings.specs.Met.{metAt}
 use Rattle.bindings.proofs.FindLaws.{one, find-other}
 
 -- ---- in turn
-pub turn-step : (g : ℕ → List Bound → List Bound) (k : ℕ) (ks : List ℕ) (bs : List Bound) → inTurn g (k ∷ ks) bs ≡ inTurn g ks (g k bs)
+pub turn-step : (g : ℕ → List Bound → List Bound) (k : ℕ) (ks : List ℕ) (bs : List Bound)
+    → inTurn g (k ∷ ks) bs ≡ inTurn g ks (g k bs)
 unfolding inTurn
 turn-step g k ks bs = refl
 

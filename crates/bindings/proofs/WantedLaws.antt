@@ -93,7 +93,8 @@ module _ (kids : ℕ → List ℕ) (n : ℕ) (lower : (t : ℕ) → t < n → In
 
   -- meeting the root at indent 0 finds its bindings
   pub bindings-of-met :
-      (wanted : ℕ → Bool) → ((t : ℕ) → t < n → wanted t ≡ toBind kids root t) → metAt kids wanted 0 root [] ≡ bindings kids root
+      (wanted : ℕ → Bool) → ((t : ℕ) → t < n → wanted t ≡ toBind kids root t)
+      → metAt kids wanted 0 root [] ≡ bindings kids root
   unfolding metAt meetIn find bindings
   bindings-of-met wanted e =
       meetIn-wanted kids wanted (toBind kids root) n lower e (suc root) 0 root [] k

@@ -90,7 +90,8 @@ module _ (plan ranks functions : List ℕ) (values : List ℤ) where
     named = λ c l. p c l .named;
     few = λ c l. omega (arith, childrenOf-length plan values c (p c l .whole) (p c l .few), p c l .few);
     lower = λ c l.
-        allLower-of (λ (k : ℕ). getD ranks k 0) (getD ranks c 0) values (take (countOf plan c) (drop (c * 10 + 2) plan))
+        allLower-of (λ (k : ℕ). getD ranks k 0) (getD ranks c 0) values
+        (take (countOf plan c) (drop (c * 10 + 2) plan))
         (λ j h.
         let b : j < countOf plan c = omega (arith, places-length plan values c (p c l .whole) (p c l .few)) in
         let x : ℕ = getD (take (countOf plan c) (drop (c * 10 + 2) plan)) j 0 in

@@ -203,7 +203,8 @@ module _
       (λ f q.
       ap (ownIn (p .name c) c)
       (turn .same f q
-      ∙ ap (childrenIn (buildIn p f) at (take j ks)) (childrenOf-next plan values c (planned .whole) (planned .few) j h)
+      ∙ ap (childrenIn (buildIn p f) at (take j ks))
+      (childrenOf-next plan values c (planned .whole) (planned .few) j h)
       ∙ childrenIn-stop (buildIn p f) at (take j ks) x (drop (j + 1) (p .children c)) me rs ls ns (made .same f q))
       ∙ ownIn-full (p .name c) c me rs ls ns)
 

@@ -36,7 +36,8 @@ module _ {A : Type 0} where
   each-every P f [] = tt
   each-every P f (x ∷ xs) = (f x, each-every P f xs)
 
-  pub each-both : (P Q R : A → Type 0) → ((x : A) → P x → Q x → R x) → (xs : List A) → Each P xs → Each Q xs → Each R xs
+  pub each-both : (P Q R : A → Type 0) → ((x : A) → P x → Q x → R x) → (xs : List A) → Each P xs → Each Q xs
+      → Each R xs
   each-both P Q R f [] p q = tt
   each-both P Q R f (x ∷ xs) p q = (f x (p .0) (q .0), each-both P Q R f xs (p .1) (q .1))
 

@@ -17,7 +17,8 @@ use Rattle.choice.proofs.RankLaws.{in-costs, in-ranks}
 
 -- u is s or better
 abbrev pub Better : State → State → Type 0
-Better s u = (c : ℕ) → 0 < getD (s .ranks) c 0 → (0 < getD (u .ranks) c 0) × (getD (u .costs) c 0 ≤ getD (s .costs) c 0)
+Better s u =
+    (c : ℕ) → 0 < getD (s .ranks) c 0 → (0 < getD (u .ranks) c 0) × (getD (u .costs) c 0 ≤ getD (s .costs) c 0)
 
 better-same : (s : State) → Better s s
 better-same s c h = (h, omega arith)

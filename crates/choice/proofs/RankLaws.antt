@@ -121,7 +121,8 @@ module _ (M : ℕ) (rows : List Row) where
   abbrev pub Sourced : State → Type 0
   Sourced s = (c : ℕ) → 0 < getD (s .ranks) c 0 → getD (s .costs) c 0 < M → Source s c
 
-  module _ (n : ℕ) (w : Within n rows) (s : State) (r : Row) (m : Has rows r) (i : Improves M s r) (z : Sized n s) where
+  module _ (n : ℕ) (w : Within n rows) (s : State) (r : Row) (m : Has rows r) (i : Improves M s r)
+      (z : Sized n s) where
     pub in-costs : r .output < length (s .costs)
     in-costs = omega (arith, has-within n rows w r m, z .costs)
 

@@ -42,7 +42,8 @@ module _ (M : ℕ) (rows : List Row) where
     tended : (k : Child) → Priced (s .ranks) k → Tended k
     unfolding Derives treeCost childCost
     tended (literal i) h = record { tree = leaf i; derives = refl; cost = refl }
-    tended (class c) h = let t = g c h in record { tree = t .tree; derives = t .derives; cost = omega (arith, t .cost) }
+    tended (class c) h =
+        let t = g c h in record { tree = t .tree; derives = t .derives; cost = omega (arith, t .cost) }
 
     pub record Grove (ks : List Child) : Type 0 where
       pub forest : Forest

@@ -1,4 +1,5 @@
--- Reading looks at nothing past the first fault's field: a file that goes on after a fault keeps the fault. Assumes nothing.
+-- Reading looks at nothing past the first fault's field: a file that goes on after a fault keeps the fault. Assumes
+-- nothing.
 use Prim.Native.Nat.{ℕ, zero, suc, _+_, _*_, _≤_, _<_}
 use mathlib.Core.Bool.{Bool, true, false, not}
 use mathlib.Core.List.{List, [], _∷_, _++_, append-nil}
@@ -9,7 +10,17 @@ use lib.ListN.{length, take, drop, getD, length-append, length-drop}
 use lib.Seq.{take-append-le, drop-append-le}
 use borrow.Author.Tests.{eqb-true, eqb-false, ne-eqb}
 use Rattle.refusals.specs.declared.Refusal.{Refusal}
-use Rattle.refusals.specs.declared.Refusal.the-variants.{Short, BadVersion, BadSize, BadName, DupName, BadSort, BadFunction, BadValue, Trailing}
+use Rattle.refusals.specs.declared.Refusal.the-variants.{
+  Short,
+  BadVersion,
+  BadSize,
+  BadName,
+  DupName,
+  BadSort,
+  BadFunction,
+  BadValue,
+  Trailing,
+}
 use Rattle.names.specs.Name.{allAllowed}
 use Rattle.fields.specs.Bits.{bitsOf, number}
 use Rattle.fields.specs.Got.{Got, got, refused, then, must, pick, many}
@@ -49,7 +60,8 @@ refusal-same : {B : Type 0} {r x : Refusal} → _≡_ {A = Got B} (refused r) (r
 refusal-same e = cc
 
 module _ {A : Type 0} where
-  pub ext-then : {B : Type 0} {f f′ : B → ℕ → Got A} (g h : Got B) → Ext g h → ((b : B) (k : ℕ) → g ≡ got b k → Ext (f b k) (f′ b k))
+  pub ext-then : {B : Type 0} {f f′ : B → ℕ → Got A} (g h : Got B) → Ext g h
+      → ((b : B) (k : ℕ) → g ≡ got b k → Ext (f b k) (f′ b k))
       → Ext (then g f) (then h f′)
   unfolding then
   ext-then (got b k) h (ext-same e) j = rw (← e) (j b k refl)
@@ -70,7 +82,8 @@ module _ {A : Type 0} where
   pub ext-got : (a : A) (k : ℕ) → Ext (got a k) (got a k)
   ext-got a k = ext-same refl
 
-pub ext-many : {A : Type 0} (f f′ : List A → ℕ → Got A) → ((xs : List A) (p : ℕ) → Ext (f xs p) (f′ xs p)) → (n at : ℕ) (xs : List A)
+pub ext-many : {A : Type 0} (f f′ : List A → ℕ → Got A) → ((xs : List A) (p : ℕ) → Ext (f xs p) (f′ xs p))
+    → (n at : ℕ) (xs : List A)
     → Ext (many f n at xs) (many f′ n at xs)
 unfolding many
 ext-many f f′ e zero at xs = ext-same refl
@@ -89,14 +102,22 @@ module _ (s r : List ℕ) where
       let l : k + w ≤ length (bitsOf s) = rw bitsOf-length h in
       let a : k ≤ length (bitsOf s) = omega arith in
       let b : w ≤ length (drop k (bitsOf s)) = rw length-drop (omega arith) in
-      rw (bitsOf-append s r, drop-append-le k (bitsOf s) (bitsOf r) a, take-append-le w (drop k (bitsOf s)) (bitsOf r) b)
+      rw (
+        bitsOf-append s r,
+        drop-append-le k (bitsOf s) (bitsOf r) a,
+        take-append-le w (drop k (bitsOf s)) (bitsOf r) b,
+      )
 
   pub holds-same : (k w : ℕ) → holds s k w ≡ true → holds (s ++ r) k w ≡ true
   holds-same k w h = holds-of-le (s ++ r) k w (rw length-append (omega (arith, holds-true s k w h)))
 
   ext-by : (k w : ℕ) (b : Bool) → holds s k w ≡ b → Ext (field s k w) (field (s ++ r) k w)
   ext-by k w true h =
-      ext-same (rw (field-of-holds s k w h, field-of-holds (s ++ r) k w (holds-same k w h), number-same k w (holds-true s k w h)))
+      ext-same (rw (
+        field-of-holds s k w h,
+        field-of-holds (s ++ r) k w (holds-same k w h),
+        number-same k w (holds-true s k w h),
+      ))
   ext-by k w false h = ext-short (field-refuses s k w h)
 
   pub ext-field : (k w : ℕ) → Ext (field s k w) (field (s ++ r) k w)
@@ -123,8 +144,10 @@ module _ (s r : List ℕ) where
   ext-literals n at = ext-many _ _ (λ xs p. ext-then _ _ (ext-field p 64) (λ v q _. ext-got (signed v) q)) n at []
 
   name-by : (p n : ℕ) (b : Bool) → holds s p (8 * n) ≡ b
-      → Ext (must (holds s p (8 * n)) Short (must (allAllowed (bytesAt s p n)) BadName (got (bytesAt s p n) (p + 8 * n))))
-      (must (holds (s ++ r) p (8 * n)) Short (must (allAllowed (bytesAt (s ++ r) p n)) BadName (got (bytesAt (s ++ r) p n) (p + 8 * n))))
+      → Ext (must (holds s p (8 * n)) Short
+      (must (allAllowed (bytesAt s p n)) BadName (got (bytesAt s p n) (p + 8 * n))))
+      (must (holds (s ++ r) p (8 * n)) Short
+      (must (allAllowed (bytesAt (s ++ r) p n)) BadName (got (bytesAt (s ++ r) p n) (p + 8 * n))))
   unfolding must
   name-by p n true h =
       ext-same (rw (h, holds-same p (8 * n) h, bytes-same p n (holds-true s p (8 * n) h)))
@@ -158,7 +181,8 @@ module _ (s r : List ℕ) where
       ext-then _ _ (ext-field at 4) (λ m p _. ext-must _ _ (λ _.
       ext-many _ _ (λ xs q. ext-then _ _ (ext-field q 5) (λ k t _. ext-must _ _ (λ _. ext-got k t))) m p []))
 
-  pub ext-function : (kinds : List ℕ) (before : List Function) (at : ℕ) → Ext (functionAt s kinds before at) (functionAt (s ++ r) kinds before at)
+  pub ext-function : (kinds : List ℕ) (before : List Function) (at : ℕ)
+      → Ext (functionAt s kinds before at) (functionAt (s ++ r) kinds before at)
   unfolding functionAt
   ext-function kinds before at =
       ext-then _ _ (ext-new before at) (λ name p _.
@@ -171,12 +195,14 @@ module _ (s r : List ℕ) where
   unfolding functionsAt
   ext-functions kinds n at = ext-many _ _ (λ fs p. ext-function kinds fs p) n at []
 
-  ext-cells : (sorts : List Sort) (l : ℕ) (ks : List ℕ) (at : ℕ) → Ext (cellsAt s sorts l ks at) (cellsAt (s ++ r) sorts l ks at)
+  ext-cells : (sorts : List Sort) (l : ℕ) (ks : List ℕ) (at : ℕ)
+      → Ext (cellsAt s sorts l ks at) (cellsAt (s ++ r) sorts l ks at)
   unfolding cellsAt cellAt
   ext-cells sorts l ks at =
       ext-many _ _ (λ xs p. ext-then _ _ (ext-field p 9) (λ v q _. ext-must _ _ (λ _. ext-got v q))) (length ks) at []
 
-  pub ext-rows : (sorts : List Sort) (l : ℕ) (fs : List Function) (n at : ℕ) → Ext (rowsAt s sorts l fs n at) (rowsAt (s ++ r) sorts l fs n at)
+  pub ext-rows : (sorts : List Sort) (l : ℕ) (fs : List Function) (n at : ℕ)
+      → Ext (rowsAt s sorts l fs n at) (rowsAt (s ++ r) sorts l fs n at)
   unfolding rowsAt rowAt
   ext-rows sorts l fs n at =
       ext-many _ _
@@ -186,13 +212,15 @@ module _ (s r : List ℕ) where
       ext-then _ _ (ext-cells sorts l (columns (functionNo fs f)) t) (λ cells u _. ext-got _ u)))))
       n at []
 
--- How a reading stands to that of a longer file: it was Short, it was refused in the same way, or it was accepted, and bytes follow.
+-- How a reading stands to that of a longer file: it was Short, it was refused in the same way, or it was accepted, and
+-- bytes follow.
 pub data After {A : Type 0} (g h : Got A) : Type 0 where
   after-short : g ≡ refused Short → After g h
   after-fault : {x : Refusal} → g ≡ refused x → h ≡ refused x → After g h
   after-more : {a : A} {k : ℕ} → g ≡ got a k → h ≡ refused Trailing → After g h
 
-after-then : {A B : Type 0} {f f′ : B → ℕ → Got A} (g h : Got B) → Ext g h → ((b : B) (k : ℕ) → g ≡ got b k → After (f b k) (f′ b k))
+after-then : {A B : Type 0} {f f′ : B → ℕ → Got A} (g h : Got B) → Ext g h
+    → ((b : B) (k : ℕ) → g ≡ got b k → After (f b k) (f′ b k))
     → After (then g f) (then h f′)
 unfolding then
 after-then (got b k) h (ext-same e) j = rw (← e) (j b k refl)
@@ -201,7 +229,8 @@ after-then (refused r) h (ext-same e) j = after-fault refl (rw (← e))
 after-then (refused r) h (ext-short e) j = after-short (ap refused (refusal-same e))
 
 -- A fault of the end is passed on, and so is its absence.
-after-map : {A B : Type 0} (a : A) (g h : Got B) → After g h → After (then g (λ b k. got a k)) (then h (λ b k. got a k))
+after-map : {A B : Type 0} (a : A) (g h : Got B) → After g h
+    → After (then g (λ b k. got a k)) (then h (λ b k. got a k))
 unfolding then
 after-map a g h (after-short e) = after-short (rw e)
 after-map a g h (after-fault {x = x} e d) = after-fault {x = x} (rw e) (rw d)
@@ -214,7 +243,8 @@ module _ (s : List ℕ) (b : ℕ) (r : List ℕ) where
       omega arith
 
   end-by : (v p : ℕ) (z e : Bool) → eqb p (8 * length (s ++ (b ∷ r))) ≡ false
-      → After (must z Trailing (must e Trailing (got p p))) (must z Trailing (must (eqb p (8 * length (s ++ (b ∷ r)))) Trailing (got p p)))
+      → After (must z Trailing (must e Trailing (got p p)))
+      (must z Trailing (must (eqb p (8 * length (s ++ (b ∷ r)))) Trailing (got p p)))
   unfolding must
   end-by v p true true n = after-more refl (rw n)
   end-by v p true false n = after-fault refl (rw n)
@@ -234,9 +264,11 @@ module _ (s : List ℕ) (b : ℕ) (r : List ℕ) where
       after-then _ _ (ext-then _ _ (ext-field s t 0 4) (λ v p _. ext-must _ _ (λ _. ext-got v p))) (λ version a _.
       after-then _ _ (ext-then _ _ (ext-field s t a 5) (λ n p _. ext-sorts s t n p)) (λ sorts b _.
       after-then _ _ (ext-then _ _ (ext-field s t b 9) (λ n p _. ext-literals s t n p)) (λ literals c _.
-      after-then _ _ (ext-then _ _ (ext-field s t c 7) (λ n p _. ext-functions s t (kindsOf sorts) n p)) (λ functions d _.
+      after-then _ _ (ext-then _ _ (ext-field s t c 7)
+      (λ n p _. ext-functions s t (kindsOf sorts) n p)) (λ functions d _.
       after-then _ _
-      (ext-then _ _ (ext-field s t d 11) (λ n p _. ext-must _ _ (λ _. ext-rows s t sorts (length literals) functions n p))) (λ rows e _.
+      (ext-then _ _ (ext-field s t d 11)
+      (λ n p _. ext-must _ _ (λ _. ext-rows s t sorts (length literals) functions n p))) (λ rows e _.
       after-map _ _ _ (after-end e))))))
 
 refused-by : {g h : Got Table} {x : Refusal} → After g h → g ≡ refused x → (x ≡ Short → ⊥) → h ≡ refused x
@@ -255,5 +287,6 @@ fault-stays s [] e n = rw append-nil e
 fault-stays s (b ∷ r) e n = refused-by (after-table s b r) e n
 
 -- An accepted file with bytes after it is Trailing.
-pub trailing-when-more : (s : List ℕ) (b : ℕ) (r : List ℕ) {t : Table} {k : ℕ} → tableAt s ≡ got t k → tableAt (s ++ (b ∷ r)) ≡ refused Trailing
+pub trailing-when-more : (s : List ℕ) (b : ℕ) (r : List ℕ) {t : Table} {k : ℕ} → tableAt s ≡ got t k
+    → tableAt (s ++ (b ∷ r)) ≡ refused Trailing
 trailing-when-more s b r e = accepted-by (after-table s b r) e

@@ -38,7 +38,8 @@ version-spells s at =
     all-got (rw o at (field-spells s at 4 e))))
 
 -- A count, and then as many things.
-counted : {A : Type 0} (s : List ℕ) (at w : ℕ) (c : A → List ℕ) (xs : List A) {n p q : ℕ} → field s at w ≡ got n p → length xs ≡ n
+counted : {A : Type 0} (s : List ℕ) (at w : ℕ) (c : A → List ℕ) (xs : List A) {n p q : ℕ} → field s at w ≡ got n p
+    → length xs ≡ n
     → Spells s p q (blocks c xs) → Spells s at q (codeMany w c xs)
 counted s at w c xs e m k = rw m (spells-append (field-spells s at w e) k)
 
@@ -52,20 +53,24 @@ literals-part : (s : List ℕ) (at : ℕ) → All (λ xs q. Spells s at q (codeM
 unfolding literalsPart
 literals-part s at =
     all-then (field s at 9) _ (λ n p e. all-of _ (λ xs q d.
-    counted s at 9 codeLiteral xs e (literals-length s n p d) (all-at (rw d at (literals-spell s n p (end-in s at 9 e))))))
+    counted s at 9 codeLiteral xs e (literals-length s n p d)
+    (all-at (rw d at (literals-spell s n p (end-in s at 9 e))))))
 
-functions-part : (s kinds : List ℕ) (at : ℕ) → All (λ xs q. Spells s at q (codeMany 7 codeFunction xs)) (functionsPart s kinds at)
+functions-part : (s kinds : List ℕ) (at : ℕ)
+    → All (λ xs q. Spells s at q (codeMany 7 codeFunction xs)) (functionsPart s kinds at)
 unfolding functionsPart
 functions-part s kinds at =
     all-then (field s at 7) _ (λ n p e. all-of _ (λ xs q d.
-    counted s at 7 codeFunction xs e (functions-length s kinds n p d) (all-at (rw d at (functions-spell s kinds n p (end-in s at 7 e))))))
+    counted s at 7 codeFunction xs e (functions-length s kinds n p d)
+    (all-at (rw d at (functions-spell s kinds n p (end-in s at 7 e))))))
 
 rows-part : (s : List ℕ) (sorts : List Sort) (l : ℕ) (fs : List Function) (at : ℕ)
     → All (λ xs q. Spells s at q (codeMany 11 codeRow xs)) (rowsPart s sorts l fs at)
 unfolding rowsPart
 rows-part s sorts l fs at =
     all-then (field s at 11) _ (λ n p e. all-must _ _ _ (λ _. all-of _ (λ xs q d.
-    counted s at 11 codeRow xs e (rows-length s sorts l fs n p d) (all-at (rw d at (rows-spell s sorts l fs n p (end-in s at 11 e)))))))
+    counted s at 11 codeRow xs e (rows-length s sorts l fs n p d)
+    (all-at (rw d at (rows-spell s sorts l fs n p (end-in s at 11 e)))))))
 
 pub code-zero : (w : ℕ) → code w 0 ≡ replicate w 0
 unfolding code
@@ -111,7 +116,8 @@ file-all s =
     let t = spells-append k₁ (spells-append k₂ (spells-append k₃ (spells-append k₄ k₅))) in
     all-got (whole (k₆ .last) (spells-append t (same-pad _ (t .size) (k₆ .spelt))))))))))
   where
-    same-pad : (x : ℕ) {y z : ℕ} → x + 0 ≡ y → Spells s y z (replicate (padBits y) 0) → Spells s y z (replicate (padBits x) 0)
+    same-pad : (x : ℕ) {y z : ℕ} → x + 0 ≡ y → Spells s y z (replicate (padBits y) 0)
+        → Spells s y z (replicate (padBits x) 0)
     same-pad x {y} h p =
         let e : x ≡ y = omega arith in
         rw e p
@@ -131,7 +137,8 @@ top : (b c : ℕ) → b < 256 → c < 256 → b / 256 ≡ c / 256
 top b c h k = omega arith
 
 abbrev byteBits : ℕ → List ℕ
-byteBits b = (b / 128 % 2) ∷ (b / 64 % 2) ∷ (b / 32 % 2) ∷ (b / 16 % 2) ∷ (b / 8 % 2) ∷ (b / 4 % 2) ∷ (b / 2 % 2) ∷ (b % 2) ∷ []
+byteBits b =
+    (b / 128 % 2) ∷ (b / 64 % 2) ∷ (b / 32 % 2) ∷ (b / 16 % 2) ∷ (b / 8 % 2) ∷ (b / 4 % 2) ∷ (b / 2 % 2) ∷ (b % 2) ∷ []
 
 byte-same : (b c : ℕ) → b < 256 → c < 256 → byteBits b ≡ byteBits c → b ≡ c
 byte-same b c h k e =

@@ -15,7 +15,18 @@ use Rattle.fields.specs.Got.{Got, got, then, must, pick, many}
 use Rattle.fields.specs.Field.{field, holds}
 use Rattle.fields.proofs.BitsLaws.{bitsOf-length}
 use Rattle.fields.proofs.FieldLaws.{field-read, holds-true}
-use Rattle.fields.proofs.GotLaws.{All, all-got, all-at, all-of, all-map, all-then, all-must, all-pick, many-all, many-length}
+use Rattle.fields.proofs.GotLaws.{
+  All,
+  all-got,
+  all-at,
+  all-of,
+  all-map,
+  all-then,
+  all-must,
+  all-pick,
+  many-all,
+  many-length,
+}
 use Rattle.format.specs.Table.{Sort, Function, Row, Table}
 use Rattle.format.specs.Sorts.{classesOf, sortAt, sortsAt}
 use Rattle.format.specs.Literals.{signed, literalAt, literalsAt}
@@ -43,7 +54,8 @@ use Rattle.coding.proofs.SpellLaws.{Spells, spells-nil, spells-append, 
 
 -- Where many things are read, each spelling its code, all spell their codes.
 many-spells : {A : Type 0} (s : List ℕ) (c : A → List ℕ) (f : List A → ℕ → Got A) (n at : ℕ) → at ≤ length (bitsOf s)
-    → ((xs : List A) (p : ℕ) → All (λ x q. Spells s p q (c x)) (f xs p)) → All (λ xs q. Spells s at q (blocks c xs)) (many f n at [])
+    → ((xs : List A) (p : ℕ) → All (λ x q. Spells s p q (c x)) (f xs p))
+    → All (λ xs q. Spells s at q (blocks c xs)) (many f n at [])
 unfolding blocks
 many-spells s c f n at h each =
     many-all f (λ xs q. Spells s at q (blocks c xs))
@@ -76,7 +88,8 @@ sort-spells s at t =
     let b = field-spells s p 10 d in
     all-must _ _ _ (λ _. all-must _ _ _ (λ _. all-got (spells-append (rw k at a) b))))))
 
-pub sorts-spell : (s : List ℕ) (n at : ℕ) → at ≤ length (bitsOf s) → All (λ xs q. Spells s at q (blocks codeSort xs)) (sortsAt s n at)
+pub sorts-spell : (s : List ℕ) (n at : ℕ) → at ≤ length (bitsOf s)
+    → All (λ xs q. Spells s at q (blocks codeSort xs)) (sortsAt s n at)
 unfolding sortsAt
 sorts-spell s n at h = many-spells s codeSort _ n at h (λ xs p. sort-spells s p (classesOf xs))
 
@@ -98,11 +111,13 @@ literal-spells s at =
     all-then (field s at 64) _ (λ v p e.
     all-got (rw (unsigned-signed v (field-read s at 64 e .small)) (field-spells s at 64 e)))
 
-pub literals-spell : (s : List ℕ) (n at : ℕ) → at ≤ length (bitsOf s) → All (λ xs q. Spells s at q (blocks codeLiteral xs)) (literalsAt s n at)
+pub literals-spell : (s : List ℕ) (n at : ℕ) → at ≤ length (bitsOf s)
+    → All (λ xs q. Spells s at q (blocks codeLiteral xs)) (literalsAt s n at)
 unfolding literalsAt
 literals-spell s n at h = many-spells s codeLiteral _ n at h (λ xs p. literal-spells s p)
 
-bytes-spell : (s : List ℕ) (k n : ℕ) → k + 8 * n ≤ 8 * length s → Spells s k (k + 8 * n) (blocks (code 8) (bytesAt s k n))
+bytes-spell : (s : List ℕ) (k n : ℕ) → k + 8 * n ≤ 8 * length s
+    → Spells s k (k + 8 * n) (blocks (code 8) (bytesAt s k n))
 unfolding bytesAt blocks
 bytes-spell s k zero h =
     let e : k + 8 * 0 ≡ k = omega arith in
@@ -111,12 +126,14 @@ bytes-spell s k (suc n) h =
     let e : k + 8 * suc n ≡ k + 8 + 8 * n = omega arith in
     rw e (spells-append (number-spells s k 8 (omega arith)) (bytes-spell s (k + 8) n (omega arith)))
 
-pub name-spells : (s : List ℕ) (at : ℕ) → All (λ name q. Spells s at q (code 5 (length name) ++ blocks (code 8) name)) (nameAt s at)
+pub name-spells : (s : List ℕ) (at : ℕ)
+    → All (λ name q. Spells s at q (code 5 (length name) ++ blocks (code 8) name)) (nameAt s at)
 unfolding nameAt
 name-spells s at =
     all-then (field s at 5) _ (λ n p e. all-must _ _ _ (λ _. all-must _ _ _ (λ h. all-must _ _ _ (λ _.
     all-got
-    (rw (bytesAt-length s p n) (spells-append (field-spells s at 5 e) (bytes-spell s p n (holds-true s p (8 * n) h))))))))
+    (rw (bytesAt-length s p n)
+    (spells-append (field-spells s at 5 e) (bytes-spell s p n (holds-true s p (8 * n) h))))))))
 
 pub new-spells : (s : List ℕ) (before : List Function) (at : ℕ)
     → All (λ name q. Spells s at q (code 5 (length name) ++ blocks (code 8) name)) (newNameAt s before at)
@@ -125,7 +142,8 @@ new-spells s before at =
     all-then (nameAt s at) _ (λ name p e. all-must _ _ _ (λ _. all-got (all-at (rw e at (name-spells s at)))))
 
 pub cost-spells : (s : List ℕ) (at : ℕ)
-    → All (λ c q. Spells s at q (code 1 (c .hasCost) ++ pick (eqb (c .hasCost) 0) [] (code 64 (c .cost)))) (costAt s at)
+    → All (λ c q. Spells s at q
+    (code 1 (c .hasCost) ++ pick (eqb (c .hasCost) 0) [] (code 64 (c .cost)))) (costAt s at)
 unfolding costAt pick
 cost-spells s at =
     all-then (field s at 1) _ (λ has p e.
@@ -138,7 +156,8 @@ cost-spells s at =
     let k : has ≡ 1 = one-of has (field-read s at 1 e .small) o in
     all-then (field s p 64) _ (λ c q d. all-got (spells-append (rw k at a) (field-spells s p 64 d)))))
 
-pub flags-spell : (s : List ℕ) (at : ℕ) → All (λ f q. Spells s at q (code 1 (f .unextractable) ++ code 1 (f .hidden))) (flagsAt s at)
+pub flags-spell : (s : List ℕ) (at : ℕ)
+    → All (λ f q. Spells s at q (code 1 (f .unextractable) ++ code 1 (f .hidden))) (flagsAt s at)
 unfolding flagsAt
 flags-spell s at =
     all-then (field s at 1) _ (λ u p e. all-then (field s p 1) _ (λ h q d.
@@ -153,7 +172,8 @@ pub argument-spells : (s : List ℕ) (n at : ℕ) → All (λ k q. Spells s at q
 unfolding argumentAt
 argument-spells s n at = all-then (field s at 5) _ (λ k p e. all-must _ _ _ (λ _. all-got (field-spells s at 5 e)))
 
-pub arguments-spell : (s : List ℕ) (n at : ℕ) → All (λ xs q. Spells s at q (code 4 (length xs) ++ blocks (code 5) xs)) (argumentsAt s n at)
+pub arguments-spell : (s : List ℕ) (n at : ℕ)
+    → All (λ xs q. Spells s at q (code 4 (length xs) ++ blocks (code 5) xs)) (argumentsAt s n at)
 unfolding argumentsAt
 arguments-spell s n at =
     all-then (field s at 4) _ (λ m p e. all-must _ _ _ (λ _. all-of _ (λ xs q d.
@@ -161,7 +181,8 @@ arguments-spell s n at =
     let b = all-at (rw d at (many-spells s (code 5) _ m p (end-in s at 4 e) (λ xs p. argument-spells s n p))) in
     rw c (spells-append (field-spells s at 4 e) b))))
 
-pub function-spells : (s kinds : List ℕ) (before : List Function) (at : ℕ) → All (λ f q. Spells s at q (codeFunction f)) (functionAt s kinds before at)
+pub function-spells : (s kinds : List ℕ) (before : List Function) (at : ℕ)
+    → All (λ f q. Spells s at q (codeFunction f)) (functionAt s kinds before at)
 unfolding functionAt codeFunction
 function-spells s kinds before at =
     all-then (newNameAt s before at) _ (λ name p e₁.

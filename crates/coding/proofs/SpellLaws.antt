@@ -52,7 +52,8 @@ bits-are (b ∷ s) =
     (every-cons (bit-of (b / 64))
     (every-cons (bit-of (b / 32))
     (every-cons (bit-of (b / 16))
-    (every-cons (bit-of (b / 8)) (every-cons (bit-of (b / 4)) (every-cons (bit-of (b / 2)) (every-cons (bit-of b) (bits-are s))))))))
+    (every-cons (bit-of (b / 8))
+    (every-cons (bit-of (b / 4)) (every-cons (bit-of (b / 2)) (every-cons (bit-of b) (bits-are s))))))))
 
 pub every-take : {A : Type 0} {P : A → Type 0} {xs : List A} (n : ℕ) → Every P xs → Every P (take n xs)
 every-take zero h = every-nil
@@ -112,7 +113,8 @@ pub number-spells : (s : List ℕ) (k w : ℕ) → k + w ≤ 8 * length s → Sp
 unfolding number
 number-spells s k w h =
     let l : k + w ≤ length (bitsOf s) = rw bitsOf-length h in
-    let n : length (take w (drop k (bitsOf s))) ≡ w = length-take-le w (drop k (bitsOf s)) (rw length-drop (omega arith)) in
+    let n : length (take w (drop k (bitsOf s))) ≡ w =
+    length-take-le w (drop k (bitsOf s)) (rw length-drop (omega arith)) in
     let e : code w (value 0 (take w (drop k (bitsOf s)))) ≡ take w (drop k (bitsOf s)) =
     rw n at (code-value 0 (every-take w (every-drop k (bits-are s)))) in
     record { size = rw code-length (omega arith); here = l; are = rw code-length (sym e) }

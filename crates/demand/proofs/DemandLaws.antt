@@ -19,9 +19,11 @@ use Rattle.demand.proofs.OrderLaws.{
   ordered,
 }
 
-module _ (rows : List Row) (usable : ℕ → Bool) (order : List ℕ) (In : ℕ → Type 0) (v : Covers rows usable order In) where
+module _ (rows : List Row) (usable : ℕ → Bool) (order : List ℕ) (In : ℕ → Type 0)
+    (v : Covers rows usable order In) where
   -- a tree over the order is a deriving one
-  pub deriving-of-order : (c : ℕ) (t : Tree) → Derives (inOrder rows order) t (class c) → Deriving rows usable c (renumber order t)
+  pub deriving-of-order : (c : ℕ) (t : Tree) → Derives (inOrder rows order) t (class c)
+      → Deriving rows usable c (renumber order t)
   deriving-of-order c t d = record {
     derives = renumber-derives rows order (v .known) t (class c) d;
     all-usable = renumber-usable rows order usable (v .usable-ones) t (class c) d;
@@ -37,7 +39,8 @@ module _ (rows : List Row) (usable : ℕ → Bool) (order : List ℕ) (In : ℕ 
 
   -- the best tree over the order, renumbered, is a cheapest deriving one
   pub cheapest-of-best :
-      (c : ℕ) → In c → (w : ℕ) (t : Tree) → Best (inOrder rows order) c w t → Cheapest rows usable c w (renumber order t)
+      (c : ℕ) → In c → (w : ℕ) (t : Tree) → Best (inOrder rows order) c w t
+      → Cheapest rows usable c w (renumber order t)
   cheapest-of-best c h w t b = record {
     is-deriving = deriving-of-order c t (b .derives);
     exact = renumber-cost rows order t (class c) (b .derives) ∙ b .exact;
@@ -48,7 +51,8 @@ module _ (rows : List Row) (usable : ℕ → Bool) (order : List ℕ) (In : ℕ 
   }
 
   -- an answer that is right over the order is demand 3's
-  pub answered-of-right : (M c : ℕ) → In c → (a : Answer) → Right M (inOrder rows order) c a → Answered M rows usable c a
+  pub answered-of-right : (M c : ℕ) → In c → (a : Answer) → Right M (inOrder rows order) c a
+      → Answered M rows usable c a
   answered-of-right M c h noTerm r = λ t d. let o = order-of-deriving c h t d in r (o .tree) (o .derives)
   answered-of-right M c h tooDear r = (
     (renumber order (r .0 .0), deriving-of-order c (r .0 .0) (r .0 .1)),

@@ -28,7 +28,8 @@ pub map-length : {A B : Type 0} (f : A → B) (xs : List A) → length (map f xs
 map-length f [] = refl
 map-length f (x ∷ xs) = ap suc (map-length f xs)
 
-pub map-get : {A B : Type 0} (f : A → B) (xs : List A) (i : ℕ) (a : A) (b : B) → i < length xs → getD (map f xs) i b ≡ f (getD xs i a)
+pub map-get : {A B : Type 0} (f : A → B) (xs : List A) (i : ℕ) (a : A) (b : B) → i < length xs
+    → getD (map f xs) i b ≡ f (getD xs i a)
 map-get f [] i a b h = absurd (omega arith)
 map-get f (x ∷ xs) zero a b h = refl
 map-get f (x ∷ xs) (suc i) a b h = map-get f xs i a b (omega arith)
@@ -37,7 +38,8 @@ pub inOrder-length : (rows : List Row) (order : List ℕ) → length (inOrder ro
 unfolding inOrder
 inOrder-length rows order = map-length (rowAt rows) order
 
-pub inOrder-get : (rows : List Row) (order : List ℕ) (i : ℕ) → i < length order → rowAt (inOrder rows order) i ≡ rowAt rows (getD order i 0)
+pub inOrder-get : (rows : List Row) (order : List ℕ) (i : ℕ) → i < length order
+    → rowAt (inOrder rows order) i ≡ rowAt rows (getD order i 0)
 unfolding inOrder
 inOrder-get rows order i h = map-get (rowAt rows) order i 0 noRow h
 
@@ -115,7 +117,8 @@ module _ (rows : List Row) (order : List ℕ) where
     renumber-cost (leaf i) k d = refl
     renumber-cost (node i f) (literal j) d = absurd d
     renumber-cost (node i f) (class c) d =
-        ap (λ (n : ℕ). rowAt rows (getD order i 0) .head + n) (renumber-cost-in f (rowAt (inOrder rows order) i .children) (d .2))
+        ap (λ (n : ℕ). rowAt rows (getD order i 0) .head + n)
+        (renumber-cost-in f (rowAt (inOrder rows order) i .children) (d .2))
         ∙ ap (λ (r : Row). r .head + forestCost (inOrder rows order) f) (sym (at i (d .0)))
 
     pub renumber-cost-in :
@@ -144,7 +147,8 @@ module _ (rows : List Row) (order : List ℕ) where
         let e = at i (d .0) in (
           subst (λ (r : Row). NotIn (r .output) met) e (o .0),
           subst (λ (r : Row). OnceAll rows (r .output ∷ met) (renumberIn order f)) e
-              (renumber-once-in (rowAt (inOrder rows order) i .output ∷ met) f (rowAt (inOrder rows order) i .children) (d .2) (o .1)),
+              (renumber-once-in (rowAt (inOrder rows order) i .output ∷ met) f
+              (rowAt (inOrder rows order) i .children) (d .2) (o .1)),
         )
 
     pub renumber-once-in :
@@ -172,7 +176,8 @@ pub record OrderedIn (rows : List Row) (order : List ℕ) (f : Forest) (ks : Lis
 abbrev pub InAll : (ℕ → Type 0) → List Child → Type 0
 InAll In ks = (j : ℕ) → j < length ks → (d : ℕ) → getD ks j (literal 0) ≡ class d → In d
 
-module _ (rows : List Row) (usable : ℕ → Bool) (order : List ℕ) (In : ℕ → Type 0) (v : Covers rows usable order In) where
+module _ (rows : List Row) (usable : ℕ → Bool) (order : List ℕ) (In : ℕ → Type 0)
+    (v : Covers rows usable order In) where
   mutual
     unfolding Derives DeriveAll AllUsable AllUsableIn treeCost forestCost
 

@@ -48,7 +48,8 @@ unfolding number value
 number-zero s k = refl
 
 -- One bit more.
-pub number-suc : (s : List ℕ) (k w : ℕ) → k + suc w ≤ 8 * length s → number s k (suc w) ≡ number s k w * 2 + bitAt s (k + w)
+pub number-suc : (s : List ℕ) (k w : ℕ) → k + suc w ≤ 8 * length s
+    → number s k (suc w) ≡ number s k w * 2 + bitAt s (k + w)
 unfolding number
 number-suc s k w h =
     let l : w < length (drop k (bitsOf s)) = rw (length-drop, bitsOf-length) (omega arith) in

@@ -57,7 +57,8 @@ pub record Field-read (s : List ℕ) (k w v q : ℕ) : Type 0 where
   pub is : v ≡ number s k w
   pub small : v < 2 ^ w
 
-read-by : (s : List ℕ) (k w v q : ℕ) (b : Bool) → holds s k w ≡ b → got v q ≡ must b NoMore (got (number s k w) (k + w))
+read-by : (s : List ℕ) (k w v q : ℕ) (b : Bool) → holds s k w ≡ b
+    → got v q ≡ must b NoMore (got (number s k w) (k + w))
     → Field-read s k w v q
 unfolding must
 read-by s k w v q true h e =

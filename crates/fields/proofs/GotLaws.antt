@@ -21,7 +21,8 @@ module _ {A : Type 0} {P : A → ℕ → Type 0} where
   all-of (got a k) h = all-got (h a k refl)
   all-of (refused r) h = all-refused
 
-  pub all-then : {B : Type 0} (g : Got B) (f : B → ℕ → Got A) → ((b : B) (k : ℕ) → g ≡ got b k → All P (f b k)) → All P (then g f)
+  pub all-then : {B : Type 0} (g : Got B) (f : B → ℕ → Got A) → ((b : B) (k : ℕ) → g ≡ got b k → All P (f b k))
+      → All P (then g f)
   unfolding then
   all-then (got b k) f h = h b k refl
   all-then (refused r) f h = all-refused
@@ -59,10 +60,12 @@ count-by f (suc n) m at xs e =
     all-then (f xs at) _ (λ x p _. count-by f n m p (xs ++ (x ∷ [])) (simp length-append (omega arith)))
 
 -- As many things as were asked for.
-pub many-length : {A : Type 0} (f : List A → ℕ → Got A) (n at : ℕ) {xs : List A} {k : ℕ} → many f n at [] ≡ got xs k → length xs ≡ n
+pub many-length : {A : Type 0} (f : List A → ℕ → Got A) (n at : ℕ) {xs : List A} {k : ℕ} → many f n at [] ≡ got xs k
+    → length xs ≡ n
 many-length f n at e = all-at (rw e at (count-by f n n at [] (omega arith)))
 
--- The loop over n things from position at: i of them, those of xs, are read up to p, and the rest gives what the whole gives.
+-- The loop over n things from position at: i of them, those of xs, are read up to p, and the rest gives what the whole
+-- gives.
 pub record Loop {A : Type 0} (f : List A → ℕ → Got A) (n at p i : ℕ) (xs : List A) : Type 0 where
   pub some : length xs ≡ i
   pub within : i ≤ n

@@ -13,7 +13,21 @@ use Rattle.scan.specs.Order.{inTurn}
 use Rattle.scan.specs.Arrays.{argumentsIn, Filled}
 use Rattle.scan.proofs.HasLaws.{by-test, has-get}
 use Rattle.flatrows.specs.Rows.{childNumber, childNumbers, cellsIn, outputIn, headIn, childrenIn, rowIn}
-use Rattle.flatrows.specs.Arrays.{RowArrays, Listed, Each, OutputFits, HeadFits, CellsFit, ArityFits, arityIn, ChildrenFit, RowsFit, Mapped, Sums, Laid}
+use Rattle.flatrows.specs.Arrays.{
+  RowArrays,
+  Listed,
+  Each,
+  OutputFits,
+  HeadFits,
+  CellsFit,
+  ArityFits,
+  arityIn,
+  ChildrenFit,
+  RowsFit,
+  Mapped,
+  Sums,
+  Laid,
+}
 use Rattle.flatrows.proofs.ChildLaws.{
   childNumbers-get,
   arguments-length,
@@ -58,7 +72,8 @@ module _ (kinds bases declared costs outputs arities arguments rowFunctions cell
       Mapped (headIn declared costs rowFunctions) order heads →
       Sums (arityIn arities rowFunctions) order starts →
       Filled children m (inTurn (childrenIn kinds bases arities arguments rowFunctions cells) order) →
-      Laid kinds bases declared costs outputs arities arguments rowFunctions cells order m classes heads starts children
+      Laid kinds bases declared costs outputs arities arguments rowFunctions cells order m classes
+      heads starts children
   unfolding rowIn
   laid-of-parts m classes heads starts children os hs ss cs = record {
     classes-are = os;
@@ -72,7 +87,8 @@ module _ (kinds bases declared costs outputs arities arguments rowFunctions cell
 
 module _ (sorts functions rows n : ℕ)
     (kinds bases declared costs outputs arities arguments rowFunctions cells : List ℕ)
-    (v : RowArrays sorts functions rows n kinds bases declared costs outputs arities arguments rowFunctions cells) where
+    (v : RowArrays sorts functions rows n kinds bases declared costs outputs arities arguments
+    rowFunctions cells) where
   module _ (r : ℕ) (h : r < rows) where
     abbrev f : ℕ
     f = getD rowFunctions r 0
@@ -172,7 +188,8 @@ module _ (sorts functions rows n : ℕ)
     -- What is laid is rows over the n classes, as the relaxation asks.
     pub laid-is-flat :
         (m : ℕ) (classes heads starts children : List ℕ) →
-        Laid kinds bases declared costs outputs arities arguments rowFunctions cells order m classes heads starts children →
+        Laid kinds bases declared costs outputs arities arguments rowFunctions cells order m classes
+        heads starts children →
         FlatOk n
         (take (length order) classes) (take (length order) heads) (take (length order + 1) starts) (take m children)
     laid-is-flat m classes heads starts children l =

@@ -18,7 +18,8 @@ unfolding padWith
 padWith-length z n xs h = rw (length-append, length-replicate) (omega arith)
 
 -- What stands at a place of the list stands there in the array.
-pub padWith-get : {A : Type 0} (z : A) (n : ℕ) (xs : List A) (i : ℕ) (d : A) → i < length xs → getD (padWith z n xs) i d ≡ getD xs i d
+pub padWith-get : {A : Type 0} (z : A) (n : ℕ) (xs : List A) (i : ℕ) (d : A) → i < length xs
+    → getD (padWith z n xs) i d ≡ getD xs i d
 unfolding padWith
 padWith-get z n xs i d h = List·getD-append xs _ d i h
 
@@ -31,12 +32,14 @@ padWith-set z n xs i v e h =
     let f : n - length (xs ++ (v ∷ [])) ≡ n - suc (length xs) = simp length-append (omega arith) in
     rw (d, f, set-at xs z (replicate (n - suc (length xs)) z) v i e) (sym (append-snoc xs v _))
 
-pub pad-set-map : {A : Type 0} (n : ℕ) (f : A → ℕ) (xs : List A) (i : ℕ) (x : A) {v : ℕ} → length xs ≡ i → i < n → f x ≡ v
+pub pad-set-map : {A : Type 0} (n : ℕ) (f : A → ℕ) (xs : List A) (i : ℕ) (x : A) {v : ℕ} → length xs ≡ i → i < n
+    → f x ≡ v
     → set (pad n (map f xs)) i v ≡ pad n (map f (xs ++ (x ∷ [])))
 pad-set-map n f xs i x e h d = rw (map-append, ← d) (padWith-set 0 n (map f xs) i (f x) (length-map xs f ∙ e) h)
 
 -- One store more in a run of stores.
-pub sets-snoc : (l : List ℕ) (i : ℕ) (vs : List ℕ) (v : ℕ) → sets l i (vs ++ (v ∷ [])) ≡ set (sets l i vs) (i + length vs) v
+pub sets-snoc : (l : List ℕ) (i : ℕ) (vs : List ℕ) (v : ℕ)
+    → sets l i (vs ++ (v ∷ [])) ≡ set (sets l i vs) (i + length vs) v
 sets-snoc l i [] v =
     let e : i + 0 ≡ i = omega arith in
     rw e

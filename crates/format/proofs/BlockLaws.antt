@@ -37,7 +37,8 @@ module _ {A : Type 0} (f : A → List ℕ) where
         rw (length-append, e, blocks-length h, suc-mul) (omega arith)
 
     -- Block k, with what follows it.
-    pub blocks-drop : {xs : List A} → Every (λ (x : A). length (f x) ≡ m) xs → (k : ℕ) (d : A) (z : List ℕ) → k < length xs
+    pub blocks-drop : {xs : List A} → Every (λ (x : A). length (f x) ≡ m) xs → (k : ℕ) (d : A) (z : List ℕ)
+        → k < length xs
         → drop (k * m) (blocks f xs ++ z) ≡ f (getD xs k d) ++ (blocks f (drop (suc k) xs) ++ z)
     unfolding blocks
     blocks-drop every-nil k d z l = let n : ⊥ = omega arith in absurd n
@@ -63,7 +64,8 @@ pad-block n xs ys at e a b l =
     rw (take-at xs _ at a, m, k, drop-append-add xs, a, j, drop-replicate, q)
 
 -- A block that is filled up with zeros is the same in an array.
-pub pad-of-pad : (n m : ℕ) (xs ys : List ℕ) → length ys ≤ m → length xs + m ≤ n → pad n (xs ++ pad m ys) ≡ pad n (xs ++ ys)
+pub pad-of-pad : (n m : ℕ) (xs ys : List ℕ) → length ys ≤ m → length xs + m ≤ n
+    → pad n (xs ++ pad m ys) ≡ pad n (xs ++ ys)
 unfolding padWith
 pad-of-pad n m xs ys a b =
     let z : List ℕ = replicate (m - length ys) 0 in

@@ -39,11 +39,14 @@ clash b e d =
     omega arith
 
 -- A name that is not taken is no function's.
-pub taken-no : (fs : List Function) (name : List ℕ) (k : ℕ) → taken fs name ≡ false → k < length fs → functionNo fs k .name ≡ name → ⊥
+pub taken-no : (fs : List Function) (name : List ℕ) (k : ℕ) → taken fs name ≡ false → k < length fs
+    → functionNo fs k .name ≡ name → ⊥
 unfolding taken
 taken-no [] name k e l d = omega arith
-taken-no (f ∷ fs) name zero e l d = clash (same (f .name) name) (rw d (same-refl name)) (or-left (same (f .name) name) (taken fs name) e)
-taken-no (f ∷ fs) name (suc k) e l d = taken-no fs name k (or-right (same (f .name) name) (taken fs name) e) (omega arith) d
+taken-no (f ∷ fs) name zero e l d =
+    clash (same (f .name) name) (rw d (same-refl name)) (or-left (same (f .name) name) (taken fs name) e)
+taken-no (f ∷ fs) name (suc k) e l d =
+    taken-no fs name k (or-right (same (f .name) name) (taken fs name) e) (omega arith) d
 
 module _ (fs : List Function) (f : Function) where
   before : (k : ℕ) → k < length fs → functionNo (fs ++ (f ∷ [])) k ≡ functionNo fs k
@@ -87,6 +90,7 @@ functions-kept s kinds n at =
     (function-kept s kinds fs p))
     n at [] (record { ok = every-nil; differ = none-differ; near = omega arith })
 
-pub functions-length : (s kinds : List ℕ) (n at : ℕ) {fs : List Function} {q : ℕ} → functionsAt s kinds n at ≡ got fs q → length fs ≡ n
+pub functions-length : (s kinds : List ℕ) (n at : ℕ) {fs : List Function} {q : ℕ} → functionsAt s kinds n at ≡ got fs q
+    → length fs ≡ n
 unfolding functionsAt
 functions-length s kinds n at e = many-length _ n at e

@@ -11,7 +11,18 @@ use Rattle.fields.specs.Bits.{number}
 use Rattle.fields.specs.Got.{Got, got, refused, then, must, pick, many}
 use Rattle.fields.specs.Field.{field, holds}
 use Rattle.fields.proofs.FieldLaws.{field-read}
-use Rattle.fields.proofs.GotLaws.{All, all-got, all-map, all-at, all-of, all-then, all-must, all-pick, many-all, many-length}
+use Rattle.fields.proofs.GotLaws.{
+  All,
+  all-got,
+  all-map,
+  all-at,
+  all-of,
+  all-then,
+  all-must,
+  all-pick,
+  many-all,
+  many-length,
+}
 use Rattle.format.specs.Table.{Function}
 use Rattle.format.specs.Every.{Every, every-nil}
 use Rattle.format.specs.Functions.{
@@ -87,7 +98,12 @@ cost-kept s at =
     (λ _. all-got (record { flag = omega arith; none = λ z. refl; small = omega arith; near = omega (arith, k .end) }))
     (λ _. all-then (field s p 64) _ (λ cost q d.
     let m = field-read s p 64 d in
-    all-got (record { flag = omega arith; none = λ z. absurd (one z); small = m .small; near = omega (arith, k .end, m .end) }))))
+    all-got (record {
+      flag = omega arith;
+      none = λ z. absurd (one z);
+      small = m .small;
+      near = omega (arith, k .end, m .end);
+    }))))
   where
     one : _≡_ {A = ℕ} 1 0 → ⊥
     one z = omega arith
@@ -133,7 +149,10 @@ some-kept s n at m =
     many-all _ (Some n at)
     (λ xs p h.
     all-map
-    (λ k q b. record { sorted = every-snoc (h .sorted) (b .0); near = simp length-append (omega (arith, h .near, b .1)) })
+    (λ k q b. record {
+      sorted = every-snoc (h .sorted) (b .0);
+      near = simp length-append (omega (arith, h .near, b .1));
+    })
     (argument-kept s n p))
     m at [] (record { sorted = every-nil; near = omega arith })
 
@@ -161,7 +180,8 @@ pub record FunctionKept (kinds : List ℕ) (before : List Function) (at : ℕ) (
   pub short : length (f .name) ≤ 31
   pub near : q ≤ at + 369
 
-pub function-kept : (s kinds : List ℕ) (before : List Function) (at : ℕ) → All (FunctionKept kinds before at) (functionAt s kinds before at)
+pub function-kept : (s kinds : List ℕ) (before : List Function) (at : ℕ)
+    → All (FunctionKept kinds before at) (functionAt s kinds before at)
 unfolding functionAt
 function-kept s kinds before at =
     all-then (newNameAt s before at) _ (λ name p e₁.

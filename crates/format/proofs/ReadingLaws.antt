@@ -47,7 +47,8 @@ module _ {A : Type 0} {P : A → Type 0} where
   pub reads-not : {g : Got A} {r : Step} {x : Refusal} → Reads g r P → r ≡ Refused x → g ≡ refused x
   reads-not {g} h e = not-by g (sym e ∙ h .answer)
 
-weaken-by : {A : Type 0} {P Q : A → Type 0} (g : Got A) → OnGot g P → ((a : A) (k : ℕ) → g ≡ got a k → P a → Q a) → OnGot g Q
+weaken-by : {A : Type 0} {P Q : A → Type 0} (g : Got A) → OnGot g P → ((a : A) (k : ℕ) → g ≡ got a k → P a → Q a)
+    → OnGot g Q
 unfolding OnGot
 weaken-by (got a k) h f = f a k refl h
 weaken-by (refused r) h f = tt
@@ -86,7 +87,8 @@ part-not-by (refused y) e = cc
 
 module _ {A : Type 0} {P : List A → Type 0} where
   -- The reader of many things counts them.
-  pub counts-of-done : {g : Got (List A)} {n k : ℕ} → Read-to g k P → (d : (xs : List A) (j : ℕ) → g ≡ got xs j → length xs ≡ n)
+  pub counts-of-done : {g : Got (List A)} {n k : ℕ} → Read-to g k P
+      → (d : (xs : List A) (j : ℕ) → g ≡ got xs j → length xs ≡ n)
       → Counts g (Part.Done (record { count = n; next = k })) P
   unfolding OnGot
   counts-of-done {n = n} {k = k} r d =
@@ -106,7 +108,12 @@ module _ {A : Type 0} {P : List A → Type 0} where
   unfolding OnGot
   part-by (got xs j) {c} e h =
       let d : c ≡ record { count = length xs; next = j } = cc in
-      record { what = xs; is = ap (λ (x : Counted). got xs (x .next)) (sym d); size = ap (λ (x : Counted). x .count) (sym d); has = h }
+      record {
+        what = xs;
+        is = ap (λ (x : Counted). got xs (x .next)) (sym d);
+        size = ap (λ (x : Counted). x .count) (sym d);
+        has = h;
+      }
   part-by (refused x) e h =
       let z : _≡_ {A = ℕ} 0 1 = cc in
       let n : ⊥ = omega arith in

@@ -28,14 +28,16 @@ record Cells (bounds : ℕ → ℕ) (at : ℕ) (xs : List ℕ) (q : ℕ) : Type 
   within : (j : ℕ) → j < length xs → getD xs j 0 < bounds j
   near : q ≤ at + 9 * length xs
 
-within-by : (bounds : ℕ → ℕ) (xs : List ℕ) (v j : ℕ) → ((j : ℕ) → j < length xs → getD xs j 0 < bounds j) → v < bounds (length xs)
+within-by : (bounds : ℕ → ℕ) (xs : List ℕ) (v j : ℕ) → ((j : ℕ) → j < length xs → getD xs j 0 < bounds j)
+    → v < bounds (length xs)
     → j < length xs + 1 → Dec (j < length xs) → getD (xs ++ (v ∷ [])) j 0 < bounds j
 within-by bounds xs v j h b l (yes m) = rw (List·getD-append xs (v ∷ []) 0 j m) (h j m)
 within-by bounds xs v j h b l (no n) =
     let e : j ≡ length xs = omega arith in
     rw (e, getD-append-seam xs v [] 0) b
 
-cells-more : (bounds : ℕ → ℕ) (at : ℕ) (xs : List ℕ) (p v q : ℕ) → Cells bounds at xs p → v < bounds (length xs) → q ≡ p + 9
+cells-more : (bounds : ℕ → ℕ) (at : ℕ) (xs : List ℕ) (p v q : ℕ) → Cells bounds at xs p → v < bounds (length xs)
+    → q ≡ p + 9
     → Cells bounds at (xs ++ (v ∷ [])) q
 cells-more bounds at xs p v q h b e =
     record {
@@ -84,7 +86,8 @@ module _ (s : List ℕ) (sorts : List Sort) (l : ℕ) where
         let m = field-read s p 1 d in
         all-then (cellsAt s sorts l (columns (functionNo fs f)) q) _ (λ cells t g.
         let c = all-at (rw g at (cells-kept (columns (functionNo fs f)) q)) in
-        let n : length (columns (functionNo fs f)) ≡ length (functionNo fs f .arguments) + 1 = length-append (functionNo fs f .arguments) _ in
+        let n : length (columns (functionNo fs f)) ≡ length (functionNo fs f .arguments) + 1 =
+        length-append (functionNo fs f .arguments) _ in
         all-got
         (record {
           ok = record { known = known; bit = m .small; cells-ok = c .ok };
@@ -101,10 +104,14 @@ module _ (s : List ℕ) (sorts : List Sort) (l : ℕ) where
         many-all _ (RowsKept at)
         (λ rows p h.
         all-map
-        (λ r q k. record { ok = every-snoc (h .ok) (k .ok); near = simp length-append (omega (arith, h .near, k .near)) })
+        (λ r q k. record {
+          ok = every-snoc (h .ok) (k .ok);
+          near = simp length-append (omega (arith, h .near, k .near));
+        })
         (row-kept p))
         n at [] (record { ok = every-nil; near = omega arith })
 
-  pub rows-length : (fs : List Function) (n at : ℕ) {rows : List Row} {q : ℕ} → rowsAt s sorts l fs n at ≡ got rows q → length rows ≡ n
+  pub rows-length : (fs : List Function) (n at : ℕ) {rows : List Row} {q : ℕ} → rowsAt s sorts l fs n at ≡ got rows q
+      → length rows ≡ n
   unfolding rowsAt
   rows-length fs n at e = many-length _ n at e

@@ -8,7 +8,18 @@ use borrow.Author.Tests.{leb-true}
 use Rattle.fields.specs.Got.{Got, got, then, must, pick, many}
 use Rattle.fields.specs.Field.{field}
 use Rattle.fields.proofs.FieldLaws.{field-read}
-use Rattle.fields.proofs.GotLaws.{All, all-got, all-at, all-of, all-map, all-then, all-must, all-pick, many-all, many-length}
+use Rattle.fields.proofs.GotLaws.{
+  All,
+  all-got,
+  all-at,
+  all-of,
+  all-map,
+  all-then,
+  all-must,
+  all-pick,
+  many-all,
+  many-length,
+}
 use Rattle.format.specs.Table.{Sort}
 use Rattle.format.specs.Sorts.{classesOf, sortAt, sortsAt}
 use Rattle.format.specs.Every.{Every, every-nil}
@@ -30,7 +41,11 @@ sort-kept s at t h =
     all-then (field s at 1) _ (λ kind p e.
     let f = field-read s at 1 e in
     all-pick _ _ _
-    (λ _. all-got (record { ok = record { bit = omega arith; base = λ _. refl }; few = omega arith; near = omega (arith, f .end) }))
+    (λ _. all-got (record {
+      ok = record { bit = omega arith; base = λ _. refl };
+      few = omega arith;
+      near = omega (arith, f .end);
+    }))
     (λ _.
     all-then (field s p 10) _ (λ n q d.
     let g = field-read s p 10 d in

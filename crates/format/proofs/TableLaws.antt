@@ -104,7 +104,8 @@ functions-in s kinds at =
     record { count = omega arith; ok = k .ok; differ = k .differ; near = omega (arith, f .end, k .near) }))
 
 -- At most 8 arguments.
-pub tight-of : {kinds : List ℕ} {fs : List Function} → Every (FunctionOk kinds) fs → Every (λ (f : Function). length (f .arguments) ≤ 8) fs
+pub tight-of : {kinds : List ℕ} {fs : List Function} → Every (FunctionOk kinds) fs
+    → Every (λ (f : Function). length (f .arguments) ≤ 8) fs
 tight-of {kinds} h = every-map (λ (f : Function) (o : FunctionOk kinds f). o .few) h
 
 pub record RowsIn (sorts : List Sort) (l : ℕ) (fs : List Function) (at : ℕ) (rows : List Row) (q : ℕ) : Type 0 where

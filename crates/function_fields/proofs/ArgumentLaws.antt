@@ -39,7 +39,8 @@ module _ {s : List ℕ} {n at m from : ℕ} {arguments₀ : List ℕ} where
           held = record { put = rw (l .held .put, ← l .loop .some) (sym (sets-snoc arguments₀ from (l .xs) v)) };
         }
 
-    pub arguments-refuse : {r : Refusal} → j < m → argumentOf s n (l .xs) p ≡ refused r → many (argumentOf s n) m at [] ≡ refused r
+    pub arguments-refuse : {r : Refusal} → j < m → argumentOf s n (l .xs) p ≡ refused r
+        → many (argumentOf s n) m at [] ≡ refused r
     arguments-refuse h e = loop-refuses (l .loop) h e
 
     pub arguments-end : m ≤ j → many (argumentOf s n) m at [] ≡ got (l .xs) p

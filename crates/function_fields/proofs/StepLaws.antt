@@ -26,7 +26,8 @@ module _ (s : List ℕ) (at : ℕ) where
       unfolding costAt then pick
       cost-cut d = rw (e, ne-eqb _ _ o, d)
 
-      pub cost-some : {cost q : ℕ} → field s p 64 ≡ got cost q → costAt s at ≡ got (record { hasCost = 1; cost = cost }) q
+      pub cost-some : {cost q : ℕ} → field s p 64 ≡ got cost q
+          → costAt s at ≡ got (record { hasCost = 1; cost = cost }) q
       unfolding costAt then pick
       cost-some d = rw (e, ne-eqb _ _ o, d)
 
@@ -39,7 +40,8 @@ module _ (s : List ℕ) (at : ℕ) where
     unfolding flagsAt then
     flags-cut d = rw (e, d)
 
-    pub flags-both : {h q : ℕ} → field s p 1 ≡ got h q → flagsAt s at ≡ got (record { unextractable = u; hidden = h }) q
+    pub flags-both : {h q : ℕ} → field s p 1 ≡ got h q
+        → flagsAt s at ≡ got (record { unextractable = u; hidden = h }) q
     unfolding flagsAt then
     flags-both d = rw (e, d)
 

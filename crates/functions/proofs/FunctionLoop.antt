@@ -22,22 +22,26 @@ use Rattle.name_field.proofs.EntriesLaws.{entryOf, names-length, held-length, h
 use Rattle.functions.specs.Put.{PutFunction, Zeros}
 
 -- The name of one function more.
-names-more : (fs : List Function) (f : Function) (i : ℕ) → HoldsNames (pad 4096 (blocks entryOf fs)) i fs → i < 128 → length (f .name) ≤ 31
+names-more : (fs : List Function) (f : Function) (i : ℕ) → HoldsNames (pad 4096 (blocks entryOf fs)) i fs → i < 128
+    → length (f .name) ≤ 31
     → putName (pad 4096 (blocks entryOf fs)) i (f .name) ≡ pad 4096 (blocks entryOf (fs ++ (f ∷ [])))
 unfolding putName
 names-more fs f i h b l =
     let e : length (entry (f .name)) ≡ 32 = entry-length (f .name) l in
     let few : i ≤ 128 = omega arith in
     let t = take-all 32 (entry (f .name)) (omega arith) in
-    rw (t, blocks-snoc) (pad-block 4096 (blocks entryOf fs) (entry (f .name)) (i * 32) (i * 32 + 32) (names-length h few) (omega arith) (omega arith))
+    rw (t, blocks-snoc) (pad-block 4096 (blocks entryOf fs) (entry (f .name)) (i * 32) (i * 32 + 32) (names-length h
+    few) (omega arith) (omega arith))
 
 -- The 8 places of a function's argument sorts.
 abbrev pub placesOf : Function → List ℕ
 placesOf f = pad 8 (f .arguments)
 
-places-length : {fs : List Function} → Every (λ (f : Function). length (f .arguments) ≤ 8) fs → length (blocks placesOf fs) ≡ length fs * 8
+places-length : {fs : List Function} → Every (λ (f : Function). length (f .arguments) ≤ 8) fs
+    → length (blocks placesOf fs) ≡ length fs * 8
 places-length h =
-    blocks-length placesOf 8 (every-map (λ (f : Function) (l : length (f .arguments) ≤ 8). padWith-length 0 8 (f .arguments) l) h)
+    blocks-length placesOf 8
+    (every-map (λ (f : Function) (l : length (f .arguments) ≤ 8). padWith-length 0 8 (f .arguments) l) h)
 
 arguments-more : (fs : List Function) (f : Function) (i : ℕ) → Every (λ (f : Function). length (f .arguments) ≤ 8) fs
     → length fs ≡ i → i < 128 → length (f .arguments) ≤ 8
@@ -61,7 +65,8 @@ pub record Functions-read (s kinds : List ℕ) (at count : ℕ)
   pub tight : Every (λ (f : Function). length (f .arguments) ≤ 8) fs
   pub held : HoldsFunctions names declared costs unextractable hidden outputs arities arguments fs
 
-module _ {s kinds : List ℕ} {at count : ℕ} {names declared costs unextractable hidden outputs arities arguments : List ℕ} where
+module _ {s kinds : List ℕ} {at count : ℕ}
+    {names declared costs unextractable hidden outputs arities arguments : List ℕ} where
   pub functions-start : Zeros names declared costs unextractable hidden outputs arities arguments
       → Functions-read s kinds at count names declared costs unextractable hidden outputs arities arguments at 0
   unfolding blocks
@@ -85,7 +90,8 @@ module _ {s kinds : List ℕ} {at count : ℕ} {names declared costs unextractab
             };
       }
 
-  module _ {p i : ℕ} (l : Functions-read s kinds at count names declared costs unextractable hidden outputs arities arguments p i) where
+  module _ {p i : ℕ} (l : Functions-read s kinds at count names declared costs unextractable hidden outputs
+      arities arguments p i) where
     pub functions-names : HoldsNames names i (l .fs)
     functions-names = record { count = l .loop .some; short = l .short; are = l .held .names-are }
 
@@ -95,11 +101,13 @@ module _ {s kinds : List ℕ} {at count : ℕ} {names declared costs unextractab
     pub functions-room : i < 128 → length names ≡ 4096
     functions-room b = held-length functions-names (omega arith)
 
-    pub functions-more : {names′ declared′ costs′ unextractable′ hidden′ outputs′ arities′ arguments′ : List ℕ} {f : Function} {q : ℕ}
+    pub functions-more : {names′ declared′ costs′ unextractable′ hidden′ outputs′ arities′ arguments′ : List ℕ}
+        {f : Function} {q : ℕ}
         → count < 128 → i < count → functionAt s kinds (l .fs) p ≡ got f q
         → PutFunction i names declared costs unextractable hidden outputs arities arguments
         names′ declared′ costs′ unextractable′ hidden′ outputs′ arities′ arguments′ f
-        → Functions-read s kinds at count names′ declared′ costs′ unextractable′ hidden′ outputs′ arities′ arguments′ q (i + 1)
+        → Functions-read s kinds at count names′ declared′ costs′ unextractable′ hidden′ outputs′
+        arities′ arguments′ q (i + 1)
     functions-more {f = f} {q = q} c h e u =
         let k = all-at (rw e at (function-kept s kinds (l .fs) p)) in
         let o = l .loop .some in
@@ -114,22 +122,34 @@ module _ {s kinds : List ℕ} {at count : ℕ} {names declared costs unextractab
           held =
               record {
                 names-are = u .names-put ∙ rw (l .held .names-are) (names-more (l .fs) f i n b (k .short));
-                declared-are = u .declared-put ∙ rw (l .held .declared-are) (pad-set-map 128 (λ (f : Function). f .hasCost) (l .fs) i f o b refl);
-                costs-are = u .costs-put ∙ rw (l .held .costs-are) (pad-set-map 128 (λ (f : Function). f .cost) (l .fs) i f o b refl);
+                declared-are =
+                    u .declared-put
+                    ∙ rw (l .held .declared-are) (pad-set-map 128 (λ (f : Function). f .hasCost) (l .fs) i f o b refl);
+                costs-are =
+                    u .costs-put
+                    ∙ rw (l .held .costs-are) (pad-set-map 128 (λ (f : Function). f .cost) (l .fs) i f o b refl);
                 unextractable-are =
                     u .unextractable-put
-                    ∙ rw (l .held .unextractable-are) (pad-set-map 128 (λ (f : Function). f .unextractable) (l .fs) i f o b refl);
-                hidden-are = u .hidden-put ∙ rw (l .held .hidden-are) (pad-set-map 128 (λ (f : Function). f .hidden) (l .fs) i f o b refl);
-                outputs-are = u .outputs-put ∙ rw (l .held .outputs-are) (pad-set-map 128 (λ (f : Function). f .output) (l .fs) i f o b refl);
+                    ∙ rw (l .held .unextractable-are)
+                    (pad-set-map 128 (λ (f : Function). f .unextractable) (l .fs) i f o b refl);
+                hidden-are =
+                    u .hidden-put
+                    ∙ rw (l .held .hidden-are) (pad-set-map 128 (λ (f : Function). f .hidden) (l .fs) i f o b refl);
+                outputs-are =
+                    u .outputs-put
+                    ∙ rw (l .held .outputs-are) (pad-set-map 128 (λ (f : Function). f .output) (l .fs) i f o b refl);
                 arities-are =
                     u .arities-put
-                    ∙ rw (l .held .arities-are) (pad-set-map 128 (λ (f : Function). length (f .arguments)) (l .fs) i f o b refl);
+                    ∙ rw (l .held .arities-are)
+                    (pad-set-map 128 (λ (f : Function). length (f .arguments)) (l .fs) i f o b refl);
                 arguments-are =
-                    u .arguments-put ∙ rw (l .held .arguments-are) (arguments-more (l .fs) f i (l .tight) o b (k .ok .few));
+                    u .arguments-put
+                    ∙ rw (l .held .arguments-are) (arguments-more (l .fs) f i (l .tight) o b (k .ok .few));
               };
         }
 
-    pub functions-refuse : {r : Refusal} → i < count → functionAt s kinds (l .fs) p ≡ refused r → functionsAt s kinds count at ≡ refused r
+    pub functions-refuse : {r : Refusal} → i < count → functionAt s kinds (l .fs) p ≡ refused r
+        → functionsAt s kinds count at ≡ refused r
     unfolding functionsAt
     functions-refuse h e = loop-refuses (l .loop) h e
 

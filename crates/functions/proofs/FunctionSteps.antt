@@ -14,7 +14,8 @@ use Rattle.name_field.specs.Name.{freeNameAt}
 use Rattle.name_field.proofs.EntriesLaws.{free-kept}
 
 -- Where each part ends.
-pub name-near : (s table : List ℕ) (i at : ℕ) {p : ℕ} {P : List ℕ → Type 0} → Read-to (freeNameAt s table i at) p P → p ≤ at + 253
+pub name-near : (s table : List ℕ) (i at : ℕ) {p : ℕ} {P : List ℕ → Type 0} → Read-to (freeNameAt s table i at) p P
+    → p ≤ at + 253
 name-near s table i at r = all-at (rw (r .is) at (free-kept s table i at)) .near
 
 pub cost-near : (s : List ℕ) (at : ℕ) {p : ℕ} {P : Cost → Type 0} → Read-to (costAt s at) p P → p ≤ at + 65
@@ -61,6 +62,7 @@ module _ (s kinds : List ℕ) (fs : List Function) (at : ℕ) where
 
         module _ {output u : ℕ} (d : outputAt s kinds t ≡ got output u) where
           pub function-ends : {n : ℕ} → length kinds ≡ n
-              → functionAt s kinds fs at ≡ then (argumentsAt s n u) (λ arguments v. got (functionOf name cost flags output arguments) v)
+              → functionAt s kinds fs at ≡ then (argumentsAt s n u)
+              (λ arguments v. got (functionOf name cost flags output arguments) v)
           unfolding functionAt then
           function-ends e = rw (a, b, c, d, e)

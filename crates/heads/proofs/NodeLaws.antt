@@ -50,16 +50,21 @@ module _ (rs : List ℕ) (ls : List ℤ) (ns : List ℕ) (t : ℕ) where
       ∙ (let q : arityAt rs t ≡ t * 11 + 3 + arityAt rs t - (t * 11 + 3) = omega arith in
       ap (λ (n : ℕ). take n (drop (t * 11 + 3) rs)) q))
 
-pub nameAt-is : (ns : List ℕ) (k : ℕ) → nameAt ns k ≡ take (k * 32 + 1 + lengthAt ns k - (k * 32 + 1)) (drop (k * 32 + 1) ns)
+pub nameAt-is : (ns : List ℕ) (k : ℕ)
+    → nameAt ns k ≡ take (k * 32 + 1 + lengthAt ns k - (k * 32 + 1)) (drop (k * 32 + 1) ns)
 unfolding nameAt
 nameAt-is ns k = refl
 
 -- a name's length stands before it
-pub nameAt-length : (ns : List ℕ) (k : ℕ) → k * 32 + 32 ≤ length ns → lengthAt ns k ≤ 31 → length (nameAt ns k) ≡ lengthAt ns k
+pub nameAt-length : (ns : List ℕ) (k : ℕ) → k * 32 + 32 ≤ length ns → lengthAt ns k ≤ 31
+    → length (nameAt ns k) ≡ lengthAt ns k
 unfolding nameAt
 nameAt-length ns k long short =
-    omega
-    (arith, length-take (k * 32 + 1 + lengthAt ns k - (k * 32 + 1)) (drop (k * 32 + 1) ns), length-drop (k * 32 + 1) ns)
+    omega (
+      arith,
+      length-take (k * 32 + 1 + lengthAt ns k - (k * 32 + 1)) (drop (k * 32 + 1) ns),
+      length-drop (k * 32 + 1) ns,
+    )
 
 take-none : {A : Type 0} (n : ℕ) (l : List A) → n ≡ 0 → take n l ≡ []
 take-none n l e = rw e

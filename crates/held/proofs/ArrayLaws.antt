@@ -1,4 +1,5 @@
--- The arrays of a table are as the scan and the flat rows ask, and what these read there is the table's. Assumes nothing.
+-- The arrays of a table are as the scan and the flat rows ask, and what these read there is the table's. Assumes
+-- nothing.
 use Prim.Native.Nat.{ℕ, suc, _-_, _*_, _≤_, _<_}
 use mathlib.Core.Path.{_≡_, refl, ap, _∙_, subst}
 use mathlib.Core.List.{List, [], _∷_, map}
@@ -44,7 +45,8 @@ module _ (t : Table) (known : Known t) where
       go (no e) = omega (arith, rangeOf-eq t s e, classesOf-within (t .sorts) s h, known .few-classes)
 
   module _
-      (kinds classes names declared costs unextractable hidden outputs arities arguments rowFunctions subsumed cells : List ℕ)
+      (kinds classes names declared costs unextractable hidden outputs arities arguments rowFunctions
+      subsumed cells : List ℕ)
       (h : Holds t kinds classes names declared costs unextractable hidden outputs arities arguments
       rowFunctions subsumed cells) where
     -- The function of a row of the table, and its number.

@@ -37,7 +37,8 @@ classesOf-take (x ∷ xs) zero = refl
 classesOf-take (x ∷ xs) (suc s) = ap (λ (n : ℕ). x .classes + n) (classesOf-take xs s)
 
 module _ (t : Table) (known : Known t)
-    (kinds classes names declared costs unextractable hidden outputs arities arguments rowFunctions subsumed cells : List ℕ)
+    (kinds classes names declared costs unextractable hidden outputs arities arguments rowFunctions
+    subsumed cells : List ℕ)
     (h : Holds t kinds classes names declared costs unextractable hidden outputs arities arguments
     rowFunctions subsumed cells) where
   pub kind-held : (s : ℕ) → getD kinds s 0 ≡ sortOf t s .kind

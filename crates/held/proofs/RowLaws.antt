@@ -71,7 +71,8 @@ headOf-same f t = go (ℕ-discrete (functionOf t f .hasCost) 0)
         a ∙ sym b
 
 module _ (t : Table) (known : Known t)
-    (kinds classes names declared costs unextractable hidden outputs arities arguments rowFunctions subsumed cells : List ℕ)
+    (kinds classes names declared costs unextractable hidden outputs arities arguments rowFunctions
+    subsumed cells : List ℕ)
     (h : Holds t kinds classes names declared costs unextractable hidden outputs arities arguments
     rowFunctions subsumed cells)
     (bases : List ℕ) (numbered : Bases (length (t .sorts)) classes bases) where
@@ -83,7 +84,8 @@ module _ (t : Table) (known : Known t)
 
   declared-at : (f : ℕ) → getD declared f 0 ≡ functionOf t f .hasCost
   declared-at =
-      declared-held t known kinds classes names declared costs unextractable hidden outputs arities arguments rowFunctions
+      declared-held t known kinds classes names declared costs unextractable hidden outputs arities
+      arguments rowFunctions
       subsumed cells h
 
   cost-at : (f : ℕ) → getD costs f 0 ≡ functionOf t f .cost
@@ -93,7 +95,8 @@ module _ (t : Table) (known : Known t)
 
   output-at : (f : ℕ) → getD outputs f 0 ≡ functionOf t f .output
   output-at =
-      output-held t known kinds classes names declared costs unextractable hidden outputs arities arguments rowFunctions
+      output-held t known kinds classes names declared costs unextractable hidden outputs arities
+      arguments rowFunctions
       subsumed cells h
 
   arity-at : (f : ℕ) → getD arities f 0 ≡ length (functionOf t f .arguments)
@@ -103,12 +106,14 @@ module _ (t : Table) (known : Known t)
 
   function-at : (r : ℕ) → getD rowFunctions r 0 ≡ tableRowOf t r .function
   function-at =
-      function-held t known kinds classes names declared costs unextractable hidden outputs arities arguments rowFunctions
+      function-held t known kinds classes names declared costs unextractable hidden outputs arities
+      arguments rowFunctions
       subsumed cells h
 
   arguments-at : (f : ℕ) → argumentsIn arities arguments f ≡ functionOf t f .arguments
   arguments-at =
-      arguments-held t known kinds classes names declared costs unextractable hidden outputs arities arguments rowFunctions
+      arguments-held t known kinds classes names declared costs unextractable hidden outputs arities
+      arguments rowFunctions
       subsumed cells h
 
   cell-at :
@@ -320,7 +325,8 @@ module _ (t : Table) (known : Known t)
     pub laid-scanned :
         (order : List ℕ) (m : ℕ) (flat heads starts children : List ℕ) →
         order ≡ scanOrder t root →
-        Laid kinds bases declared costs outputs arities arguments rowFunctions cells order m flat heads starts children →
+        Laid kinds bases declared costs outputs arities arguments rowFunctions cells order m flat
+        heads starts children →
         rowsOf (take (length order) flat) (take (length order) heads) (take (length order + 1) starts)
         (take m children)
         ≡ scanned t root
@@ -336,7 +342,8 @@ module _ (t : Table) (known : Known t)
         (order : List ℕ) (m : ℕ) (flat heads starts children : List ℕ) →
         order ≡ scanOrder t root →
         length (t .sorts) ≤ length bases →
-        Laid kinds bases declared costs outputs arities arguments rowFunctions cells order m flat heads starts children →
+        Laid kinds bases declared costs outputs arities arguments rowFunctions cells order m flat
+        heads starts children →
         FlatOk (classCount t)
         (take (length order) flat) (take (length order) heads) (take (length order + 1) starts) (take m children)
     laid-flat-scanned order m flat heads starts children e long v =

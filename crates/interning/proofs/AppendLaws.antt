@@ -15,10 +15,29 @@ use Rattle.names.specs.declared.Found.{Found}
 use Rattle.names.specs.declared.Found.the-variants.{At, Missing}
 use Rattle.store.specs.Lent.{Store, store, numbers, termRoom, symbolRoom}
 use Rattle.store.specs.Nodes.{Node, literal, variable, application, recordOf}
-use Rattle.store.specs.Adding.{findTerm, symbolFor, withName, withRecord, append, roomForName, roomFor, Adds, at, noRoom, add}
+use Rattle.store.specs.Adding.{
+  findTerm,
+  symbolFor,
+  withName,
+  withRecord,
+  append,
+  roomForName,
+  roomFor,
+  Adds,
+  at,
+  noRoom,
+  add,
+}
 use Rattle.records.specs.Flat.{filled}
 use Rattle.store.proofs.TestLaws.{and-first, and-second}
-use Rattle.store.proofs.StepLaws.{symbolFor-old, withName-old, roomForName-old, symbolFor-new, withName-new, roomForName-new}
+use Rattle.store.proofs.StepLaws.{
+  symbolFor-old,
+  withName-old,
+  roomForName-old,
+  symbolFor-new,
+  withName-new,
+  roomForName-new,
+}
 use Rattle.interning.specs.Interning.{roomIn, nameRoomIn, Leaves, appendNamed, appendLiteral}
 use Rattle.interning.specs.declared.Added.{Added}
 use Rattle.interning.specs.declared.Added.the-variants.{Term as term, NoRoom}
@@ -86,7 +105,8 @@ module _ (rs : List ℕ) (ls : List ℤ) (ns : List ℕ) (n m : ℕ) where
         k′ ≡ k →
         at n (withRecord s′ (filled kind k′ (pos 0) ks))
         ≡ at n
-        (store (paste (t .records) (t .terms * 11) (numbers (filled kind k (pos 0) ks)) 11) (set (t .literals) (t .terms) (pos 0))
+        (store (paste (t .records) (t .terms * 11) (numbers (filled kind k (pos 0) ks)) 11)
+        (set (t .literals) (t .terms) (pos 0))
         (t .names) (t .terms + 1) (t .symbols))
     unfolding withRecord
     named-put s′ k′ t k d f = rw (d, f)
@@ -101,7 +121,8 @@ module _ (rs : List ℕ) (ls : List ℤ) (ns : List ℕ) (n m : ℕ) where
       named-yes :
           roomForName (store rs ls ns n m) name ≡ true →
           at n
-          (withRecord (withName (store rs ls ns n m) name) (filled kind (symbolFor (store rs ls ns n m) name) (pos 0) ks))
+          (withRecord (withName (store rs ls ns n m) name)
+          (filled kind (symbolFor (store rs ls ns n m) name) (pos 0) ks))
           ≡ appendNamed (store rs ls ns n m) kind name ks
       unfolding appendNamed termRoom
       named-yes h = rw (e, h, appendNamed)
@@ -122,7 +143,8 @@ module _ (rs : List ℕ) (ls : List ℤ) (ns : List ℕ) (n m : ℕ) where
             nameRoomIn (length ns) m ≡ true →
             ns′ ≡ putName ns m name →
             rs′ ≡ paste rs (n * 11) (numbers (filled kind m (pos 0) ks)) 11 →
-            Leaves (store rs ls ns n m) (appendNamed (store rs ls ns n m) kind name ks) (term n (n + 1) (m + 1)) rs′ ls′
+            Leaves (store rs ls ns n m) (appendNamed (store rs ls ns n m) kind name ks)
+            (term n (n + 1) (m + 1)) rs′ ls′
             ns′
         unfolding symbolRoom
         named-new ns′ f h o p =
@@ -141,7 +163,8 @@ module _ (rs : List ℕ) (ls : List ℤ) (ns : List ℕ) (n m : ℕ) where
             let s = store rs ls ns n m in
             leaves-term (appendNamed s kind name ks) n (n + 1) m rs′ ls′ ns
             (rw (p, q)
-            (sym (named-put (withName s name) (symbolFor s name) s k (withName-old s name k f) (symbolFor-old s name k f))
+            (sym (named-put (withName s name) (symbolFor s name) s k (withName-old s name k f)
+            (symbolFor-old s name k f))
             ∙ named-yes (roomForName-old s name k f)))
 
   -- a term that is there
@@ -158,12 +181,14 @@ module _ (s : Store) where
   unfolding add append roomFor appendLiteral recordOf
   add-new-literal z e = rw (e, add)
 
-  pub add-new-variable : (name : List ℕ) → findTerm s (variable name) ≡ Missing → appendNamed s 1 name [] ≡ add s (variable name)
+  pub add-new-variable : (name : List ℕ) → findTerm s (variable name) ≡ Missing
+      → appendNamed s 1 name [] ≡ add s (variable name)
   unfolding add append roomFor appendNamed recordOf
   add-new-variable name e = rw (e, add)
 
   pub add-new-application :
-      (name ks : List ℕ) → findTerm s (application name ks) ≡ Missing → appendNamed s 2 name ks ≡ add s (application name ks)
+      (name ks : List ℕ) → findTerm s (application name ks) ≡ Missing
+      → appendNamed s 2 name ks ≡ add s (application name ks)
   unfolding add append roomFor appendNamed recordOf
   add-new-application name ks e = rw (e, add)
 

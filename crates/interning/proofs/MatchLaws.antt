@@ -18,7 +18,16 @@ use Rattle.store.specs.Lent.{Store, store, recordIn, recordAt, symbolAt}
 use Rattle.store.specs.WellFormed.{sameInt}
 use Rattle.store.specs.Nodes.{literal, variable, application, nodeOf, nodeAt, sameNode}
 use Rattle.store.specs.Adding.{firstFrom, findTerm, findSymbol}
-use Rattle.store.specs.Facts.{IsLiteral, IsVariable, IsApplication, SoundRecord, aLiteral, aVariable, anApplication, Sound}
+use Rattle.store.specs.Facts.{
+  IsLiteral,
+  IsVariable,
+  IsApplication,
+  SoundRecord,
+  aLiteral,
+  aVariable,
+  anApplication,
+  Sound,
+}
 use Rattle.store.proofs.TestLaws.{same-test, and-first, and-second, and-both}
 use Rattle.store.proofs.SameLaws.{same-tells, sameInt-tells, tells-yes, tells-no}
 use Rattle.store.proofs.KindLaws.{byKind-literal, byKind-variable, byKind-application}
@@ -36,7 +45,8 @@ module _ (s : Store) (t : Term) where
   unfolding nodeOf
   nodeOf-variable e = byKind-variable _ _ _ _ (t .kind) e
 
-  pub nodeOf-application : t .kind ≡ 2 → nodeOf s t ≡ application (symbolAt s (t .symbol)) (take (t .count) (t .children))
+  pub nodeOf-application : t .kind ≡ 2
+      → nodeOf s t ≡ application (symbolAt s (t .symbol)) (take (t .count) (t .children))
   unfolding nodeOf
   nodeOf-application e = byKind-application _ _ _ _ (t .kind) e
 
@@ -57,7 +67,8 @@ has-literal t z f = rw (f .kind, f .symbol, f .count) (and-true (sameInt (t .lit
 has-variable : (m : ℕ) (t : Term) (k : ℕ) → IsVariable m t → has t 1 k (pos 0) [] ≡ eqb (t .symbol) k
 unfolding has same
 has-variable m t k f =
-    rw (f .kind, f .count, tells-yes sameInt sameInt-tells (t .literal) (pos 0) (f .literal)) (and-true (eqb (t .symbol) k))
+    rw (f .kind, f .count, tells-yes sameInt sameInt-tells (t .literal) (pos 0) (f .literal))
+    (and-true (eqb (t .symbol) k))
 
 -- the children are compared with their count
 children-test :
@@ -92,7 +103,9 @@ module _ (s : Store) (w : Sound s) where
   symbol-test :
       (name : List ℕ) (k a : ℕ) → findSymbol s name ≡ At k → a < s .symbols → eqb a k ≡ same (symbolAt s a) name
   symbol-test name k a e h =
-      let r = first-at (λ (j : ℕ). same (nameAt (s .names) j) name) (s .symbols) 0 k (sym (findName-first (s .names) name (s .symbols)) ∙ e) in
+      let r =
+      first-at (λ (j : ℕ). same (nameAt (s .names) j) name) (s .symbols) 0 k
+      (sym (findName-first (s .names) name (s .symbols)) ∙ e) in
       let n : symbolAt s k ≡ name = same-tells .eq (symbolAt s k) name (r .2) in
       same-test (eqb a k) (same (symbolAt s a) name)
       (λ d. let q : a ≡ k = eqb-true a k d in rw q (r .2))
@@ -114,7 +127,8 @@ module _ (s : Store) (w : Sound s) where
 
     module _ (name : List ℕ) where
       variable-match :
-          (k : ℕ) → findSymbol s name ≡ At k → SoundRecord (s .symbols) i t → has t 1 k (pos 0) [] ≡ sameNode (nodeOf s t) (variable name)
+          (k : ℕ) → findSymbol s name ≡ At k → SoundRecord (s .symbols) i t
+          → has t 1 k (pos 0) [] ≡ sameNode (nodeOf s t) (variable name)
       unfolding sameNode
       variable-match k e (aLiteral f) =
           has-kind t 1 k (pos 0) [] (λ d. omega (arith, f .kind)) ∙ sym (rw (nodeOf-literal s t (f .kind)))
@@ -125,7 +139,8 @@ module _ (s : Store) (w : Sound s) where
       variable-match k e (anApplication f) =
           has-kind t 1 k (pos 0) [] (λ d. omega (arith, f .kind)) ∙ sym (rw (nodeOf-application s t (f .kind)))
 
-      variable-none : findSymbol s name ≡ Missing → SoundRecord (s .symbols) i t → sameNode (nodeOf s t) (variable name) ≡ false
+      variable-none : findSymbol s name ≡ Missing → SoundRecord (s .symbols) i t
+          → sameNode (nodeOf s t) (variable name) ≡ false
       unfolding sameNode
       variable-none e (aLiteral f) = rw (nodeOf-literal s t (f .kind))
       variable-none e (aVariable f) = rw (nodeOf-variable s t (f .kind)) (no-symbol name (t .symbol) e (f .symbol))
@@ -144,11 +159,13 @@ module _ (s : Store) (w : Sound s) where
             has-kind t 2 k (pos 0) ks (λ d. omega (arith, f .kind)) ∙ sym (rw (nodeOf-variable s t (f .kind)))
         application-match k e (anApplication f) =
             has-application (s .symbols) i t k ks f long
-            ∙ ap (λ (b : Bool). b && same (take (t .count) (t .children)) ks) (symbol-test name k (t .symbol) e (f .symbol))
+            ∙ ap (λ (b : Bool). b && same (take (t .count) (t .children)) ks)
+            (symbol-test name k (t .symbol) e (f .symbol))
             ∙ sym (rw (nodeOf-application s t (f .kind)))
 
         application-none :
-            findSymbol s name ≡ Missing → SoundRecord (s .symbols) i t → sameNode (nodeOf s t) (application name ks) ≡ false
+            findSymbol s name ≡ Missing → SoundRecord (s .symbols) i t
+            → sameNode (nodeOf s t) (application name ks) ≡ false
         unfolding sameNode
         application-none e (aLiteral f) = rw (nodeOf-literal s t (f .kind))
         application-none e (aVariable f) = rw (nodeOf-variable s t (f .kind))
@@ -190,7 +207,8 @@ module _ (rs : List ℕ) (ls : List ℤ) (i kind symbol : ℕ) (z : ℤ) (ks : L
         pub children-rest :
             length ks ≤ 8 →
             getD ls i (pos 0) ≡ z →
-            same (take (i * 11 + 3 + length ks - (i * 11 + 3)) (drop (i * 11 + 3) rs)) ks ≡ hasAt rs ls kind symbol z ks i
+            same (take (i * 11 + 3 + length ks - (i * 11 + 3)) (drop (i * 11 + 3) rs)) ks ≡ hasAt rs
+            ls kind symbol z ks i
         unfolding has recordIn
         children-rest h d =
             let n : i * 11 + 3 + length ks - (i * 11 + 3) ≡ length ks = omega arith in
@@ -209,10 +227,12 @@ module _ (s : Store) (w : Sound s) where
   unfolding recordIn
   record-long i h = children-length (s .records) i (omega (arith, w .recordsLong))
 
-  pub findTerm-literal : (z : ℤ) → firstFrom (hasAt (s .records) (s .literals) 0 0 z []) 0 (s .terms) ≡ findTerm s (literal z)
+  pub findTerm-literal : (z : ℤ)
+      → firstFrom (hasAt (s .records) (s .literals) 0 0 z []) 0 (s .terms) ≡ findTerm s (literal z)
   unfolding findTerm nodeAt
   findTerm-literal z =
-      first-same (hasAt (s .records) (s .literals) 0 0 z []) (λ (i : ℕ). sameNode (nodeOf s (recordAt s i)) (literal z))
+      first-same (hasAt (s .records) (s .literals) 0 0 z [])
+      (λ (i : ℕ). sameNode (nodeOf s (recordAt s i)) (literal z))
       (s .terms) 0
       (λ i h l.
       let b : i < s .terms = omega arith in

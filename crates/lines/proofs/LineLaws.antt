@@ -9,7 +9,17 @@ use lib.Dec.{ltb}
 use borrow.Author.Tests.{eq-eqb, ne-eqb}
 use borrow.Rule.Slice.PartMut.{putMid}
 use Rattle.decimal.specs.Written.{Wrote}
-use Rattle.decimal.proofs.WrittenLaws.{Stands, stands-none, stands-first, stands-then, stands-byte, stands-length, stands-place, stands-fits, wrote-of-stands}
+use Rattle.decimal.proofs.WrittenLaws.{
+  Stands,
+  stands-none,
+  stands-first,
+  stands-then,
+  stands-byte,
+  stands-length,
+  stands-place,
+  stands-fits,
+  wrote-of-stands,
+}
 use Rattle.pieces.specs.Pieces.{capped, gapText}
 use Rattle.heads.specs.Readable.{arityAt}
 use Rattle.writer.specs.Piece.{View, body}
@@ -80,7 +90,8 @@ line-measured a b c r₁ r₂ r₃ r₄ e₁ e₂ e₃ e₄ =
         sum : (x y r q : ℕ) → r ≡ capped x → q ≡ capped (r + y) → q ≡ capped (x + y)
         sum x y r q e f = omega arith
 
-    last : r₂ ≡ capped (5 + a + b) → r₃ ≡ capped (r₂ + capped c) → r₄ ≡ capped (r₃ + 2) → r₄ ≡ capped (5 + a + b + c + 2)
+    last : r₂ ≡ capped (5 + a + b) → r₃ ≡ capped (r₂ + capped c) → r₄ ≡ capped (r₃ + 2)
+        → r₄ ≡ capped (5 + a + b + c + 2)
     last e f g = end (5 + a + b) c r₂ r₃ r₄ e f g
       where
         end : (x y r q z : ℕ) → r ≡ capped x → q ≡ capped (r + capped y) → z ≡ capped (q + 2) → z ≡ capped (x + y + 2)

@@ -1,5 +1,5 @@
--- The definition's text of a term is the writer's: one form, whose gap the width alone decides. Where a parent fits in its
--- line, each child fits in its own, so the second test of a break follows from the first. Assumes nothing.
+-- The definition's text of a term is the writer's: one form, whose gap the width alone decides. Where a parent fits in
+-- its line, each child fits in its own, so the second test of a break follows from the first. Assumes nothing.
 use mathlib.Core.Path.{_≡_, refl, sym, ap, subst, _∙_}
 use mathlib.Core.Bool.{Bool, false}
 use mathlib.Core.List.{List, [], _∷_}
@@ -97,7 +97,8 @@ module _
         childText called (lineIn node called f) (getD (children (node t)) j 0)
         ≡ childOwn f m (i + 2) (getD (children (node t)) j 0)
     child-same f m i t j l lj ih =
-        let r : length (childText called (lineIn node called f) (getD (children (node t)) j 0)) + 1 + 2 ≤ wide (suc f) t =
+        let r : length (childText called (lineIn node called f) (getD (children (node t)) j 0)) + 1
+        + 2 ≤ wide (suc f) t =
         rw (lineIn-step node called f t)
         (form-longer (32 ∷ []) (childText called (lineIn node called f)) (node t) j lj) in
         let c = ap length (childText-is called (lineIn node called f) (getD (children (node t)) j 0)) in
@@ -181,7 +182,8 @@ module _
     own-leaf m i t k c =
         rw (own-form t m i t k (omega arith))
         (rw
-        (gapless-form (gapText (ltb 80 (i + wide (suc t) t)) (m + (i + 2))) (32 ∷ []) (childOwn t m (i + 2)) (node t) c)
+        (gapless-form (gapText (ltb 80 (i + wide (suc t) t)) (m + (i + 2))) (32 ∷ [])
+        (childOwn t m (i + 2)) (node t) c)
         (form-clean (32 ∷ []) (childOwn t m (i + 2)) (node t) (clean t k) several-space
         (λ j l. let z : ⊥ = omega arith in absurd z)))
 
@@ -227,7 +229,8 @@ module _
             ∙ (ap (shown (called (getD (children (node t)) j 0)))
             (ownIn-body f m (i + 2) (getD (children (node t)) j 0) (omega arith) (omega arith))
             ∙ sym
-            (shows (getD (children (node t)) j 0) (bodyIn v f m (i + 2) (getD (children (node t)) j 0)) (omega arith))))
+            (shows (getD (children (node t)) j 0)
+            (bodyIn v f m (i + 2) (getD (children (node t)) j 0)) (omega arith))))
             ∙ ap (form (gapOf v m i t) (shownIn v (bodyIn v f m (i + 2)))) (sym (same t))))
 
         pub own-body : (m i t : ℕ) → t < n → own node called m i t ≡ body v m i t

@@ -6,7 +6,15 @@ use native.Mathlib.Omega.{arith}
 use lib.ListN.{length, take, drop, set, length-append}
 use borrow.Rule.Slice.PartMut.{putMid}
 use Rattle.decimal.specs.Written.{Wrote}
-use Rattle.decimal.proofs.WrittenLaws.{Stands, stands-of-wrote, wrote-of-stands, stands-then, stands-length, stands-place, stands-fits}
+use Rattle.decimal.proofs.WrittenLaws.{
+  Stands,
+  stands-of-wrote,
+  wrote-of-stands,
+  stands-then,
+  stands-length,
+  stands-place,
+  stands-fits,
+}
 use Rattle.lines.proofs.LineLaws.{stands-two}
 
 module _

@@ -55,7 +55,10 @@ module _ {s : List ℕ} {at n : ℕ} {literals : List ℤ} where
           loop = loop-more (l .loop) h (literal-value s p e);
           near = omega (arith, k .end, l .near);
           held =
-              record { literals-are = rw (l .held .literals-are, d, signed-kept v (k .small)) (padWith-set (pos 0) 512 (l .xs) i (signed v) o small) };
+              record {
+                literals-are = rw (l .held .literals-are, d, signed-kept v (k .small))
+                    (padWith-set (pos 0) 512 (l .xs) i (signed v) o small);
+              };
         }
 
     pub literals-refuse : i < n → field s p 64 ≡ refused Short → literalsAt s n at ≡ refused Short

@@ -5,9 +5,38 @@ use mathlib.Core.List.{List, [], _∷_}
 use native.Mathlib.Omega.{arith}
 use lib.ListN.{length, getD}
 use Rattle.store.specs.Lent.{Store}
-use Rattle.store.specs.Nodes.{literal, variable, application, nodeAt, Tree, number, named, applied, Trees, none, more, Means, isNumber, isNamed, isApplied, MeansAll, isNone, isMore}
+use Rattle.store.specs.Nodes.{
+  literal,
+  variable,
+  application,
+  nodeAt,
+  Tree,
+  number,
+  named,
+  applied,
+  Trees,
+  none,
+  more,
+  Means,
+  isNumber,
+  isNamed,
+  isApplied,
+  MeansAll,
+  isNone,
+  isMore,
+}
 use Rattle.store.specs.Facts.{Sound}
-use Rattle.meaning.proofs.NodeLaws.{literal-variable, literal-application, variable-application, literal-same, variable-same, name-same, children-same, node-lower, node-once}
+use Rattle.meaning.proofs.NodeLaws.{
+  literal-variable,
+  literal-application,
+  variable-application,
+  literal-same,
+  variable-same,
+  name-same,
+  children-same,
+  node-lower,
+  node-once,
+}
 
 -- every number of the list is below n
 abbrev pub Below : ℕ → List ℕ → Type 0

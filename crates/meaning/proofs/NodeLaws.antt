@@ -1,4 +1,5 @@
--- Nodes of a sound store: what each kind of record says, that children are lower, and that no two are equal. Assumes nothing.
+-- Nodes of a sound store: what each kind of record says, that children are lower, and that no two are equal. Assumes
+-- nothing.
 use Prim.Native.Nat.{ℕ, _≤_, _<_}
 use mathlib.Core.Path.{_≡_, ap, sym, _∙_}
 use mathlib.Core.List.{List}

@@ -4,7 +4,23 @@ use mathlib.Core.Path.{_≡_, refl}
 use mathlib.Core.List.{List, [], _∷_}
 use native.Mathlib.Omega.{arith}
 use Rattle.store.specs.Lent.{Store}
-use Rattle.store.specs.Nodes.{Node, literal, variable, application, nodeAt, Tree, number, Trees, Means, isNumber, isNamed, isApplied, MeansAll, isNone, isMore}
+use Rattle.store.specs.Nodes.{
+  Node,
+  literal,
+  variable,
+  application,
+  nodeAt,
+  Tree,
+  number,
+  Trees,
+  Means,
+  isNumber,
+  isNamed,
+  isApplied,
+  MeansAll,
+  isNone,
+  isMore,
+}
 use Rattle.store.specs.Facts.{Sound}
 use Rattle.meaning.specs.Trees.{forest, treeOf, treeIn, treeAt}
 use Rattle.meaning.proofs.NodeLaws.{node-lower}

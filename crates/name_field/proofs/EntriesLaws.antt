@@ -76,7 +76,8 @@ module _ {table : List ℕ} {i : ℕ} {fs : List Function} (h : HoldsNames table
   pub names-length : length (blocks entryOf fs) ≡ i * 32
   names-length =
       rw (← h .count)
-      (blocks-length entryOf 32 (every-map (λ (f : Function) (s : length (f .name) ≤ 31). entry-length (f .name) s) (h .short)))
+      (blocks-length entryOf 32
+      (every-map (λ (f : Function) (s : length (f .name) ≤ 31). entry-length (f .name) s) (h .short)))
 
   pub held-length : length table ≡ 4096
   held-length = rw (h .are) (padWith-length 0 4096 (blocks entryOf fs) (omega (arith, names-length)))
@@ -94,7 +95,8 @@ unfolding isMissing
 missing-by true k f t e = refl
 missing-by false k f t e = e
 
-missing-from : {table : List ℕ} {i : ℕ} {fs : List Function} → HoldsNames table i fs → (name : List ℕ) (n k : ℕ) → k + n ≡ i
+missing-from : {table : List ℕ} {i : ℕ} {fs : List Function} → HoldsNames table i fs → (name : List ℕ) (n k : ℕ)
+    → k + n ≡ i
     → isMissing (findFrom table name k n) ≡ not (taken (drop k fs) name)
 unfolding findFrom taken isMissing
 missing-from {fs = fs} h name zero k e =

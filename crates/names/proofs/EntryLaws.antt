@@ -20,7 +20,8 @@ pub entry-length-get : (name : List ℕ) (j : ℕ) → j ≡ 0 → getD (entry n
 unfolding entry
 entry-length-get name j e = rw e
 
-pub entry-byte-get : (name : List ℕ) (j : ℕ) → (j ≡ 0 → ⊥) → j - 1 < length name → getD (entry name) j 0 ≡ getD name (j - 1) 0
+pub entry-byte-get : (name : List ℕ) (j : ℕ) → (j ≡ 0 → ⊥) → j - 1 < length name
+    → getD (entry name) j 0 ≡ getD name (j - 1) 0
 unfolding entry
 entry-byte-get name zero n h = absurd (n refl)
 entry-byte-get name (suc j) n h =

@@ -29,7 +29,8 @@ module _ (s : List ℕ) (i : ℕ) where
   pub allAllowed-refuses : i < length s → allowed (getD s i 0) ≡ false → allAllowed (drop i s) ≡ false
   allAllowed-refuses h e = allAllowed-drop h ∙ rw e
 
-  pub allAllowed-more : i < length s → allowed (getD s i 0) ≡ true → allAllowed (drop (i + 1) s) ≡ allAllowed (drop i s)
+  pub allAllowed-more : i < length s → allowed (getD s i 0) ≡ true
+      → allAllowed (drop (i + 1) s) ≡ allAllowed (drop i s)
   allAllowed-more h e = sym (allAllowed-drop h ∙ rw e)
 
 pub drop-end : (s : List ℕ) (i : ℕ) → i ≤ length s → length s ≤ i → drop i s ≡ []

@@ -23,7 +23,8 @@ use Rattle.rows.specs.In.{rowsIn, Sound}
 use Rattle.rows.proofs.RowLaws.{rowsIn-near}
 use Rattle.parts.specs.Parts.{rowsPartIn}
 
-pub counts-along : {A : Type 0} {P : List A → Type 0} {g h : Got (List A)} {r : Part} → h ≡ g → Counts g r P → Counts h r P
+pub counts-along : {A : Type 0} {P : List A → Type 0} {g h : Got (List A)} {r : Part} → h ≡ g → Counts g r P
+    → Counts h r P
 counts-along e c = rw e c
 
 module _ (s : List ℕ) (at : ℕ) where
@@ -60,12 +61,14 @@ module _ (s : List ℕ) (at : ℕ) where
   unfolding functionsPart then
   functions-short kinds e = rw e
 
-  pub functions-from : (kinds : List ℕ) {n p : ℕ} → field s at 7 ≡ got n p → functionsPart s kinds at ≡ functionsAt s kinds n p
+  pub functions-from : (kinds : List ℕ) {n p : ℕ} → field s at 7 ≡ got n p
+      → functionsPart s kinds at ≡ functionsAt s kinds n p
   unfolding functionsPart then
   functions-from kinds e = rw e
 
   module _ (kinds classes : List ℕ) (l count : ℕ) (outputs arities arguments : List ℕ) where
-    pub rows-short : field s at 11 ≡ refused Short → rowsPartIn s kinds classes l count outputs arities arguments at ≡ refused Short
+    pub rows-short : field s at 11 ≡ refused Short
+        → rowsPartIn s kinds classes l count outputs arities arguments at ≡ refused Short
     unfolding rowsPartIn then
     rows-short e = rw e
 
@@ -75,7 +78,8 @@ module _ (s : List ℕ) (at : ℕ) where
       rows-over h = rw (e, lt-leb _ _ h)
 
       pub rows-from : n ≤ 1024
-          → rowsPartIn s kinds classes l count outputs arities arguments at ≡ rowsIn s kinds classes l count outputs arities arguments n p
+          → rowsPartIn s kinds classes l count outputs arities arguments at ≡ rowsIn s kinds classes l count outputs
+          arities arguments n p
       unfolding rowsPartIn then must
       rows-from h = rw (e, le-leb _ _ h)
 
@@ -104,7 +108,8 @@ module _ (s : List ℕ) (at : ℕ) where
           let d : p ≡ 8 * length s = omega (arith, whole) in
           rw (e, eq-eqb _ _ z, eq-eqb _ _ d)
 
-near-by : (s kinds classes : List ℕ) (l count : ℕ) (outputs arities arguments : List ℕ) (at : ℕ) → Sound outputs arities arguments
+near-by : (s kinds classes : List ℕ) (l count : ℕ) (outputs arities arguments : List ℕ) (at : ℕ)
+    → Sound outputs arities arguments
     → All (λ rows q. q ≤ at + 91147) (rowsPartIn s kinds classes l count outputs arities arguments at)
 unfolding rowsPartIn
 near-by s kinds classes l count outputs arities arguments at sound =
@@ -117,7 +122,9 @@ near-by s kinds classes l count outputs arities arguments at sound =
     omega (arith, f .end))))
 
 -- The rows with their count take at most 91,147 bits.
-pub rows-near : (s kinds classes : List ℕ) (l count : ℕ) (outputs arities arguments : List ℕ) (at : ℕ) → Sound outputs arities arguments
-    → {rows : List Row} {q : ℕ} → rowsPartIn s kinds classes l count outputs arities arguments at ≡ got rows q → q ≤ at + 91147
+pub rows-near : (s kinds classes : List ℕ) (l count : ℕ) (outputs arities arguments : List ℕ) (at : ℕ)
+    → Sound outputs arities arguments
+    → {rows : List Row} {q : ℕ} → rowsPartIn s kinds classes l count outputs arities arguments at ≡ got rows q
+    → q ≤ at + 91147
 rows-near s kinds classes l count outputs arities arguments at sound e =
     all-at (rw e at (near-by s kinds classes l count outputs arities arguments at sound))

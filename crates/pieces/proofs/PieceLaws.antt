@@ -11,7 +11,15 @@ use lib.Dec.{eqb, ltb}
 use borrow.Author.Tests.{lt-ltb, le-ltb}
 use Rattle.decimal.specs.Decimal.{digits}
 use Rattle.decimal.specs.Written.{Wrote}
-use Rattle.decimal.proofs.WrittenLaws.{Stands, stands-none, stands-again, stands-byte, stands-first, stands-length, wrote-of-stands}
+use Rattle.decimal.proofs.WrittenLaws.{
+  Stands,
+  stands-none,
+  stands-again,
+  stands-byte,
+  stands-first,
+  stands-length,
+  wrote-of-stands,
+}
 use Rattle.text_rules.specs.LetText.{countText, newLine}
 use Rattle.pieces.specs.Pieces.{nameText, gapText}
 
@@ -23,7 +31,8 @@ pub countText-digits : (b : Bool) (n : ℕ) → (b && eqb n 0) ≡ false → cou
 unfolding countText
 countText-digits b n e = rw (e, countText)
 
-pub nameText-is : (stem : List ℕ) (start : ℕ) (b : Bool) (k : ℕ) → nameText stem start b k ≡ stem ++ countText b (start + k)
+pub nameText-is : (stem : List ℕ) (start : ℕ) (b : Bool) (k : ℕ)
+    → nameText stem start b k ≡ stem ++ countText b (start + k)
 unfolding nameText
 nameText-is stem start b k = refl
 

@@ -5,10 +5,41 @@ use Prim.Native.Nat.{ℕ, zero, suc, _+_, _*_, _-_, _<_, _≤_}
 use native.Mathlib.Numerals.{add-one}
 use native.Mathlib.Omega.{arith}
 use native.Mathlib.Decide.{ℕ-discrete, decLt}
-use lib.ListN.{length, getD, set, take, drop, replicate, length-append, length-take, length-drop, length-set, List·getD-append}
-use lib.Seq.{paste, paste-zero, paste-suc, length-paste, getD-append-add, getD-take, getD-set-same, getD-set-other, length-take-le}
+use lib.ListN.{
+  length,
+  getD,
+  set,
+  take,
+  drop,
+  replicate,
+  length-append,
+  length-take,
+  length-drop,
+  length-set,
+  List·getD-append,
+}
+use lib.Seq.{
+  paste,
+  paste-zero,
+  paste-suc,
+  length-paste,
+  getD-append-add,
+  getD-take,
+  getD-set-same,
+  getD-set-other,
+  length-take-le,
+}
 use Rattle.relax.specs.Flat.{top, partOf}
-use Rattle.plans.specs.Planning.{PlansClass, Priced, PlanReady, edgeFunction, edgeChildren, classNumbers, PutsOne, Plans}
+use Rattle.plans.specs.Planning.{
+  PlansClass,
+  Priced,
+  PlanReady,
+  edgeFunction,
+  edgeChildren,
+  classNumbers,
+  PutsOne,
+  Plans,
+}
 
 below-of-ne : (k c : ℕ) → k < c + 1 → (k ≡ c → ⊥) → k < c
 below-of-ne k c h n = go (decLt k c)
@@ -18,15 +49,18 @@ below-of-ne k c h n = go (decLt k c)
     go (no l) = absurd (n (omega (arith, l)))
 
 -- what stands before a paste stays
-paste-get-before : (d : List ℕ) (at : ℕ) (s : List ℕ) (n i : ℕ) → at ≤ length d → i < at → getD (paste d at s n) i 0 ≡ getD d i 0
+paste-get-before : (d : List ℕ) (at : ℕ) (s : List ℕ) (n i : ℕ) → at ≤ length d
+    → i < at → getD (paste d at s n) i 0 ≡ getD d i 0
 paste-get-before d at s n i h k =
     let l : i < length (take at d) = rw (length-take-le at d h) k in
-    List·getD-append (take at d ++ take n s) (drop (at + n) d) 0 i (rw (length-append (take at d) (take n s)) (omega arith))
+    List·getD-append (take at d ++ take n s) (drop (at + n) d) 0 i
+    (rw (length-append (take at d) (take n s)) (omega arith))
     ∙ List·getD-append (take at d) (take n s) 0 i l
     ∙ getD-take at d i 0 k
 
 -- what is pasted stands there
-paste-get : (d : List ℕ) (at : ℕ) (s : List ℕ) (n i : ℕ) → at ≤ length d → n ≤ length s → i < n → getD (paste d at s n) (at + i) 0 ≡ getD s i 0
+paste-get : (d : List ℕ) (at : ℕ) (s : List ℕ) (n i : ℕ) → at ≤ length d → n ≤ length s → i < n
+    → getD (paste d at s n) (at + i) 0 ≡ getD s i 0
 paste-get d at s n i h m k =
     let e : length (take at d) ≡ at = length-take-le at d h in
     let l : at + i < length (take at d ++ take n s) =
@@ -36,7 +70,8 @@ paste-get d at s n i h m k =
     (getD-append-add (take at d) (take n s) i 0 ∙ getD-take n s i 0 k)
 
 -- the first two numbers of a class
-pub paste-two : (d : List ℕ) (at f l : ℕ) (ks : List ℕ) → at + 2 ≤ length d → set (set d at f) (at + 1) l ≡ paste d at (f ∷ l ∷ ks) 2
+pub paste-two : (d : List ℕ) (at f l : ℕ) (ks : List ℕ) → at + 2 ≤ length d
+    → set (set d at f) (at + 1) l ≡ paste d at (f ∷ l ∷ ks) 2
 paste-two d at f l ks h =
     let s : List ℕ = f ∷ l ∷ ks in
     let a : set d at f ≡ paste d at s 1 =
@@ -123,7 +158,8 @@ module _
       go (yes a) (no b) = no (λ p. b (p .below))
       go (no a) d = no (λ p. a (p .ranked))
 
-  pub plans-start : (plan : List ℕ) → Plans costs ranks edges order functions starts children plan (replicate (length ranks) 0) 0
+  pub plans-start : (plan : List ℕ)
+      → Plans costs ranks edges order functions starts children plan (replicate (length ranks) 0) 0
   plans-start plan = record {
     shown = λ c h. absurd (omega arith);
     kept = λ c h. absurd (omega arith);
@@ -163,7 +199,8 @@ module _
             Dec (k ≡ c) →
             PlansClass new k (edgeFunction edges order functions k) (edgeChildren edges starts children k)
         shown k q r (yes e) =
-            subst (λ (x : ℕ). PlansClass new x (edgeFunction edges order functions x) (edgeChildren edges starts children x))
+            subst (λ (x : ℕ). PlansClass new x (edgeFunction edges order functions x)
+            (edgeChildren edges starts children x))
             (sym e) (plansClass-pasted plan c (edgeFunction edges order functions c) ks (omega arith) few)
         shown k q r (no e) =
             let b : k < c = below-of-ne k c q e in
@@ -171,13 +208,15 @@ module _
             (edgeFunction edges order functions k) (edgeChildren edges starts children k) b (omega (arith, few))
             (omega arith) (w .shown k b r)
 
-        kept : (k : ℕ) → k < c + 1 → Priced costs ranks k → Dec (k ≡ c) → getD (set known c (getD ranks c 0)) k 0 ≡ getD ranks k 0
+        kept : (k : ℕ) → k < c + 1 → Priced costs ranks k → Dec (k ≡ c)
+            → getD (set known c (getD ranks c 0)) k 0 ≡ getD ranks k 0
         kept k q r (yes e) =
             subst (λ (x : ℕ). getD (set known c (getD ranks c 0)) x 0 ≡ getD ranks x 0) (sym e)
             (getD-set-same known c (getD ranks c 0) 0 (omega (arith, m)))
         kept k q r (no e) = getD-set-other known c k (getD ranks c 0) 0 e ∙ w .kept k (below-of-ne k c q e) r
 
-        rest : (k : ℕ) → (k < c + 1 → Priced costs ranks k → ⊥) → Dec (k ≡ c) → getD (set known c (getD ranks c 0)) k 0 ≡ 0
+        rest : (k : ℕ) → (k < c + 1 → Priced costs ranks k → ⊥) → Dec (k ≡ c)
+            → getD (set known c (getD ranks c 0)) k 0 ≡ 0
         rest k q (yes e) = absurd (q (omega arith) (subst (λ (x : ℕ). Priced costs ranks x) (sym e) p))
         rest k q (no e) = getD-set-other known c k (getD ranks c 0) 0 e ∙ w .rest k (λ a. q (omega arith))
 

@@ -47,14 +47,17 @@ below-list {n} h e = record { below = by e }
     by (every-cons p e) zero = p
     by (every-cons p e) (suc k) = by e k
 
-below-blocks : {A : Type 0} {n : ℕ} (f : A → List ℕ) {xs : List A} → 0 < n → Every (λ (x : A). Below n (f x)) xs → Below n (blocks f xs)
+below-blocks : {A : Type 0} {n : ℕ} (f : A → List ℕ) {xs : List A} → 0 < n → Every (λ (x : A). Below n (f x)) xs
+    → Below n (blocks f xs)
 unfolding blocks
 below-blocks f h every-nil = record { below = λ k. h }
 below-blocks f h (every-cons {x = x} {xs = xs} p e) = below-append (f x) (blocks f xs) p (below-blocks f h e)
 
 -- Functions over fewer than 32 sorts, in their arrays.
-pub sound-of : {names declared costs unextractable hidden outputs arities arguments kinds : List ℕ} {fs : List Function}
-    → HoldsFunctions names declared costs unextractable hidden outputs arities arguments fs → Every (FunctionOk kinds) fs
+pub sound-of : {names declared costs unextractable hidden outputs arities arguments kinds : List ℕ}
+    {fs : List Function}
+    → HoldsFunctions names declared costs unextractable hidden outputs arities arguments fs
+    → Every (FunctionOk kinds) fs
     → length kinds ≤ 31 → Sound outputs arities arguments
 sound-of {kinds = kinds} {fs = fs} h e b =
     let z : 0 < 32 = omega arith in
@@ -62,7 +65,8 @@ sound-of {kinds = kinds} {fs = fs} h e b =
     record {
       outputs-small =
           rw (h .outputs-are)
-          (below-pad z 128 _ (below-map z (every-map (λ (f : Function) (o : FunctionOk kinds f). small (o .known) b) e)));
+          (below-pad z 128 _ (below-map z
+          (every-map (λ (f : Function) (o : FunctionOk kinds f). small (o .known) b) e)));
       arities-small =
           rw (h .arities-are)
           (below-pad y 128 _ (below-map y (every-map (λ (f : Function) (o : FunctionOk kinds f). few (o .few)) e)));

@@ -34,18 +34,22 @@ module _ (s kinds classes : List ℕ) (l count : ℕ) (outputs arities arguments
   unfolding tailIn then
   tail-stops e = rw e
 
-  module _ {rows : List Row} {p : ℕ} (e : rowsPartIn s kinds classes l count outputs arities arguments at ≡ got rows p) where
-    pub tail-cut : {x : Refusal} → endAt s p ≡ refused x → tailIn s kinds classes l count outputs arities arguments at ≡ refused x
+  module _ {rows : List Row} {p : ℕ}
+      (e : rowsPartIn s kinds classes l count outputs arities arguments at ≡ got rows p) where
+    pub tail-cut : {x : Refusal} → endAt s p ≡ refused x
+        → tailIn s kinds classes l count outputs arities arguments at ≡ refused x
     unfolding tailIn then
     tail-cut d = rw (e, d)
 
-    pub tail-ends : {v q : ℕ} → endAt s p ≡ got v q → tailIn s kinds classes l count outputs arities arguments at ≡ got rows q
+    pub tail-ends : {v q : ℕ} → endAt s p ≡ got v q
+        → tailIn s kinds classes l count outputs arities arguments at ≡ got rows q
     unfolding tailIn then
     tail-ends d = rw (e, d)
 
 -- The rows and the end, after the definition.
 unfoldable tailAt : List ℕ → List Sort → ℕ → List Function → ℕ → Got (List Row)
-tailAt s sorts l functions at = then (rowsPart s sorts l functions at) (λ rows p. then (endAt s p) (λ end q. got rows q))
+tailAt s sorts l functions at =
+    then (rowsPart s sorts l functions at) (λ rows p. then (endAt s p) (λ end q. got rows q))
 
 -- The two are the same where the arrays hold the sorts and the functions.
 tail-is : (s : List ℕ) {kinds classes : List ℕ} {sorts : List Sort} → HoldsSorts kinds classes sorts
@@ -56,7 +60,8 @@ tail-is : (s : List ℕ) {kinds classes : List ℕ} {sorts : List Sort} → Hold
 unfolding tailIn tailAt rowsPartIn rowsPart
 tail-is s o h tight l at =
     ap (λ (g : Got (List Row)). then g (λ rows p. then (endAt s p) (λ end q. got rows q)))
-    (ap (then (field s at 11)) (fun-ext (λ n. fun-ext (λ p. ap (must (leb n 1024) BadSize) (rows-are s o h tight l n p)))))
+    (ap (then (field s at 11))
+    (fun-ext (λ n. fun-ext (λ p. ap (must (leb n 1024) BadSize) (rows-are s o h tight l n p)))))
 
 join-end : (g : Got ℕ) (t : Table) (rows : List Row) (f : List Row → Table) → f rows ≡ t
     → then g (λ end q. got t q) ≡ then (then g (λ end q. got rows q)) (λ rows q. got (f rows) q)
@@ -65,16 +70,19 @@ join-end (got v q) t rows f e = rw e
 join-end (refused x) t rows f e = refl
 
 join : (g : Got (List Row)) (e : ℕ → Got ℕ) (f : List Row → Table)
-    → then g (λ rows p. then (e p) (λ end q. got (f rows) q)) ≡ then (then g (λ rows p. then (e p) (λ end q. got rows q))) (λ rows q. got (f rows) q)
+    → then g (λ rows p. then (e p) (λ end q. got (f rows) q)) ≡ then
+    (then g (λ rows p. then (e p) (λ end q. got rows q))) (λ rows q. got (f rows) q)
 unfolding then
 join (got rows p) e f = join-end (e p) (f rows) rows f refl
 join (refused x) e f = refl
 
 -- The kinds of the sorts stand at the front of their array.
-pub take-kinds : {kinds classes : List ℕ} {sorts : List Sort} {n : ℕ} → HoldsSorts kinds classes sorts → length sorts ≡ n
+pub take-kinds : {kinds classes : List ℕ} {sorts : List Sort} {n : ℕ} → HoldsSorts kinds classes sorts
+    → length sorts ≡ n
     → take n kinds ≡ kindsOf sorts
 unfolding padWith
-take-kinds {sorts = sorts} {n = n} h e = rw (h .kinds-are) (take-at (kindsOf sorts) _ n (length-map sorts (λ (x : Sort). x .kind) ∙ e))
+take-kinds {sorts = sorts} {n = n} h e =
+    rw (h .kinds-are) (take-at (kindsOf sorts) _ n (length-map sorts (λ (x : Sort). x .kind) ∙ e))
 
 module _ (s : List ℕ) where
   pub table-stops-1 : {x : Refusal} → versionAt s 0 ≡ refused x → tableAt s ≡ refused x
@@ -112,20 +120,24 @@ module _ (s : List ℕ) where
               (h : HoldsFunctions names declared costs unextractable hidden outputs arities arguments functions)
               (tight : Every (λ (f : Function). length (f .arguments) ≤ 8) functions) {l count : ℕ}
               (m : length literals ≡ l) (n : length functions ≡ count) where
-            tail-was : tailIn s kinds classes l count outputs arities arguments d ≡ tailAt s sorts (length literals) functions d
+            tail-was : tailIn s kinds classes l count outputs arities arguments d ≡ tailAt s sorts
+                (length literals) functions d
             tail-was = rw (← m, ← n) (tail-is s o h tight (length literals) d)
 
-            pub table-stops-5 : {x : Refusal} → tailIn s kinds classes l count outputs arities arguments d ≡ refused x → tableAt s ≡ refused x
+            pub table-stops-5 : {x : Refusal} → tailIn s kinds classes l count outputs arities arguments d ≡ refused x
+                → tableAt s ≡ refused x
             unfolding then
             table-stops-5 e = table-from ∙ rw (← tail-was, e)
 
-            pub table-ends : {rows : List Row} {q : ℕ} → tailIn s kinds classes l count outputs arities arguments d ≡ got rows q
+            pub table-ends : {rows : List Row} {q : ℕ}
+                → tailIn s kinds classes l count outputs arities arguments d ≡ got rows q
                 → tableAt s ≡ got (record { sorts = sorts; literals = literals; functions = functions; rows = rows }) q
             unfolding then
             table-ends e = table-from ∙ rw (← tail-was, e)
 
 module _ {P : Table → Type 0} where
-  pub answers-got : {g : Got Table} {t : Table} {k n l m r : ℕ} → g ≡ got t k → length (t .sorts) ≡ n → length (t .literals) ≡ l
+  pub answers-got : {g : Got Table} {t : Table} {k n l m r : ℕ} → g ≡ got t k → length (t .sorts) ≡ n
+      → length (t .literals) ≡ l
       → length (t .functions) ≡ m → length (t .rows) ≡ r → P t → Answers g (Read n l m r) P
   unfolding OnGot
   answers-got e a b c d h = rw e (record { answer = rw (a, b, c, d); filled = h })
@@ -140,19 +152,23 @@ version-near s {a} r =
     let e : a ≡ 0 + 4 = all-at (rw (r .is) at (version-end s 0)) in
     omega arith
 
-pub sorts-near : (s : List ℕ) (at : ℕ) {sorts : List Sort} {q : ℕ} → sortsPart s at ≡ got sorts q → (length sorts ≤ 31) × (q ≤ at + 346)
+pub sorts-near : (s : List ℕ) (at : ℕ) {sorts : List Sort} {q : ℕ} → sortsPart s at ≡ got sorts q
+    → (length sorts ≤ 31) × (q ≤ at + 346)
 sorts-near s at e =
     let k = all-at (rw e at (sorts-in s at)) in
     (k .count, k .near)
 
-pub literals-near : (s : List ℕ) (at : ℕ) {literals : List ℤ} {q : ℕ} → literalsPart s at ≡ got literals q → q ≤ at + 32713
+pub literals-near : (s : List ℕ) (at : ℕ) {literals : List ℤ} {q : ℕ} → literalsPart s at ≡ got literals q
+    → q ≤ at + 32713
 literals-near s at e = all-at (rw e at (literals-in s at)) .near
 
-pub functions-near : (s kinds : List ℕ) (at : ℕ) {fs : List Function} {q : ℕ} → functionsPart s kinds at ≡ got fs q → FunctionsIn kinds at fs q
+pub functions-near : (s kinds : List ℕ) (at : ℕ) {fs : List Function} {q : ℕ} → functionsPart s kinds at ≡ got fs q
+    → FunctionsIn kinds at fs q
 functions-near s kinds at e = all-at (rw e at (functions-in s kinds at))
 
 -- The array of kinds is 32 long.
-pub kinds-length : {kinds classes : List ℕ} {sorts : List Sort} → HoldsSorts kinds classes sorts → length sorts ≤ 31 → length kinds ≡ 32
+pub kinds-length : {kinds classes : List ℕ} {sorts : List Sort} → HoldsSorts kinds classes sorts → length sorts ≤ 31
+    → length kinds ≡ 32
 kinds-length {sorts = sorts} h b =
     let n : length (kindsOf sorts) ≡ length sorts = length-map sorts (λ (x : Sort). x .kind) in
     rw (h .kinds-are) (padWith-length 0 32 (kindsOf sorts) (omega arith))
@@ -163,5 +179,6 @@ kinds-few sorts b =
     omega arith
 
 -- Functions over the same kinds.
-pub functions-over : (s : List ℕ) (at : ℕ) {xs ys : List ℕ} {g : Got (List Function)} → xs ≡ ys → functionsPart s xs at ≡ g → functionsPart s ys at ≡ g
+pub functions-over : (s : List ℕ) (at : ℕ) {xs ys : List ℕ} {g : Got (List Function)} → xs ≡ ys
+    → functionsPart s xs at ≡ g → functionsPart s ys at ≡ g
 functions-over s at e d = sym (ap (λ (k : List ℕ). functionsPart s k at) e) ∙ d

@@ -14,7 +14,21 @@ use Rattle.names.specs.Entries.{Entries, lengthAt, nameAt, findName}
 use Rattle.names.specs.declared.Found.{Found}
 use Rattle.names.specs.declared.Found.the-variants.{At, Missing}
 use Rattle.store.specs.Lent.{store, recordIn, termRoom, symbolRoom}
-use Rattle.store.specs.WellFormed.{every, allZero, allBelow, sameInt, soundName, soundLiteral, soundVariable, soundApplication, soundRecord, sameTerm, newName, newTerm, wellFormed}
+use Rattle.store.specs.WellFormed.{
+  every,
+  allZero,
+  allBelow,
+  sameInt,
+  soundName,
+  soundLiteral,
+  soundVariable,
+  soundApplication,
+  soundRecord,
+  sameTerm,
+  newName,
+  newTerm,
+  wellFormed,
+}
 use Rattle.store.proofs.TestLaws.{and-false, and-first, and-second, every-get, every-of, every-fails, every-same}
 use Rattle.store.proofs.SearchLaws.{first-at, first-missing, findName-first}
 use Rattle.store.proofs.FactsLaws.{soundName-get}
@@ -53,7 +67,8 @@ module _ (ns : List ℕ) (k : ℕ) where
 
     pub name-rest :
         valid (take (k * 32 + 1 + lengthAt ns k - (k * 32 + 1)) (drop (k * 32 + 1) ns)) ≡ true →
-        allZero (take (k * 32 + 32 - (k * 32 + 1 + lengthAt ns k)) (drop (k * 32 + 1 + lengthAt ns k) ns)) ≡ soundName ns k
+        allZero (take (k * 32 + 32 - (k * 32 + 1 + lengthAt ns k))
+        (drop (k * 32 + 1 + lengthAt ns k) ns)) ≡ soundName ns k
     unfolding soundName
     name-rest e =
         let d : k * 32 + 1 + lengthAt ns k - (k * 32 + 1) ≡ lengthAt ns k = omega arith in
@@ -141,7 +156,8 @@ module _ (rs : List ℕ) (ls : List ℤ) (i : ℕ) where
 
           unused :
               drop (getD rs (i * 11 + 2) 0) (take 8 (drop (i * 11 + 3) rs))
-              ≡ take (i * 11 + 11 - (i * 11 + 3 + getD rs (i * 11 + 2) 0)) (drop (i * 11 + 3 + getD rs (i * 11 + 2) 0) rs)
+              ≡ take (i * 11 + 11 - (i * 11 + 3 + getD rs (i * 11 + 2) 0))
+              (drop (i * 11 + 3 + getD rs (i * 11 + 2) 0) rs)
           unused =
               let n : ℕ = getD rs (i * 11 + 2) 0 in
               let d : i * 11 + 11 - (i * 11 + 3 + n) ≡ 8 - n = omega arith in
@@ -162,7 +178,8 @@ module _ (rs : List ℕ) (ls : List ℤ) (i : ℕ) where
 
           pub application-rest :
               allBelow i (take (i * 11 + 3 + getD rs (i * 11 + 2) 0 - (i * 11 + 3)) (drop (i * 11 + 3) rs)) ≡ true →
-              allZero (take (i * 11 + 11 - (i * 11 + 3 + getD rs (i * 11 + 2) 0)) (drop (i * 11 + 3 + getD rs (i * 11 + 2) 0) rs))
+              allZero (take (i * 11 + 11 - (i * 11 + 3 + getD rs (i * 11 + 2) 0))
+              (drop (i * 11 + 3 + getD rs (i * 11 + 2) 0) rs))
               ≡ soundApplication m i (recordIn rs ls i)
           unfolding soundApplication recordIn
           application-rest e =
@@ -321,5 +338,6 @@ module _ (rs : List ℕ) (ls : List ℤ) (ns : List ℕ) (n m : ℕ) where
             every n (soundRecordAt rs ls m) ≡ true → every n (freshRecord rs ls) ≡ wellFormed (store rs ls ns n m)
         check-rest e = rw (a, b, c, e) at check-is
 
-  pub check-counts-refuses : within (length rs) (length ls) (length ns) n m ≡ false → false ≡ wellFormed (store rs ls ns n m)
+  pub check-counts-refuses : within (length rs) (length ls) (length ns) n m ≡ false
+      → false ≡ wellFormed (store rs ls ns n m)
   check-counts-refuses e = rw e at check-is

@@ -4,7 +4,18 @@ use mathlib.Core.Path.{_≡_, refl, ap, sym, _∙_}
 use mathlib.Core.List.{List, _++_}
 use native.Mathlib.Omega.{arith}
 use borrow.Author.Count.{below-more}
-use lib.ListN.{length, getD, set, take, drop, replicate, length-append, length-replicate, length-drop, List·getD-append}
+use lib.ListN.{
+  length,
+  getD,
+  set,
+  take,
+  drop,
+  replicate,
+  length-append,
+  length-replicate,
+  length-drop,
+  List·getD-append,
+}
 use lib.Seq.{ext-getD, getD-take, getD-drop, getD-set-same, getD-set-other, length-take-le, getD-append-add}
 use lib.IntN.{ℤ}
 use Rattle.store.specs.Lent.{numbers}
@@ -47,7 +58,8 @@ module _ (kind symbol : ℕ) (z : ℤ) (ks : List ℕ) where
   pub number-count : (j : ℕ) → j ≡ 2 → getD (numbers (filled kind symbol z ks)) j 0 ≡ length ks
   number-count j e = rw e
 
-  after : (j : ℕ) → (j ≡ 0 → ⊥) → (j ≡ 1 → ⊥) → (j ≡ 2 → ⊥) → getD (numbers (filled kind symbol z ks)) j 0 ≡ getD (ks ++ replicate (8 - length ks) 0) (j - 3) 0
+  after : (j : ℕ) → (j ≡ 0 → ⊥) → (j ≡ 1 → ⊥) → (j ≡ 2 → ⊥)
+      → getD (numbers (filled kind symbol z ks)) j 0 ≡ getD (ks ++ replicate (8 - length ks) 0) (j - 3) 0
   after zero a b c = absurd (a refl)
   after (suc zero) a b c = absurd (b refl)
   after (suc (suc zero)) a b c = absurd (c refl)

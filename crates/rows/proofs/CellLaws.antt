@@ -30,7 +30,8 @@ module _ (kinds classes : List ℕ) (l k : ℕ) where
 
 -- The sort of a column, by its place.
 module _ (outputs arities arguments : List ℕ) (f j : ℕ) where
-  pub column-when-argument : j < getD arities f 0 → columnIn outputs arities arguments f j ≡ getD arguments (f * 8 + j) 0
+  pub column-when-argument : j < getD arities f 0
+      → columnIn outputs arities arguments f j ≡ getD arguments (f * 8 + j) 0
   unfolding columnIn pick
   column-when-argument h = rw (lt-ltb _ _ h)
 
@@ -38,7 +39,8 @@ module _ (outputs arities arguments : List ℕ) (f j : ℕ) where
   unfolding columnIn pick
   column-when-output h = rw (le-ltb _ _ h)
 
-  small-by : (b : Bool) → Sound outputs arities arguments → pick b (getD arguments (f * 8 + j) 0) (getD outputs f 0) < 32
+  small-by : (b : Bool) → Sound outputs arities arguments
+      → pick b (getD arguments (f * 8 + j) 0) (getD outputs f 0) < 32
   unfolding pick
   small-by true s = s .arguments-small .below (f * 8 + j)
   small-by false s = s .outputs-small .below f
@@ -69,12 +71,15 @@ pub record Cells-read (s kinds classes : List ℕ) (l : ℕ) (outputs arities ar
   pub near : p ≤ at + 9 * j
   pub held : PutCells from cells₀ cells xs
 
-module _ {s kinds classes : List ℕ} {l : ℕ} {outputs arities arguments : List ℕ} {f at from : ℕ} {cells₀ : List ℕ} where
+module _ {s kinds classes : List ℕ} {l : ℕ} {outputs arities arguments : List ℕ} {f at from : ℕ}
+    {cells₀ : List ℕ} where
   pub cells-start : Cells-read s kinds classes l outputs arities arguments f at from cells₀ cells₀ at 0
   cells-start = record { xs = []; loop = loop-start; near = omega arith; held = record { put = refl } }
 
-  module _ {cells : List ℕ} {p j : ℕ} (o : Cells-read s kinds classes l outputs arities arguments f at from cells₀ cells p j)
-      (h : j < getD arities f 0 + 1) {bound : ℕ} (b : bound ≡ rangeIn kinds classes l (columnIn outputs arities arguments f j)) where
+  module _ {cells : List ℕ} {p j : ℕ}
+      (o : Cells-read s kinds classes l outputs arities arguments f at from cells₀ cells p j)
+      (h : j < getD arities f 0 + 1) {bound : ℕ}
+      (b : bound ≡ rangeIn kinds classes l (columnIn outputs arities arguments f j)) where
     bound-is : bound ≡ rangeIn kinds classes l (columnIn outputs arities arguments f (length (o .xs)))
     bound-is = rw (o .loop .some) b
 
@@ -94,7 +99,8 @@ module _ {s kinds classes : List ℕ} {l : ℕ} {outputs arities arguments : Lis
     unfolding cellsIn
     cells-refuse e = loop-refuses (o .loop) h (rw (← bound-is) e)
 
-  pub cells-end : {cells : List ℕ} {p j : ℕ} (o : Cells-read s kinds classes l outputs arities arguments f at from cells₀ cells p j)
+  pub cells-end : {cells : List ℕ} {p j : ℕ}
+      (o : Cells-read s kinds classes l outputs arities arguments f at from cells₀ cells p j)
       → getD arities f 0 + 1 ≤ j → cellsIn s kinds classes l outputs arities arguments f at ≡ got (o .xs) p
   unfolding cellsIn
   cells-end o h = loop-ends (o .loop) h

@@ -39,14 +39,16 @@ pub pad-get : (n : ℕ) (xs : List ℕ) (k : ℕ) → getD (pad n xs) k 0 ≡ ge
 unfolding padWith
 pad-get n xs k = zeros-get xs (n - length xs) k
 
-pub pad-map-get : {A : Type 0} (n : ℕ) (f : A → ℕ) (xs : List A) (k : ℕ) (d : A) → f d ≡ 0 → getD (pad n (map f xs)) k 0 ≡ f (getD xs k d)
+pub pad-map-get : {A : Type 0} (n : ℕ) (f : A → ℕ) (xs : List A) (k : ℕ) (d : A) → f d ≡ 0
+    → getD (pad n (map f xs)) k 0 ≡ f (getD xs k d)
 pad-map-get n f xs k d e = pad-get n (map f xs) k ∙ rw (← e) (List·getD-map f xs k d)
 
 -- The readings of many things are the same where the reading of each is.
 then-same : {A B : Type 0} (g : Got A) {f h : A → ℕ → Got B} → ((a : A) (k : ℕ) → f a k ≡ h a k) → then g f ≡ then g h
 then-same g e = ap (then g) (fun-ext (λ a. fun-ext (λ k. e a k)))
 
-pub many-same : {A : Type 0} (f g : List A → ℕ → Got A) (m : ℕ) → ((xs : List A) (p : ℕ) → length xs < m → f xs p ≡ g xs p)
+pub many-same : {A : Type 0} (f g : List A → ℕ → Got A) (m : ℕ)
+    → ((xs : List A) (p : ℕ) → length xs < m → f xs p ≡ g xs p)
     → (n at : ℕ) (xs : List A) → length xs + n ≡ m → many f n at xs ≡ many g n at xs
 unfolding many
 many-same f g m e zero at xs c = refl
@@ -74,17 +76,20 @@ module _ {names declared costs unextractable hidden outputs arities arguments : 
     (h : HoldsFunctions names declared costs unextractable hidden outputs arities arguments fs)
     (tight : Every (λ (f : Function). length (f .arguments) ≤ 8) fs) (f : ℕ) (b : f < length fs) where
   arity-is : getD arities f 0 ≡ length (functionNo fs f .arguments)
-  arity-is = rw (h .arities-are) (pad-map-get 128 (λ (f : Function). length (f .arguments)) fs f (functionNo [] 0) refl)
+  arity-is =
+      rw (h .arities-are) (pad-map-get 128 (λ (f : Function). length (f .arguments)) fs f (functionNo [] 0) refl)
 
   output-is : getD outputs f 0 ≡ functionNo fs f .output
   output-is = rw (h .outputs-are) (pad-map-get 128 (λ (f : Function). f .output) fs f (functionNo [] 0) refl)
 
-  argument-is : (j : ℕ) → j < length (functionNo fs f .arguments) → getD arguments (f * 8 + j) 0 ≡ getD (functionNo fs f .arguments) j 0
+  argument-is : (j : ℕ) → j < length (functionNo fs f .arguments)
+      → getD arguments (f * 8 + j) 0 ≡ getD (functionNo fs f .arguments) j 0
   unfolding padWith
   argument-is j l =
       let a : List ℕ = functionNo fs f .arguments in
       let few : length a ≤ 8 = every-get tight f (functionNo [] 0) b in
-      let long = every-map (λ (f : Function) (l : length (f .arguments) ≤ 8). padWith-length 0 8 (f .arguments) l) tight in
+      let long =
+      every-map (λ (f : Function) (l : length (f .arguments) ≤ 8). padWith-length 0 8 (f .arguments) l) tight in
       let m : j < length (pad 8 a) = rw (padWith-length 0 8 a few) (omega arith) in
       rw (h .arguments-are, ← getD-drop (f * 8) (pad 1024 (blocks placesOf fs)) j 0)
       (ap (λ (x : List ℕ). getD x j 0) (blocks-drop placesOf 8 long f (functionNo [] 0) _ b)
@@ -103,14 +108,16 @@ module _ {names declared costs unextractable hidden outputs arities arguments : 
       ∙ output-is
       ∙ rw e (sym (getD-append-seam (functionNo fs f .arguments) (functionNo fs f .output) [] 0))
 
-  column-is : (j : ℕ) → j < length (functionNo fs f .arguments) + 1 → columnIn outputs arities arguments f j ≡ getD (columns (functionNo fs f)) j 0
+  column-is : (j : ℕ) → j < length (functionNo fs f .arguments) + 1
+      → columnIn outputs arities arguments f j ≡ getD (columns (functionNo fs f)) j 0
   column-is j l = column-by j l (decLt j (length (functionNo fs f .arguments)))
 
   cells-are : (s : List ℕ) {kinds classes : List ℕ} {sorts : List Sort} → HoldsSorts kinds classes sorts → (l at : ℕ)
       → cellsIn s kinds classes l outputs arities arguments f at ≡ cellsAt s sorts l (columns (functionNo fs f)) at
   unfolding cellsIn cellsAt
   cells-are s {kinds} {classes} {sorts} o l at =
-      let n : length (columns (functionNo fs f)) ≡ length (functionNo fs f .arguments) + 1 = length-append (functionNo fs f .arguments) _ in
+      let n : length (columns (functionNo fs f)) ≡ length (functionNo fs f .arguments) + 1 =
+      length-append (functionNo fs f .arguments) _ in
       rw (arity-is, n)
       (many-same _ _ (length (functionNo fs f .arguments) + 1)
       (λ xs p m.
@@ -138,6 +145,7 @@ module _ (s : List ℕ) {kinds classes : List ℕ} {sorts : List Sort} (o : Hold
       (cells-are h tight f (ltb-true _ _ b) s o l q))))
 
   -- The rows read against the arrays are those of the definition.
-  pub rows-are : (n at : ℕ) → rowsIn s kinds classes l (length fs) outputs arities arguments n at ≡ rowsAt s sorts l fs n at
+  pub rows-are : (n at : ℕ)
+      → rowsIn s kinds classes l (length fs) outputs arities arguments n at ≡ rowsAt s sorts l fs n at
   unfolding rowsIn rowsAt
   rows-are n at = many-same _ _ n (λ rows p _. row-is p) n at [] (omega arith)

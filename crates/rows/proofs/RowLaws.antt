@@ -41,7 +41,8 @@ cell-end s bound at =
     all-then (field s at 9) _ (λ v p e. all-must _ _ _ (λ _. all-got (field-read s at 9 e .end)))
 
 -- Where the readings of cells and of a row end.
-module _ (s kinds classes : List ℕ) (l : ℕ) (outputs arities arguments : List ℕ) (sound : Sound outputs arities arguments) where
+module _ (s kinds classes : List ℕ) (l : ℕ) (outputs arities arguments : List ℕ)
+    (sound : Sound outputs arities arguments) where
   abbrev CellsEnd : ℕ → List ℕ → ℕ → Type 0
   CellsEnd at xs q = q ≤ at + 9 * length xs
 
@@ -57,7 +58,8 @@ module _ (s kinds classes : List ℕ) (l : ℕ) (outputs arities arguments : Lis
       (cell-end s _ p))
       n at [] (omega arith)
 
-  pub cells-kept : (f at : ℕ) → All (λ xs q. (length xs ≤ 9) × (q ≤ at + 81)) (cellsIn s kinds classes l outputs arities arguments f at)
+  pub cells-kept : (f at : ℕ)
+      → All (λ xs q. (length xs ≤ 9) × (q ≤ at + 81)) (cellsIn s kinds classes l outputs arities arguments f at)
   unfolding cellsIn
   cells-kept f at =
       all-of _ (λ xs q e.
@@ -66,7 +68,9 @@ module _ (s kinds classes : List ℕ) (l : ℕ) (outputs arities arguments : Lis
       let b = sound .arities-small .below f in
       (omega arith, omega arith))
 
-  pub row-kept : (count at : ℕ) → All (λ r q. (length (r .cells) ≤ 9) × (q ≤ at + 89)) (rowIn s kinds classes l count outputs arities arguments at)
+  pub row-kept : (count at : ℕ)
+      → All (λ r q. (length (r .cells) ≤ 9) × (q ≤ at + 89))
+      (rowIn s kinds classes l count outputs arities arguments at)
   unfolding rowIn
   row-kept count at =
       all-then (field s at 7) _ (λ f p e.
@@ -79,7 +83,8 @@ module _ (s kinds classes : List ℕ) (l : ℕ) (outputs arities arguments : Lis
 
 -- The ways that the reading of a row goes.
 module _ (s kinds classes : List ℕ) (l count : ℕ) (outputs arities arguments : List ℕ) (at : ℕ) where
-  pub row-short : field s at 7 ≡ refused Short → rowIn s kinds classes l count outputs arities arguments at ≡ refused Short
+  pub row-short : field s at 7 ≡ refused Short
+      → rowIn s kinds classes l count outputs arities arguments at ≡ refused Short
   unfolding rowIn then
   row-short e = rw e
 
@@ -89,13 +94,15 @@ module _ (s kinds classes : List ℕ) (l count : ℕ) (outputs arities arguments
     row-none h = rw (e, le-ltb _ _ h)
 
     module _ (h : f < count) where
-      pub row-cut : field s p 1 ≡ refused Short → rowIn s kinds classes l count outputs arities arguments at ≡ refused Short
+      pub row-cut : field s p 1 ≡ refused Short
+          → rowIn s kinds classes l count outputs arities arguments at ≡ refused Short
       unfolding rowIn then must
       row-cut d = rw (e, lt-ltb _ _ h, d)
 
       pub row-from : {bit q : ℕ} → field s p 1 ≡ got bit q
           → rowIn s kinds classes l count outputs arities arguments at
-          ≡ then (cellsIn s kinds classes l outputs arities arguments f q) (λ cells t. got (record { function = f; subsumed = bit; cells = cells }) t)
+          ≡ then (cellsIn s kinds classes l outputs arities arguments f q)
+          (λ cells t. got (record { function = f; subsumed = bit; cells = cells }) t)
       unfolding rowIn then must
       row-from d = rw (e, lt-ltb _ _ h, d)
 
@@ -103,7 +110,8 @@ module _ (s kinds classes : List ℕ) (l count : ℕ) (outputs arities arguments
 abbrev pub placesOf : Row → List ℕ
 placesOf r = pad 9 (r .cells)
 
-places-length : {rows : List Row} → Every (λ (r : Row). length (r .cells) ≤ 9) rows → length (blocks placesOf rows) ≡ length rows * 9
+places-length : {rows : List Row} → Every (λ (r : Row). length (r .cells) ≤ 9) rows
+    → length (blocks placesOf rows) ≡ length rows * 9
 places-length h =
     blocks-length placesOf 9 (every-map (λ (r : Row) (l : length (r .cells) ≤ 9). padWith-length 0 9 (r .cells) l) h)
 
@@ -113,7 +121,8 @@ cells-more : (rows : List Row) (r : Row) (i : ℕ) → Every (λ (r : Row). leng
 cells-more rows r i h c b l =
     let xs : List ℕ = r .cells in
     let n : length (blocks placesOf rows) ≡ i * 9 = rw (← c) (places-length h) in
-    let m : length (pad 9216 (blocks placesOf rows)) ≡ 9216 = padWith-length 0 9216 (blocks placesOf rows) (omega arith) in
+    let m : length (pad 9216 (blocks placesOf rows)) ≡ 9216 =
+    padWith-length 0 9216 (blocks placesOf rows) (omega arith) in
     sets-eq xs (pad 9216 (blocks placesOf rows)) (i * 9) (omega arith)
     ∙ pad-block 9216 (blocks placesOf rows) xs (i * 9) (i * 9 + length xs) n refl (omega arith)
     ∙ sym (pad-of-pad 9216 9 (blocks placesOf rows) xs l (omega arith))
@@ -128,7 +137,8 @@ pub record Rows-read (s kinds classes : List ℕ) (l count : ℕ) (outputs ariti
   pub tight : Every (λ (r : Row). length (r .cells) ≤ 9) rows
   pub held : HoldsRows functions subsumed cells rows
 
-module _ {s kinds classes : List ℕ} {l count : ℕ} {outputs arities arguments : List ℕ} {at n : ℕ} {functions subsumed cells : List ℕ} where
+module _ {s kinds classes : List ℕ} {l count : ℕ} {outputs arities arguments : List ℕ} {at n : ℕ}
+    {functions subsumed cells : List ℕ} where
   pub rows-start : Zeros functions subsumed cells
       → Rows-read s kinds classes l count outputs arities arguments at n functions subsumed cells at 0
   unfolding blocks
@@ -146,8 +156,10 @@ module _ {s kinds classes : List ℕ} {l count : ℕ} {outputs arities arguments
             };
       }
 
-  module _ {p i : ℕ} (o : Rows-read s kinds classes l count outputs arities arguments at n functions subsumed cells p i) where
-    pub rows-more : {functions′ subsumed′ cells′ : List ℕ} {r : Row} {q : ℕ} → Sound outputs arities arguments → n ≤ 1024 → i < n
+  module _ {p i : ℕ} (o : Rows-read s kinds classes l count outputs arities arguments at n functions
+      subsumed cells p i) where
+    pub rows-more : {functions′ subsumed′ cells′ : List ℕ} {r : Row} {q : ℕ} → Sound outputs arities arguments
+        → n ≤ 1024 → i < n
         → rowIn s kinds classes l count outputs arities arguments p ≡ got r q
         → PutRow i functions subsumed cells functions′ subsumed′ cells′ r
         → Rows-read s kinds classes l count outputs arities arguments at n functions′ subsumed′ cells′ q (i + 1)
@@ -162,8 +174,12 @@ module _ {s kinds classes : List ℕ} {l count : ℕ} {outputs arities arguments
           tight = every-snoc (o .tight) (k .0);
           held =
               record {
-                functions-are = u .functions-put ∙ rw (o .held .functions-are) (pad-set-map 1024 (λ (r : Row). r .function) (o .rows) i r m b refl);
-                subsumed-are = u .subsumed-put ∙ rw (o .held .subsumed-are) (pad-set-map 1024 (λ (r : Row). r .subsumed) (o .rows) i r m b refl);
+                functions-are =
+                    u .functions-put
+                    ∙ rw (o .held .functions-are) (pad-set-map 1024 (λ (r : Row). r .function) (o .rows) i r m b refl);
+                subsumed-are =
+                    u .subsumed-put
+                    ∙ rw (o .held .subsumed-are) (pad-set-map 1024 (λ (r : Row). r .subsumed) (o .rows) i r m b refl);
                 cells-are = u .cells-put ∙ rw (o .held .cells-are) (cells-more (o .rows) r i (o .tight) m b (k .0));
               };
         }
@@ -178,14 +194,17 @@ module _ {s kinds classes : List ℕ} {l count : ℕ} {outputs arities arguments
     rows-end h = loop-ends (o .loop) h
 
 -- As many rows as were asked for.
-pub rowsIn-length : (s kinds classes : List ℕ) (l count : ℕ) (outputs arities arguments : List ℕ) (n at : ℕ) {rows : List Row} {q : ℕ}
+pub rowsIn-length : (s kinds classes : List ℕ) (l count : ℕ) (outputs arities arguments : List ℕ) (n at : ℕ)
+    {rows : List Row} {q : ℕ}
     → rowsIn s kinds classes l count outputs arities arguments n at ≡ got rows q → length rows ≡ n
 unfolding rowsIn
 rowsIn-length s kinds classes l count outputs arities arguments n at e = many-length _ n at e
 
 -- n rows take at most 89 n bits.
-pub rowsIn-near : (s kinds classes : List ℕ) (l count : ℕ) (outputs arities arguments : List ℕ) → Sound outputs arities arguments
-    → (n at : ℕ) {rows : List Row} {q : ℕ} → rowsIn s kinds classes l count outputs arities arguments n at ≡ got rows q → q ≤ at + 89 * n
+pub rowsIn-near : (s kinds classes : List ℕ) (l count : ℕ) (outputs arities arguments : List ℕ)
+    → Sound outputs arities arguments
+    → (n at : ℕ) {rows : List Row} {q : ℕ} → rowsIn s kinds classes l count outputs arities arguments n at ≡ got rows q
+    → q ≤ at + 89 * n
 unfolding rowsIn
 rowsIn-near s kinds classes l count outputs arities arguments sound n at {rows} {q} e =
     let c : length rows ≡ n = many-length _ n at e in

@@ -33,7 +33,8 @@ module _ (t : Table) (k : Known t) (root : ℕ) (h : root < length (t .sorts)) w
   unfolding answerFor runOf scanned
   answered-of-reached c r =
       answered-of-right (tableRows t) (usable t) (scanOrder t root) (ReachedClass t root) (scanOrder-covers t k root h)
-      limit c r (answerFor t root c) (promises limit (scanned t root) (classCount t) (scanned-within t k root h) .right c)
+      limit c r (answerFor t root c)
+      (promises limit (scanned t root) (classCount t) (scanned-within t k root h) .right c)
 
   -- "For any accepted table file .. and, as root, class of a constructor sort"
   pub answered :

@@ -68,7 +68,8 @@ pub record ClassChild (t : Table) (s v d : ℕ) : Type 0 where
 pub childOf-class : (t : Table) (s v d : ℕ) → childOf t s v ≡ class d → ClassChild t s v d
 unfolding childOf
 childOf-class t s v d e =
-    cases (eqb (sortOf t s .kind) 0) (λ q. absurd (not-class (rw (q, childOf) at e))) (λ q. flat-class q (rw (q, childOf) at e))
+    cases (eqb (sortOf t s .kind) 0) (λ q. absurd (not-class (rw (q, childOf) at e)))
+    (λ q. flat-class q (rw (q, childOf) at e))
   where
     not-class : literal v ≡ class d → ⊥
     not-class h = let z : _≡_ {A = ℕ} 0 1 = cc in omega arith
@@ -129,7 +130,8 @@ module _ (t : Table) (k : Known t) (root : ℕ) (h : root < length (t .sorts)) w
   usable-parts r u =
       and-true (usableFunction (functionOf t (tableRowOf t r .function))) (eqb (tableRowOf t r .subsumed) 0) u
 
-  scanned-row : (i : ℕ) → i < length (scanOrder t root) → Scanned (viewOf t) root view-sound (getD (scanOrder t root) i 0)
+  scanned-row : (i : ℕ) → i < length (scanOrder t root)
+      → Scanned (viewOf t) root view-sound (getD (scanOrder t root) i 0)
   unfolding scanOrder
   scanned-row i l = rowsInOrder-get (viewOf t) root view-sound i l
 

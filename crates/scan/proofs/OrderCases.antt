@@ -17,7 +17,8 @@ use Rattle.scan.specs.Order.{
 }
 use Rattle.scan.specs.Arrays.{argumentsIn, viewIn}
 
--- Five sorts; A(2 1) -> 0, hidden B(4) -> 0, C(0) -> 2 without rows, D() -> 1, E() -> 4; rows of D, A, A (subsumed), B, A, E.
+-- Five sorts; A(2 1) -> 0, hidden B(4) -> 0, C(0) -> 2 without rows, D() -> 1, E() -> 4; rows of D, A, A (subsumed),
+-- B, A, E.
 abbrev five : ScanView
 five =
     viewIn 5 5 6 (0 ∷ 0 ∷ 2 ∷ 1 ∷ 4 ∷ []) (2 ∷ 1 ∷ 1 ∷ 0 ∷ 0 ∷ [])
@@ -35,5 +36,6 @@ unfolding has picked inTurn functionsOf join brought visits sortsReached functio
 five-functions = refl
 
 pub five-rows : rowsInOrder five 0 ≡ 1 ∷ 4 ∷ 0 ∷ []
-unfolding has picked inTurn functionsOf rowsOf join brought visits sortsReached functionsInOrder rowsInOrder argumentsIn viewIn
+unfolding has picked inTurn functionsOf rowsOf join brought visits sortsReached functionsInOrder
+    rowsInOrder argumentsIn viewIn
 five-rows = refl

@@ -39,7 +39,8 @@ module _
       (sym e) (flat-edge-of-class n outputs heads starts children (v .flat) c) in
       let g : getD edges c 0 ≡ edgeOf top (stateOf costs ranks 0) (rowsOf outputs heads starts children) c =
       ap (λ (x : List ℕ). getD x c 0) found
-      ∙ tabulate-get (edgeOf top (stateOf costs ranks 0) (rowsOf outputs heads starts children)) (length ranks) c 0 h in
+      ∙ tabulate-get (edgeOf top (stateOf costs ranks 0) (rowsOf outputs heads starts children))
+      (length ranks) c 0 h in
       subst (λ (i : ℕ). FlatEdge (stateOf costs ranks last) outputs starts children c i) (sym g)
       (q (p .ranked) (p .below))
 

@@ -43,7 +43,8 @@ module _ (s : List ℕ) (at t : ℕ) where
       module _ {n q : ℕ} (d : field s p 10 ≡ got n q) where
         pub sort-large : 512 < t + n → sortAt s at t ≡ refused BadSize
         unfolding sortAt then pick must
-        sort-large h = rw (e, ne-eqb _ _ o, d, lt-leb _ _ h) (large-by (leb n 512) (got (record { kind = 1; classes = n }) q))
+        sort-large h =
+            rw (e, ne-eqb _ _ o, d, lt-leb _ _ h) (large-by (leb n 512) (got (record { kind = 1; classes = n }) q))
 
         pub sort-eq : t + n ≤ 512 → sortAt s at t ≡ got (record { kind = 1; classes = n }) q
         unfolding sortAt then pick must
@@ -74,7 +75,8 @@ module _ {s : List ℕ} {at n : ℕ} {kinds classes : List ℕ} where
       }
 
   module _ {p total i : ℕ} (l : Sorts-read s at n kinds classes p total i) where
-    pub sorts-more : {kind count q : ℕ} → n < 32 → i < n → sortAt s p total ≡ got (record { kind = kind; classes = count }) q
+    pub sorts-more : {kind count q : ℕ} → n < 32 → i < n
+        → sortAt s p total ≡ got (record { kind = kind; classes = count }) q
         → Sorts-read s at n (set kinds i kind) (set classes i count) q (total + count) (i + 1)
     sorts-more {kind} {count} {q} b h e =
         let x : Sort = record { kind = kind; classes = count } in
@@ -89,8 +91,10 @@ module _ {s : List ℕ} {at n : ℕ} {kinds classes : List ℕ} where
           near = omega (arith, k .near, l .near);
           held =
               record {
-                kinds-are = rw (l .held .kinds-are) (pad-set-map 32 (λ (x : Sort). x .kind) (l .xs) i x o i-small refl);
-                classes-are = rw (l .held .classes-are) (pad-set-map 32 (λ (x : Sort). x .classes) (l .xs) i x o i-small refl);
+                kinds-are =
+                    rw (l .held .kinds-are) (pad-set-map 32 (λ (x : Sort). x .kind) (l .xs) i x o i-small refl);
+                classes-are =
+                    rw (l .held .classes-are) (pad-set-map 32 (λ (x : Sort). x .classes) (l .xs) i x o i-small refl);
               };
         }
 

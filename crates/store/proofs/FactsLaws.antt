@@ -13,8 +13,31 @@ use Rattle.names.specs.Name.{valid, same}
 use Rattle.names.specs.Entries.{lengthAt, nameAt}
 use Rattle.store.specs.declared.Term.{Term}
 use Rattle.store.specs.Lent.{Store, recordIn, recordAt, symbolAt, termRoom, symbolRoom}
-use Rattle.store.specs.WellFormed.{every, allBelow, sameInt, soundName, soundLiteral, soundVariable, soundApplication, soundRecord, sameTerm, newName, newTerm, wellFormed}
-use Rattle.store.specs.Facts.{SoundName, IsLiteral, IsVariable, IsApplication, SoundRecord, aLiteral, aVariable, anApplication, Sound}
+use Rattle.store.specs.WellFormed.{
+  every,
+  allBelow,
+  sameInt,
+  soundName,
+  soundLiteral,
+  soundVariable,
+  soundApplication,
+  soundRecord,
+  sameTerm,
+  newName,
+  newTerm,
+  wellFormed,
+}
+use Rattle.store.specs.Facts.{
+  SoundName,
+  IsLiteral,
+  IsVariable,
+  IsApplication,
+  SoundRecord,
+  aLiteral,
+  aVariable,
+  anApplication,
+  Sound,
+}
 use Rattle.store.proofs.TestLaws.{cases, no-both, and-first, and-second, and-both, every-get, every-of}
 use Rattle.store.proofs.SameLaws.{same-tells, sameInt-tells, sameTerm-tells, tells-yes, tells-no}
 use Rattle.store.proofs.KindLaws.{byKind-literal, byKind-variable, byKind-application, byKind-other}
@@ -107,7 +130,8 @@ module _ (symbols i : ℕ) (t : Term) where
       (and-both (sameInt (t .literal) (pos 0)) _ (tells-yes sameInt sameInt-tells (t .literal) (pos 0) (f .literal))
       (allZero-of (t .children) (λ j h. f .unused j))))
 
-  application-get : t .kind ≡ 2 → length (t .children) ≡ 8 → soundApplication symbols i t ≡ true → SoundRecord symbols i t
+  application-get : t .kind ≡ 2 → length (t .children) ≡ 8 → soundApplication symbols i t ≡ true
+      → SoundRecord symbols i t
   unfolding soundApplication
   application-get k long e =
       let e₁ = and-second (ltb (t .symbol) symbols) _ e in
@@ -124,10 +148,12 @@ module _ (symbols i : ℕ) (t : Term) where
         literal = sameInt-tells .eq (t .literal) (pos 0) (and-first (sameInt (t .literal) (pos 0)) _ e₂);
         lower = λ j h.
             rw (getD-take (t .count) (t .children) j 0 h) at
-            (allBelow-get i (take (t .count) (t .children)) below j (omega (arith, length-take-le (t .count) (t .children) (omega arith))));
+            (allBelow-get i (take (t .count) (t .children)) below j
+            (omega (arith, length-take-le (t .count) (t .children) (omega arith))));
         unused = λ j h.
             let d : j ≡ t .count + (j - t .count) = omega arith in
-            rw d (sym (getD-drop (t .count) (t .children) (j - t .count) 0) ∙ allZero-get (drop (t .count) (t .children)) zeros (j - t .count));
+            rw d (sym (getD-drop (t .count) (t .children) (j - t .count) 0) ∙ allZero-get
+            (drop (t .count) (t .children)) zeros (j - t .count));
       })
 
   application-of : IsApplication symbols i t → length (t .children) ≡ 8 → soundApplication symbols i t ≡ true
@@ -175,13 +201,18 @@ children-length rs i h = length-take-le 8 (drop (i * 11 + 3) rs) (omega (arith, 
 
 module _ (s : Store) where
   -- the counts are within limits and lent lengths
-  termRoom-get : leb (s .terms) (termRoom s) ≡ true → (s .terms ≤ 1024) × (s .terms * 11 ≤ length (s .records)) × (s .terms ≤ length (s .literals))
+  termRoom-get : leb (s .terms) (termRoom s) ≡ true
+      → (s .terms ≤ 1024) × (s .terms * 11 ≤ length (s .records)) × (s .terms ≤ length (s .literals))
   unfolding termRoom
-  termRoom-get e = let h = leb-true (s .terms) (min 1024 (min (length (s .records) / 11) (length (s .literals)))) e in (omega arith, omega arith, omega arith)
+  termRoom-get e =
+      let h = leb-true (s .terms) (min 1024 (min (length (s .records) / 11) (length (s .literals)))) e in
+      (omega arith, omega arith, omega arith)
 
-  termRoom-of : s .terms ≤ 1024 → s .terms * 11 ≤ length (s .records) → s .terms ≤ length (s .literals) → leb (s .terms) (termRoom s) ≡ true
+  termRoom-of : s .terms ≤ 1024 → s .terms * 11 ≤ length (s .records) → s .terms ≤ length (s .literals)
+      → leb (s .terms) (termRoom s) ≡ true
   unfolding termRoom
-  termRoom-of a b c = le-leb (s .terms) (min 1024 (min (length (s .records) / 11) (length (s .literals)))) (omega arith)
+  termRoom-of a b c =
+      le-leb (s .terms) (min 1024 (min (length (s .records) / 11) (length (s .literals)))) (omega arith)
 
   symbolRoom-get : leb (s .symbols) (symbolRoom s) ≡ true → (s .symbols ≤ 128) × (s .symbols * 32 ≤ length (s .names))
   unfolding symbolRoom
@@ -192,7 +223,8 @@ module _ (s : Store) where
   symbolRoom-of a b = le-leb (s .symbols) (min 128 (length (s .names) / 32)) (omega arith)
 
   -- a test for the newness of each is one for the distinctness of all
-  newName-get : every (s .symbols) (newName s) ≡ true → (j k : ℕ) → j < k → k < s .symbols → symbolAt s j ≡ symbolAt s k → ⊥
+  newName-get : every (s .symbols) (newName s) ≡ true → (j k : ℕ) → j < k → k < s .symbols
+      → symbolAt s j ≡ symbolAt s k → ⊥
   unfolding newName
   newName-get e j k h l q =
       let f = every-get (newName s) (s .symbols) e k l in
@@ -200,15 +232,18 @@ module _ (s : Store) where
       no-both (same (symbolAt s j) (symbolAt s k)) (tells-yes same same-tells (symbolAt s j) (symbolAt s k) q)
       (not-true (same (symbolAt s j) (symbolAt s k)) g)
 
-  newTerm-get : every (s .terms) (newTerm s) ≡ true → (j i : ℕ) → j < i → i < s .terms → recordAt s j ≡ recordAt s i → ⊥
+  newTerm-get : every (s .terms) (newTerm s) ≡ true → (j i : ℕ) → j < i → i < s .terms → recordAt s j ≡ recordAt s i
+      → ⊥
   unfolding newTerm
   newTerm-get e j i h l q =
       let f = every-get (newTerm s) (s .terms) e i l in
       let g = every-get (λ (j : ℕ). not (sameTerm (recordAt s j) (recordAt s i))) i f j h in
-      no-both (sameTerm (recordAt s j) (recordAt s i)) (tells-yes sameTerm sameTerm-tells (recordAt s j) (recordAt s i) q)
+      no-both (sameTerm (recordAt s j) (recordAt s i))
+      (tells-yes sameTerm sameTerm-tells (recordAt s j) (recordAt s i) q)
       (not-true (sameTerm (recordAt s j) (recordAt s i)) g)
 
-  newName-of : ((j k : ℕ) → j < s .symbols → k < s .symbols → symbolAt s j ≡ symbolAt s k → j ≡ k) → every (s .symbols) (newName s) ≡ true
+  newName-of : ((j k : ℕ) → j < s .symbols → k < s .symbols → symbolAt s j ≡ symbolAt s k → j ≡ k)
+      → every (s .symbols) (newName s) ≡ true
   unfolding newName
   newName-of f =
       every-of (newName s) (s .symbols)
@@ -218,7 +253,8 @@ module _ (s : Store) where
       rw
       (tells-no same same-tells (symbolAt s j) (symbolAt s k) (λ q. let z = f j k (omega arith) l q in omega arith))))
 
-  newTerm-of : ((i j : ℕ) → i < s .terms → j < s .terms → recordAt s i ≡ recordAt s j → i ≡ j) → every (s .terms) (newTerm s) ≡ true
+  newTerm-of : ((i j : ℕ) → i < s .terms → j < s .terms → recordAt s i ≡ recordAt s j → i ≡ j)
+      → every (s .terms) (newTerm s) ≡ true
   unfolding newTerm
   newTerm-of f =
       every-of (newTerm s) (s .terms)
@@ -226,10 +262,12 @@ module _ (s : Store) where
       every-of (λ (j : ℕ). not (sameTerm (recordAt s j) (recordAt s i))) i
       (λ j h.
       rw
-      (tells-no sameTerm sameTerm-tells (recordAt s j) (recordAt s i) (λ q. let z = f j i (omega arith) l q in omega arith))))
+      (tells-no sameTerm sameTerm-tells (recordAt s j) (recordAt s i)
+      (λ q. let z = f j i (omega arith) l q in omega arith))))
 
 -- what holds of no two in order makes numbers equal
-once : (P : ℕ → ℕ → Type 0) (n : ℕ) → ((a b : ℕ) → P a b → P b a) → ((a b : ℕ) → a < b → b < n → P a b → ⊥) → (a b : ℕ) → a < n → b < n → P a b → a ≡ b
+once : (P : ℕ → ℕ → Type 0) (n : ℕ) → ((a b : ℕ) → P a b → P b a) → ((a b : ℕ) → a < b → b < n → P a b → ⊥) → (a b : ℕ)
+    → a < n → b < n → P a b → a ≡ b
 once P n turn f a b h k p =
     cases (ltb a b) (λ l. absurd (f a b (ltb-true a b l) k p))
     (λ l.

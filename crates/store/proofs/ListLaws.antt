@@ -34,7 +34,8 @@ module _ (n : ℕ) where
   unfolding allBelow
   allBelow-of [] f = refl
   allBelow-of (x ∷ l) f =
-      and-both (ltb x n) (allBelow n l) (lt-ltb x n (f 0 (omega arith))) (allBelow-of l (λ j h. f (suc j) (omega arith)))
+      and-both (ltb x n) (allBelow n l) (lt-ltb x n (f 0 (omega arith)))
+      (allBelow-of l (λ j h. f (suc j) (omega arith)))
 
 -- past a part there is the default
 pub getD-take-past : (n : ℕ) (l : List ℕ) (j : ℕ) → n ≤ j → getD (take n l) j 0 ≡ 0

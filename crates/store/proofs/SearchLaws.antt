@@ -62,7 +62,8 @@ module _ (p : ℕ → Bool) where
   pub first-none : (n i : ℕ) → ((j : ℕ) → i ≤ j → j < i + n → p j ≡ false) → firstFrom p i n ≡ Missing
   first-none zero i f = first-none-left i
   first-none (suc n) i f =
-      first-next i n (f i (omega arith) (omega arith)) ∙ first-none n (i + 1) (λ j h l. f j (omega arith) (omega arith))
+      first-next i n (f i (omega arith) (omega arith))
+      ∙ first-none n (i + 1) (λ j h l. f j (omega arith) (omega arith))
 
   -- the steps of a loop
   pub first-here : (i n : ℕ) → i < n → p i ≡ true → firstFrom p i (n - i) ≡ At i
@@ -110,7 +111,8 @@ module _ (table name : List ℕ) where
   unfolding findFrom
   name-hit k n e = rw (e, findFrom)
 
-  name-next : (k n : ℕ) → same (nameAt table k) name ≡ false → findFrom table name k (suc n) ≡ findFrom table name (k + 1) n
+  name-next : (k n : ℕ) → same (nameAt table k) name ≡ false
+      → findFrom table name k (suc n) ≡ findFrom table name (k + 1) n
   unfolding findFrom
   name-next k n e = rw (e, findFrom)
 

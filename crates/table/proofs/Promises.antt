@@ -49,7 +49,11 @@ promises =
     record {
       accepted-or-refused = λ s. either s (tableAt s) refl;
       not-both = λ s t x h f. clash (sym (h .is) ∙ f);
-      one-answer = λ g before a b r q e d. (ap (λ (x : Answer). x .outcome) (e ∙ sym d), ap (λ (x : Answer). x .arrays) (e ∙ sym d));
+      one-answer =
+          λ g before a b r q e d. (
+            ap (λ (x : Answer). x .outcome) (e ∙ sym d),
+            ap (λ (x : Answer). x .arrays) (e ∙ sym d),
+          );
       accepted = λ s t h. kept s h .ok;
       one-table = λ s t u h k. same-table (sym (h .is) ∙ k .is);
       one-fault = λ s x y e d. same-refusal (sym e ∙ d);

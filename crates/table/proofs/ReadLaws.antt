@@ -17,8 +17,10 @@ use Rattle.table.specs.Lent.{Arrays, lent, arraysOf, answer, readOf}
 -- Arrays that hold a table are its arrays.
 pub arrays-held : {kinds classes : List ℕ} {literals : List ℤ}
     {names declared costs unextractable hidden outputs arities arguments functions subsumed cells : List ℕ} {t : Table}
-    → Holds kinds classes literals names declared costs unextractable hidden outputs arities arguments functions subsumed cells t
-    → lent kinds classes literals names declared costs unextractable hidden outputs arities arguments functions subsumed cells ≡ arraysOf t
+    → Holds kinds classes literals names declared costs unextractable hidden outputs arities arguments
+    functions subsumed cells t
+    → lent kinds classes literals names declared costs unextractable hidden outputs arities arguments functions
+    subsumed cells ≡ arraysOf t
 arrays-held h =
     rw (
       h .sorts-held .kinds-are,
@@ -37,11 +39,13 @@ arrays-held h =
       h .rows-held .cells-are,
     )
 
-refuse-by : (g : Got Table) {x : Refusal} (before : Arrays) → Refused x ≡ outcomeOf g → answer (Refused x) before ≡ readOf g before
+refuse-by : (g : Got Table) {x : Refusal} (before : Arrays) → Refused x ≡ outcomeOf g
+    → answer (Refused x) before ≡ readOf g before
 refuse-by (got t k) before e = cc
 refuse-by (refused y) before e = ap (λ (o : Outcome). answer o before) e
 
-pub read-refuses : {P : Table → Type 0} {g : Got Table} {r : Outcome} {x : Refusal} (before : Arrays) → Answers g r P → r ≡ Refused x
+pub read-refuses : {P : Table → Type 0} {g : Got Table} {r : Outcome} {x : Refusal} (before : Arrays) → Answers g r P
+    → r ≡ Refused x
     → answer r before ≡ readOf g before
 read-refuses {g = g} before h e = rw e (refuse-by g before (sym e ∙ h .answer))
 
@@ -63,8 +67,10 @@ on-map (refused x) f h = h
 module _ {kinds classes : List ℕ} {literals : List ℤ}
     {names declared costs unextractable hidden outputs arities arguments functions subsumed cells : List ℕ} where
   pub read-accepts : {g : Got Table} {r : Outcome} {n l m k : ℕ} (before : Arrays)
-      → Answers g r (Holds kinds classes literals names declared costs unextractable hidden outputs arities arguments functions subsumed cells)
+      → Answers g r (Holds kinds classes literals names declared costs unextractable hidden outputs arities arguments
+      functions subsumed cells)
       → r ≡ Read n l m k
-      → answer r (lent kinds classes literals names declared costs unextractable hidden outputs arities arguments functions subsumed cells)
+      → answer r (lent kinds classes literals names declared costs unextractable hidden outputs arities arguments
+      functions subsumed cells)
       ≡ readOf g before
   read-accepts {g} before h e = accept-by g _ before (h .answer) e (on-map g (λ t o. arrays-held o) (h .filled))

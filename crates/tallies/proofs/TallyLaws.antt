@@ -9,7 +9,18 @@ use native.Mathlib.Decide.{ℕ-discrete, decLt}
 use lib.ListN.{length, getD, set, take, drop, length-set, length-take, drop-of-length-le}
 use lib.Seq.{drop-cons, getD-set-same, getD-set-other, take-suc, take-all}
 use Rattle.text_rules.specs.Counts.{places, size}
-use Rattle.text_rules.proofs.CountLaws.{places-none, places-here, places-other, places-append, places-length, stage, stage-first, stage-last, stage-skip, stage-give}
+use Rattle.text_rules.proofs.CountLaws.{
+  places-none,
+  places-here,
+  places-other,
+  places-append,
+  places-length,
+  stage,
+  stage-first,
+  stage-last,
+  stage-skip,
+  stage-give,
+}
 use Rattle.text_rules.proofs.SizeLaws.{sumOf-step, sumOf-none, sumOf-capped, size-step}
 use Rattle.heads.specs.Readable.{arityAt, kidsAt}
 use Rattle.tallies.specs.Tallies.{Linked, Most, Added, Given, Counts, Sizes, sumAt}
@@ -67,7 +78,8 @@ module _ (b : ℕ) (before ks now : List ℕ) (j : ℕ) (v : Adding b before ks 
           (x : ℕ) →
           x < length before →
           Dec (x ≡ getD ks j 0) →
-          getD (set now (getD ks j 0) (getD now (getD ks j 0) 0 + 1)) x 0 ≡ getD before x 0 + places x (take (j + 1) ks)
+          getD (set now (getD ks j 0) (getD now (getD ks j 0) 0 + 1)) x 0 ≡ getD before x 0 +
+          places x (take (j + 1) ks)
       by x lx (yes e) =
           let s : getD (set now (getD ks j 0) (getD now (getD ks j 0) 0 + 1)) (getD ks j 0) 0
           ≡ getD now (getD ks j 0) 0 + 1 =
@@ -114,7 +126,8 @@ module _ (rs : List ℕ) (n : ℕ) (w : Linked rs n) (k : n - 1 < n) where
     at = omega arith;
     long = refl;
     low =
-        most-set (1 + 8 * (n - n)) counts (n - 1) 1 (most-more 0 (1 + 8 * (n - n)) counts m (omega arith)) (omega arith);
+        most-set (1 + 8 * (n - n)) counts (n - 1) 1
+        (most-more 0 (1 + 8 * (n - n)) counts m (omega arith)) (omega arith);
     same = λ x lx. by x (ℕ-discrete x (n - 1)) ∙ sym (start x);
   }
     where
@@ -171,7 +184,8 @@ module _ (rs : List ℕ) (n : ℕ) (w : Linked rs n) (k : n - 1 < n) where
         e : t ≡ suc (t - 1)
         e = omega arith
 
-        by : Dec (getD now (t - 1) 0 ≡ 0) → ((y : ℕ) → y < n → getD now y 0 ≡ upTo (suc (t - 1)) y) → getD now′ x 0 ≡ upTo (t - 1) x
+        by : Dec (getD now (t - 1) 0 ≡ 0) → ((y : ℕ) → y < n → getD now y 0 ≡ upTo (suc (t - 1)) y)
+            → getD now′ x 0 ≡ upTo (t - 1) x
         by (yes z) same =
             ap (λ (y : List ℕ). getD y x 0) (g .none z)
             ∙ (same x lx

@@ -29,7 +29,31 @@ use Rattle.interning.specs.Interning.{Leaves}
 use Rattle.interning.specs.declared.Added.{Added}
 use Rattle.interning.specs.declared.Added.the-variants.{Term as term, NoRoom as full}
 use Rattle.terms.specs.Answers.{given, refuse}
-use Rattle.terms.specs.Calls.{Faults, fine, fault, unless, literalFaults, variableFaults, applicationFaults, added, adding, found, finding, sizing, sizeOf, getFaults, noTerm, getting, getTerm, compareFaults, comparing, compareTerms, sortFaults, sorting, sortTerms}
+use Rattle.terms.specs.Calls.{
+  Faults,
+  fine,
+  fault,
+  unless,
+  literalFaults,
+  variableFaults,
+  applicationFaults,
+  added,
+  adding,
+  found,
+  finding,
+  sizing,
+  sizeOf,
+  getFaults,
+  noTerm,
+  getting,
+  getTerm,
+  compareFaults,
+  comparing,
+  compareTerms,
+  sortFaults,
+  sorting,
+  sortTerms,
+}
 
 unless-yes : (b : Bool) (r : Refusal) (f : Faults) → b ≡ true → unless b r f ≡ f
 unfolding unless
@@ -161,7 +185,8 @@ module _ (s : Store) where
       get-given h =
           sym
           (ap (getting s i)
-          (unless-yes (wellFormed s) BadStore _ e ∙ unless-yes (ltb i (s .terms)) BadTerm fine (lt-ltb i (s .terms) h)))
+          (unless-yes (wellFormed s) BadStore _ e ∙ unless-yes (ltb i (s .terms)) BadTerm fine
+          (lt-ltb i (s .terms) h)))
 
       pub in-records : i < s .terms → InRecords (s .records) (s .literals) i
       in-records h =

@@ -6,7 +6,25 @@ use native.Mathlib.Omega.{arith}
 use lib.ListN.{getD}
 use lib.IntN.{ℤ}
 use Rattle.refusals.specs.declared.Refusal.{Refusal}
-use Rattle.refusals.specs.declared.Refusal.the-variants.{Short, BadVersion, BadSize, BadName, DupName, BadSort, BadFunction, BadValue, Trailing, BadRoot, NoTerm, TooDear, NoRoom, BadTerm, Absent, BadMode, BadStore}
+use Rattle.refusals.specs.declared.Refusal.the-variants.{
+  Short,
+  BadVersion,
+  BadSize,
+  BadName,
+  DupName,
+  BadSort,
+  BadFunction,
+  BadValue,
+  Trailing,
+  BadRoot,
+  NoTerm,
+  TooDear,
+  NoRoom,
+  BadTerm,
+  Absent,
+  BadMode,
+  BadStore,
+}
 use Rattle.refusals.specs.Numbers.{refusalNo}
 use Rattle.store.specs.Lent.{Store, store}
 use Rattle.terms.specs.declared.Added.{Added}

@@ -32,7 +32,23 @@ use Rattle.meaning.proofs.TreeLaws.{treeAt-means}
 use Rattle.term_order.specs.TreeOrder.{trees, compareAt, atMost}
 use Rattle.term_order.proofs.LawfulLaws.{atMost-linear}
 use Rattle.term_order.proofs.CodeLaws.{order-is}
-use Rattle.terms.specs.Calls.{Faults, fine, fault, unless, literalFaults, variableFaults, applicationFaults, added, adding, addLiteral, addVariable, addApplication, sortFaults, sorting, sortTerms}
+use Rattle.terms.specs.Calls.{
+  Faults,
+  fine,
+  fault,
+  unless,
+  literalFaults,
+  variableFaults,
+  applicationFaults,
+  added,
+  adding,
+  addLiteral,
+  addVariable,
+  addApplication,
+  sortFaults,
+  sorting,
+  sortTerms,
+}
 use Rattle.terms.specs.Promises.{After, Sorts}
 
 -- a test that has passed

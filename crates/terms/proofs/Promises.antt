@@ -9,7 +9,15 @@ use Rattle.term_order.proofs.LawfulLaws.{trees-tells, atMost-linear}
 use Rattle.term_order.proofs.CodeLaws.{compare-same}
 use Rattle.terms.specs.Promises.{Promises}
 use Rattle.terms.proofs.DeterminedLaws.{added-once, looked-once, counted-once, compared-once, sorted-once}
-use Rattle.terms.proofs.PromiseLaws.{literal-after, variable-after, application-after, found-again, sort-order, compare-trees, sort-after}
+use Rattle.terms.proofs.PromiseLaws.{
+  literal-after,
+  variable-after,
+  application-after,
+  found-again,
+  sort-order,
+  compare-trees,
+  sort-after,
+}
 
 pub promises : Promises
 promises = record {

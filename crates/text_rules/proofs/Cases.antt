@@ -8,9 +8,38 @@ use lib.IntN.{pos}
 use Rattle.decimal.specs.Decimal.{digits, digitsIn, literalText}
 use Rattle.store.specs.Nodes.{Node, literal, variable, application}
 use Rattle.text_rules.specs.Forms.{each, form, shown, childText, lineIn, line}
-use Rattle.text_rules.specs.Counts.{inTurn, member, reachIn, reached, places, placesIn, count, sumOf, sizeIn, size}
+use Rattle.text_rules.specs.Counts.{
+  inTurn,
+  member,
+  reachIn,
+  reached,
+  places,
+  placesIn,
+  count,
+  sumOf,
+  sizeIn,
+  size,
+}
 use Rattle.text_rules.specs.Bindings.{find, toBind, bind, meetIn, bindings}
-use Rattle.text_rules.specs.LetText.{Naming, countText, letName, calledAt, called, several, anySeveral, newLine, breaks, ownIn, own, bodyGap, letLine, letLines, textWith, bindingsOf, letLayout}
+use Rattle.text_rules.specs.LetText.{
+  Naming,
+  countText,
+  letName,
+  calledAt,
+  called,
+  several,
+  anySeveral,
+  newLine,
+  breaks,
+  ownIn,
+  own,
+  bodyGap,
+  letLine,
+  letLines,
+  textWith,
+  bindingsOf,
+  letLayout,
+}
 
 -- term t of a list of terms
 term : List Node → ℕ → Node
@@ -34,14 +63,18 @@ worked : letLayout (term worked-terms) t 3 ≡
     40 ∷ 108 ∷ 101 ∷ 116 ∷ 32 ∷ 116 ∷ 48 ∷ 32 ∷ 40 ∷ 65 ∷ 100 ∷ 100 ∷ 32 ∷ 40 ∷ 78 ∷ 117 ∷ 109 ∷ 32 ∷
     53 ∷ 41 ∷ 32 ∷ 40 ∷ 78 ∷ 117 ∷ 109 ∷ 32 ∷ 53 ∷ 41 ∷ 41 ∷ 41 ∷ 10 ∷ 10 ∷ 40 ∷ 65 ∷ 100 ∷ 100 ∷ 32 ∷
     116 ∷ 48 ∷ 32 ∷ 116 ∷ 48 ∷ 41 ∷ []
-unfolding worked-terms term t letLayout bindingsOf textWith letLines letLine bodyGap own ownIn breaks newLine anySeveral several called calledAt letName countText bindings meetIn bind toBind find size sizeIn sumOf count placesIn places reached reachIn member inTurn line lineIn childText shown form each digits digitsIn literalText
+unfolding worked-terms term t letLayout bindingsOf textWith letLines letLine bodyGap own ownIn breaks newLine
+    anySeveral several called calledAt letName countText bindings meetIn bind toBind find size sizeIn sumOf count
+    placesIn places reached reachIn member inTurn line lineIn childText shown form each digits digitsIn literalText
 worked = refl
 
 -- F of three variables of 31, 31 and 12 bytes: 80 characters, one line
 width-80-terms : List Node
 width-80-terms =
-    variable (97 ∷ 97 ∷ 97 ∷ 97 ∷ 97 ∷ 97 ∷ 97 ∷ 97 ∷ 97 ∷ 97 ∷ 97 ∷ 97 ∷ 97 ∷ 97 ∷ 97 ∷ 97 ∷ 97 ∷ 97 ∷ 97 ∷ 97 ∷ 97 ∷ 97 ∷ 97 ∷ 97 ∷ 97 ∷ 97 ∷ 97 ∷ 97 ∷ 97 ∷ 97 ∷ 97 ∷ []) ∷
-    variable (98 ∷ 98 ∷ 98 ∷ 98 ∷ 98 ∷ 98 ∷ 98 ∷ 98 ∷ 98 ∷ 98 ∷ 98 ∷ 98 ∷ 98 ∷ 98 ∷ 98 ∷ 98 ∷ 98 ∷ 98 ∷ 98 ∷ 98 ∷ 98 ∷ 98 ∷ 98 ∷ 98 ∷ 98 ∷ 98 ∷ 98 ∷ 98 ∷ 98 ∷ 98 ∷ 98 ∷ []) ∷
+    variable (97 ∷ 97 ∷ 97 ∷ 97 ∷ 97 ∷ 97 ∷ 97 ∷ 97 ∷ 97 ∷ 97 ∷ 97 ∷ 97 ∷ 97 ∷ 97 ∷ 97 ∷ 97 ∷ 97 ∷ 97 ∷ 97 ∷ 97 ∷ 97 ∷
+    97 ∷ 97 ∷ 97 ∷ 97 ∷ 97 ∷ 97 ∷ 97 ∷ 97 ∷ 97 ∷ 97 ∷ []) ∷
+    variable (98 ∷ 98 ∷ 98 ∷ 98 ∷ 98 ∷ 98 ∷ 98 ∷ 98 ∷ 98 ∷ 98 ∷ 98 ∷ 98 ∷ 98 ∷ 98 ∷ 98 ∷ 98 ∷ 98 ∷ 98 ∷ 98 ∷ 98 ∷ 98 ∷
+    98 ∷ 98 ∷ 98 ∷ 98 ∷ 98 ∷ 98 ∷ 98 ∷ 98 ∷ 98 ∷ 98 ∷ []) ∷
     variable (99 ∷ 99 ∷ 99 ∷ 99 ∷ 99 ∷ 99 ∷ 99 ∷ 99 ∷ 99 ∷ 99 ∷ 99 ∷ 99 ∷ []) ∷
     application (70 ∷ []) (0 ∷ 1 ∷ 2 ∷ []) ∷ []
 
@@ -51,14 +84,18 @@ width-80 : letLayout (term width-80-terms) t 3 ≡
     98 ∷ 98 ∷ 98 ∷ 98 ∷ 98 ∷ 98 ∷ 98 ∷ 98 ∷ 98 ∷ 98 ∷ 98 ∷ 98 ∷ 98 ∷ 98 ∷ 98 ∷ 98 ∷ 98 ∷ 98 ∷ 98 ∷ 98 ∷
     98 ∷ 98 ∷ 98 ∷ 98 ∷ 98 ∷ 98 ∷ 98 ∷ 32 ∷ 99 ∷ 99 ∷ 99 ∷ 99 ∷ 99 ∷ 99 ∷ 99 ∷ 99 ∷ 99 ∷ 99 ∷ 99 ∷ 99 ∷
     41 ∷ []
-unfolding width-80-terms term t letLayout bindingsOf textWith letLines letLine bodyGap own ownIn breaks newLine anySeveral several called calledAt letName countText bindings meetIn bind toBind find size sizeIn sumOf count placesIn places reached reachIn member inTurn line lineIn childText shown form each digits digitsIn literalText
+unfolding width-80-terms term t letLayout bindingsOf textWith letLines letLine bodyGap own ownIn breaks newLine
+    anySeveral several called calledAt letName countText bindings meetIn bind toBind find size sizeIn sumOf count
+    placesIn places reached reachIn member inTurn line lineIn childText shown form each digits digitsIn literalText
 width-80 = refl
 
 -- 31, 31, 13: broken
 width-81-terms : List Node
 width-81-terms =
-    variable (97 ∷ 97 ∷ 97 ∷ 97 ∷ 97 ∷ 97 ∷ 97 ∷ 97 ∷ 97 ∷ 97 ∷ 97 ∷ 97 ∷ 97 ∷ 97 ∷ 97 ∷ 97 ∷ 97 ∷ 97 ∷ 97 ∷ 97 ∷ 97 ∷ 97 ∷ 97 ∷ 97 ∷ 97 ∷ 97 ∷ 97 ∷ 97 ∷ 97 ∷ 97 ∷ 97 ∷ []) ∷
-    variable (98 ∷ 98 ∷ 98 ∷ 98 ∷ 98 ∷ 98 ∷ 98 ∷ 98 ∷ 98 ∷ 98 ∷ 98 ∷ 98 ∷ 98 ∷ 98 ∷ 98 ∷ 98 ∷ 98 ∷ 98 ∷ 98 ∷ 98 ∷ 98 ∷ 98 ∷ 98 ∷ 98 ∷ 98 ∷ 98 ∷ 98 ∷ 98 ∷ 98 ∷ 98 ∷ 98 ∷ []) ∷
+    variable (97 ∷ 97 ∷ 97 ∷ 97 ∷ 97 ∷ 97 ∷ 97 ∷ 97 ∷ 97 ∷ 97 ∷ 97 ∷ 97 ∷ 97 ∷ 97 ∷ 97 ∷ 97 ∷ 97 ∷ 97 ∷ 97 ∷ 97 ∷ 97 ∷
+    97 ∷ 97 ∷ 97 ∷ 97 ∷ 97 ∷ 97 ∷ 97 ∷ 97 ∷ 97 ∷ 97 ∷ []) ∷
+    variable (98 ∷ 98 ∷ 98 ∷ 98 ∷ 98 ∷ 98 ∷ 98 ∷ 98 ∷ 98 ∷ 98 ∷ 98 ∷ 98 ∷ 98 ∷ 98 ∷ 98 ∷ 98 ∷ 98 ∷ 98 ∷ 98 ∷ 98 ∷ 98 ∷
+    98 ∷ 98 ∷ 98 ∷ 98 ∷ 98 ∷ 98 ∷ 98 ∷ 98 ∷ 98 ∷ 98 ∷ []) ∷
     variable (99 ∷ 99 ∷ 99 ∷ 99 ∷ 99 ∷ 99 ∷ 99 ∷ 99 ∷ 99 ∷ 99 ∷ 99 ∷ 99 ∷ 99 ∷ []) ∷
     application (70 ∷ []) (0 ∷ 1 ∷ 2 ∷ []) ∷ []
 
@@ -68,7 +105,9 @@ width-81 : letLayout (term width-81-terms) t 3 ≡
     98 ∷ 98 ∷ 98 ∷ 98 ∷ 98 ∷ 98 ∷ 98 ∷ 98 ∷ 98 ∷ 98 ∷ 98 ∷ 98 ∷ 98 ∷ 98 ∷ 98 ∷ 98 ∷ 98 ∷ 98 ∷ 98 ∷ 98 ∷
     98 ∷ 98 ∷ 98 ∷ 98 ∷ 98 ∷ 98 ∷ 98 ∷ 98 ∷ 98 ∷ 98 ∷ 98 ∷ 10 ∷ 32 ∷ 32 ∷ 99 ∷ 99 ∷ 99 ∷ 99 ∷ 99 ∷ 99 ∷
     99 ∷ 99 ∷ 99 ∷ 99 ∷ 99 ∷ 99 ∷ 99 ∷ 41 ∷ []
-unfolding width-81-terms term t letLayout bindingsOf textWith letLines letLine bodyGap own ownIn breaks newLine anySeveral several called calledAt letName countText bindings meetIn bind toBind find size sizeIn sumOf count placesIn places reached reachIn member inTurn line lineIn childText shown form each digits digitsIn literalText
+unfolding width-81-terms term t letLayout bindingsOf textWith letLines letLine bodyGap own ownIn breaks newLine
+    anySeveral several called calledAt letName countText bindings meetIn bind toBind find size sizeIn sumOf count
+    placesIn places reached reachIn member inTurn line lineIn childText shown form each digits digitsIn literalText
 width-81 = refl
 
 -- a shared term of size 3: no binding
@@ -79,7 +118,9 @@ size-3-terms =
 size-3 : letLayout (term size-3-terms) t 2 ≡
     10 ∷ 40 ∷ 71 ∷ 32 ∷ 40 ∷ 70 ∷ 32 ∷ 120 ∷ 32 ∷ 120 ∷ 41 ∷ 32 ∷ 40 ∷ 70 ∷ 32 ∷ 120 ∷ 32 ∷ 120 ∷ 41 ∷
     41 ∷ []
-unfolding size-3-terms term t letLayout bindingsOf textWith letLines letLine bodyGap own ownIn breaks newLine anySeveral several called calledAt letName countText bindings meetIn bind toBind find size sizeIn sumOf count placesIn places reached reachIn member inTurn line lineIn childText shown form each digits digitsIn literalText
+unfolding size-3-terms term t letLayout bindingsOf textWith letLines letLine bodyGap own ownIn breaks newLine
+    anySeveral several called calledAt letName countText bindings meetIn bind toBind find size sizeIn sumOf count
+    placesIn places reached reachIn member inTurn line lineIn childText shown form each digits digitsIn literalText
 size-3 = refl
 
 -- size 4: bound
@@ -90,14 +131,18 @@ size-4-terms =
 size-4 : letLayout (term size-4-terms) t 2 ≡
     40 ∷ 108 ∷ 101 ∷ 116 ∷ 32 ∷ 116 ∷ 48 ∷ 32 ∷ 40 ∷ 70 ∷ 32 ∷ 120 ∷ 32 ∷ 120 ∷ 32 ∷ 120 ∷ 41 ∷ 41 ∷
     10 ∷ 10 ∷ 40 ∷ 71 ∷ 32 ∷ 116 ∷ 48 ∷ 32 ∷ 116 ∷ 48 ∷ 41 ∷ []
-unfolding size-4-terms term t letLayout bindingsOf textWith letLines letLine bodyGap own ownIn breaks newLine anySeveral several called calledAt letName countText bindings meetIn bind toBind find size sizeIn sumOf count placesIn places reached reachIn member inTurn line lineIn childText shown form each digits digitsIn literalText
+unfolding size-4-terms term t letLayout bindingsOf textWith letLines letLine bodyGap own ownIn breaks newLine
+    anySeveral several called calledAt letName countText bindings meetIn bind toBind find size sizeIn sumOf count
+    placesIn places reached reachIn member inTurn line lineIn childText shown form each digits digitsIn literalText
 size-4 = refl
 
 -- a broken binding: its term was met at indent 2, so its children stand at 2 + 2 + 2
 broken-body-terms : List Node
 broken-body-terms =
-    variable (97 ∷ 97 ∷ 97 ∷ 97 ∷ 97 ∷ 97 ∷ 97 ∷ 97 ∷ 97 ∷ 97 ∷ 97 ∷ 97 ∷ 97 ∷ 97 ∷ 97 ∷ 97 ∷ 97 ∷ 97 ∷ 97 ∷ 97 ∷ 97 ∷ 97 ∷ 97 ∷ 97 ∷ 97 ∷ 97 ∷ 97 ∷ 97 ∷ 97 ∷ 97 ∷ 97 ∷ []) ∷
-    variable (98 ∷ 98 ∷ 98 ∷ 98 ∷ 98 ∷ 98 ∷ 98 ∷ 98 ∷ 98 ∷ 98 ∷ 98 ∷ 98 ∷ 98 ∷ 98 ∷ 98 ∷ 98 ∷ 98 ∷ 98 ∷ 98 ∷ 98 ∷ 98 ∷ 98 ∷ 98 ∷ 98 ∷ 98 ∷ 98 ∷ 98 ∷ 98 ∷ 98 ∷ 98 ∷ 98 ∷ []) ∷
+    variable (97 ∷ 97 ∷ 97 ∷ 97 ∷ 97 ∷ 97 ∷ 97 ∷ 97 ∷ 97 ∷ 97 ∷ 97 ∷ 97 ∷ 97 ∷ 97 ∷ 97 ∷ 97 ∷ 97 ∷ 97 ∷ 97 ∷ 97 ∷ 97 ∷
+    97 ∷ 97 ∷ 97 ∷ 97 ∷ 97 ∷ 97 ∷ 97 ∷ 97 ∷ 97 ∷ 97 ∷ []) ∷
+    variable (98 ∷ 98 ∷ 98 ∷ 98 ∷ 98 ∷ 98 ∷ 98 ∷ 98 ∷ 98 ∷ 98 ∷ 98 ∷ 98 ∷ 98 ∷ 98 ∷ 98 ∷ 98 ∷ 98 ∷ 98 ∷ 98 ∷ 98 ∷ 98 ∷
+    98 ∷ 98 ∷ 98 ∷ 98 ∷ 98 ∷ 98 ∷ 98 ∷ 98 ∷ 98 ∷ 98 ∷ []) ∷
     variable (99 ∷ 99 ∷ 99 ∷ 99 ∷ 99 ∷ 99 ∷ 99 ∷ 99 ∷ 99 ∷ 99 ∷ 99 ∷ 99 ∷ 99 ∷ []) ∷
     application (70 ∷ []) (0 ∷ 1 ∷ 2 ∷ []) ∷ application (71 ∷ []) (3 ∷ 3 ∷ []) ∷ []
 
@@ -109,7 +154,9 @@ broken-body : letLayout (term broken-body-terms) t 4 ≡
     98 ∷ 98 ∷ 98 ∷ 98 ∷ 98 ∷ 98 ∷ 98 ∷ 98 ∷ 98 ∷ 10 ∷ 32 ∷ 32 ∷ 32 ∷ 32 ∷ 32 ∷ 32 ∷ 99 ∷ 99 ∷ 99 ∷ 99 ∷
     99 ∷ 99 ∷ 99 ∷ 99 ∷ 99 ∷ 99 ∷ 99 ∷ 99 ∷ 99 ∷ 41 ∷ 41 ∷ 10 ∷ 10 ∷ 40 ∷ 71 ∷ 32 ∷ 116 ∷ 48 ∷ 32 ∷
     116 ∷ 48 ∷ 41 ∷ []
-unfolding broken-body-terms term t letLayout bindingsOf textWith letLines letLine bodyGap own ownIn breaks newLine anySeveral several called calledAt letName countText bindings meetIn bind toBind find size sizeIn sumOf count placesIn places reached reachIn member inTurn line lineIn childText shown form each digits digitsIn literalText
+unfolding broken-body-terms term t letLayout bindingsOf textWith letLines letLine bodyGap own ownIn breaks newLine
+    anySeveral several called calledAt letName countText bindings meetIn bind toBind find size sizeIn sumOf count
+    placesIn places reached reachIn member inTurn line lineIn childText shown form each digits digitsIn literalText
 broken-body = refl
 
 -- a child of a shared term is not bound for being under it twice in the tree
@@ -121,7 +168,9 @@ child-of-shared-terms =
 child-of-shared : letLayout (term child-of-shared-terms) t 3 ≡
     40 ∷ 108 ∷ 101 ∷ 116 ∷ 32 ∷ 116 ∷ 48 ∷ 32 ∷ 40 ∷ 72 ∷ 32 ∷ 40 ∷ 70 ∷ 32 ∷ 120 ∷ 32 ∷ 120 ∷ 32 ∷
     120 ∷ 41 ∷ 41 ∷ 41 ∷ 10 ∷ 10 ∷ 40 ∷ 71 ∷ 32 ∷ 116 ∷ 48 ∷ 32 ∷ 116 ∷ 48 ∷ 41 ∷ []
-unfolding child-of-shared-terms term t letLayout bindingsOf textWith letLines letLine bodyGap own ownIn breaks newLine anySeveral several called calledAt letName countText bindings meetIn bind toBind find size sizeIn sumOf count placesIn places reached reachIn member inTurn line lineIn childText shown form each digits digitsIn literalText
+unfolding child-of-shared-terms term t letLayout bindingsOf textWith letLines letLine bodyGap own ownIn breaks newLine
+    anySeveral several called calledAt letName countText bindings meetIn bind toBind find size sizeIn sumOf count
+    placesIn places reached reachIn member inTurn line lineIn childText shown form each digits digitsIn literalText
 child-of-shared = refl
 
 -- with the zero flag, count 0 prints no digits, and count 1 does
@@ -134,5 +183,7 @@ bare-zero : letLayout (term bare-zero-terms) bare 3 ≡
     40 ∷ 108 ∷ 101 ∷ 116 ∷ 32 ∷ 112 ∷ 116 ∷ 32 ∷ 40 ∷ 70 ∷ 32 ∷ 120 ∷ 32 ∷ 120 ∷ 32 ∷ 120 ∷ 41 ∷ 41 ∷
     10 ∷ 40 ∷ 108 ∷ 101 ∷ 116 ∷ 32 ∷ 112 ∷ 116 ∷ 49 ∷ 32 ∷ 40 ∷ 72 ∷ 32 ∷ 112 ∷ 116 ∷ 32 ∷ 112 ∷ 116 ∷
     41 ∷ 41 ∷ 10 ∷ 10 ∷ 40 ∷ 71 ∷ 32 ∷ 112 ∷ 116 ∷ 49 ∷ 32 ∷ 112 ∷ 116 ∷ 49 ∷ 41 ∷ []
-unfolding bare-zero-terms term bare letLayout bindingsOf textWith letLines letLine bodyGap own ownIn breaks newLine anySeveral several called calledAt letName countText bindings meetIn bind toBind find size sizeIn sumOf count placesIn places reached reachIn member inTurn line lineIn childText shown form each digits digitsIn literalText
+unfolding bare-zero-terms term bare letLayout bindingsOf textWith letLines letLine bodyGap own ownIn breaks newLine
+    anySeveral several called calledAt letName countText bindings meetIn bind toBind find size sizeIn sumOf count
+    placesIn places reached reachIn member inTurn line lineIn childText shown form each digits digitsIn literalText
 bare-zero = refl

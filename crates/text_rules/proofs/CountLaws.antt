@@ -232,13 +232,22 @@ module _ (kids : ℕ → List ℕ) where
         grows = λ x. omega (arith, w .grown .grows x, at-end x);
         closed = λ q u p j l. close q u p j l (ℕ-discrete t u);
         once = λ q u. single q u (ℕ-discrete t u);
-        low = λ x l. omega (arith, w .grown .low x (omega arith), at-end x, places-other x t [] (λ (e : t ≡ x). omega arith), places-none x);
+        low =
+            λ x l. omega (
+              arith,
+              w .grown .low x (omega arith),
+              at-end x,
+              places-other x t [] (λ (e : t ≡ x). omega arith),
+              places-none x,
+            );
         comes = λ x l. come x l (ℕ-discrete t x);
       },
       omega (arith, at-end t, places-here t t [] refl),
     )
       where
-        at-end : (x : ℕ) → places x (inTurn (reachIn kids f) (kids t) before ++ (t ∷ [])) ≡ places x (inTurn (reachIn kids f) (kids t) before) + places x (t ∷ [])
+        at-end : (x : ℕ)
+            → places x (inTurn (reachIn kids f) (kids t) before ++ (t ∷ [])) ≡ places x
+            (inTurn (reachIn kids f) (kids t) before) + places x (t ∷ [])
         at-end x = places-append x (inTurn (reachIn kids f) (kids t) before) (t ∷ [])
 
         close :
@@ -257,7 +266,8 @@ module _ (kids : ℕ → List ℕ) where
               at-end (getD (kids u) j 0),
             )
 
-        single : Once before → (u : ℕ) → Dec (t ≡ u) → places u (inTurn (reachIn kids f) (kids t) before ++ (t ∷ [])) ≤ 1
+        single : Once before → (u : ℕ) → Dec (t ≡ u)
+            → places u (inTurn (reachIn kids f) (kids t) before ++ (t ∷ [])) ≤ 1
         single q u (yes e) =
             subst (λ (v : ℕ). places v (inTurn (reachIn kids f) (kids t) before ++ (t ∷ [])) ≤ 1) e
             (omega (arith, at-end t, w .grown .low t (omega arith), places-one t t))
@@ -271,8 +281,11 @@ module _ (kids : ℕ → List ℕ) where
           where
             by : (0 < places x (kids t)) ⊎ Parent x (inTurn (reachIn kids f) (kids t) before) →
                 (x ≡ t) ⊎ Parent x (inTurn (reachIn kids f) (kids t) before ++ (t ∷ []))
-            by (inl p) = inr (record { parent = t; isIn = omega (arith, at-end t, places-here t t [] refl); names = p })
-            by (inr p) = inr (parent-grows x (inTurn (reachIn kids f) (kids t) before) (inTurn (reachIn kids f) (kids t) before ++ (t ∷ [])) (λ u. omega (arith, at-end u)) p)
+            by (inl p) =
+                inr (record { parent = t; isIn = omega (arith, at-end t, places-here t t [] refl); names = p })
+            by (inr p) =
+                inr (parent-grows x (inTurn (reachIn kids f) (kids t) before)
+                (inTurn (reachIn kids f) (kids t) before ++ (t ∷ [])) (λ u. omega (arith, at-end u)) p)
 
     reachIn-known : (f t : ℕ) (before : List ℕ) → member t before ≡ true → reachIn kids (suc f) t before ≡ before
     unfolding reachIn
@@ -340,8 +353,10 @@ module _ (kids : ℕ → List ℕ) where
   placesIn-has t u [] p = let z : ⊥ = omega (arith, places-none u) in absurd z
   placesIn-has t u (w ∷ us) p = by (placesIn-has t u us) (ℕ-discrete w u)
     where
-      by : (0 < places u us → places t (kids u) ≤ placesIn kids t us) → Dec (w ≡ u) → places t (kids u) ≤ placesIn kids t (w ∷ us)
-      by ih (yes e) = subst (λ (x : ℕ). places t (kids x) ≤ placesIn kids t (w ∷ us)) e (omega (arith, placesIn-step t w us))
+      by : (0 < places u us → places t (kids u) ≤ placesIn kids t us) → Dec (w ≡ u)
+          → places t (kids u) ≤ placesIn kids t (w ∷ us)
+      by ih (yes e) =
+          subst (λ (x : ℕ). places t (kids x) ≤ placesIn kids t (w ∷ us)) e (omega (arith, placesIn-step t w us))
       by ih (no e) = omega (arith, placesIn-step t w us, ih (omega (arith, places-other u w us e)))
 
   placesIn-parent : (t : ℕ) (us : List ℕ) → 0 < placesIn kids t us → Parent t us
@@ -351,7 +366,8 @@ module _ (kids : ℕ → List ℕ) where
       by : (0 < placesIn kids t us → Parent t us) → Dec (0 < places t (kids u)) → Parent t (u ∷ us)
       by ih (yes q) = record { parent = u; isIn = omega (arith, places-here u u us refl); names = q }
       by ih (no q) =
-          parent-grows t us (u ∷ us) (λ x. omega (arith, places-cons x u us)) (ih (omega (arith, placesIn-step t u us)))
+          parent-grows t us (u ∷ us) (λ x. omega (arith, places-cons x u us))
+          (ih (omega (arith, placesIn-step t u us)))
 
   -- the part of a count that the terms from m on give
   unfoldable pub placesFrom : ℕ → ℕ → List ℕ → ℕ
@@ -390,7 +406,8 @@ module _ (kids : ℕ → List ℕ) where
   placesFrom-skip m t [] e = placesFrom-none m t ∙ sym (placesFrom-none (suc m) t)
   placesFrom-skip m t (u ∷ us) e = by (placesFrom-skip m t us (omega (arith, places-cons m u us))) (decLt u m)
     where
-      by : placesFrom m t us ≡ placesFrom (suc m) t us → Dec (u < m) → placesFrom m t (u ∷ us) ≡ placesFrom (suc m) t (u ∷ us)
+      by : placesFrom m t us ≡ placesFrom (suc m) t us → Dec (u < m)
+          → placesFrom m t (u ∷ us) ≡ placesFrom (suc m) t (u ∷ us)
       by ih (yes l) = placesFrom-out m t u us l ∙ (ih ∙ sym (placesFrom-out (suc m) t u us (omega arith)))
       by ih (no l) =
           let d : m < u = let q : u ≡ m → ⊥ = λ (r : u ≡ m). omega (arith, places-here m u us r) in omega (arith, q) in
@@ -411,8 +428,12 @@ module _ (kids : ℕ → List ℕ) where
           let w : places t (kids u) ≡ places t (kids m) = ap (λ (x : ℕ). places t (kids x)) q in
           omega (arith, placesFrom-in m t u us (omega arith), placesFrom-out (suc m) t u us (omega arith), s, w)
       by ih (no q) (yes l) =
-          omega
-          (arith, placesFrom-out m t u us l, placesFrom-out (suc m) t u us (omega arith), ih (omega (arith, places-other m u us q)))
+          omega (
+            arith,
+            placesFrom-out m t u us l,
+            placesFrom-out (suc m) t u us (omega arith),
+            ih (omega (arith, places-other m u us q)),
+          )
       by ih (no q) (no l) =
           omega (
             arith,
@@ -437,7 +458,11 @@ module _ (kids : ℕ → List ℕ) where
 
       pub stage-first : (t : ℕ) → stage (suc root) t ≡ places t (root ∷ [])
       stage-first t =
-          omega (arith, stage-is (suc root) t, placesFrom-high (suc root) t (reached kids root) (reached-low n lower root k))
+          omega (
+            arith,
+            stage-is (suc root) t,
+            placesFrom-high (suc root) t (reached kids root) (reached-low n lower root k),
+          )
 
       count-is : (t : ℕ) → count kids root t ≡ placesIn kids t (reached kids root) + places t (root ∷ [])
       unfolding count
@@ -450,10 +475,12 @@ module _ (kids : ℕ → List ℕ) where
       own : (u : ℕ) (us : List ℕ) → ((v : ℕ) → 0 < places v us → v < n) → placesFrom (suc u) u us ≡ placesIn kids u us
       own u [] low = placesFrom-none (suc u) u ∙ sym (placesIn-none u)
       own u (v ∷ us) low =
-          by (own u us (λ w p. low w (omega (arith, places-cons w v us)))) (low v (omega (arith, places-here v v us refl)))
+          by (own u us (λ w p. low w (omega (arith, places-cons w v us))))
+          (low v (omega (arith, places-here v v us refl)))
           (decLt u v)
         where
-          by : placesFrom (suc u) u us ≡ placesIn kids u us → v < n → Dec (u < v) → placesFrom (suc u) u (v ∷ us) ≡ placesIn kids u (v ∷ us)
+          by : placesFrom (suc u) u us ≡ placesIn kids u us → v < n → Dec (u < v)
+              → placesFrom (suc u) u (v ∷ us) ≡ placesIn kids u (v ∷ us)
           by ih q (yes l) = omega (arith, placesFrom-in (suc u) u v us l, placesIn-step u v us, ih)
           by ih q (no l) =
               omega (

@@ -122,14 +122,16 @@ module _
     lineIn-enough (suc f) zero t k p q = let z : ⊥ = omega arith in absurd z
     lineIn-enough (suc f) (suc g) t k p q =
         lineIn-step node called f t
-        ∙ (form-same (32 ∷ []) (childText called (lineIn node called f)) (childText called (lineIn node called g)) (node t)
+        ∙ (form-same (32 ∷ []) (childText called (lineIn node called f))
+        (childText called (lineIn node called g)) (node t)
         (λ j l.
         let h : getD (children (node t)) j 0 < t = lower t k j l in
         childText-same called (lineIn node called f) (lineIn node called g) (getD (children (node t)) j 0)
         (lineIn-enough f g (getD (children (node t)) j 0) (omega arith) (omega arith) (omega arith)))
         ∙ sym (lineIn-step node called g t))
 
-    pub line-step : (t : ℕ) → t < n → line node called t ≡ form (32 ∷ []) (childText called (line node called)) (node t)
+    pub line-step : (t : ℕ) → t < n
+        → line node called t ≡ form (32 ∷ []) (childText called (line node called)) (node t)
     unfolding line
     line-step t k =
         lineIn-step node called t t

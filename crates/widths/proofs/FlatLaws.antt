@@ -61,7 +61,8 @@ module _
         (childText (λ (k : ℕ). byText) (lineIn (v .node) (λ (k : ℕ). byText) f)) (v .node t)
         (λ j lj.
         let h : getD (children (v .node t)) j 0 < t = lower t k j lj in
-        let u : v .place (getD (children (v .node t)) j 0) ≤ 0 = omega (arith, unnamed (getD (children (v .node t)) j 0)) in
+        let u : v .place (getD (children (v .node t)) j 0) ≤ 0 =
+        omega (arith, unnamed (getD (children (v .node t)) j 0)) in
         shownAbove-text v 0 (getD (children (v .node t)) j 0)
         (bodyIn v f m (i + 2) (getD (children (v .node t)) j 0)) u
         ∙ (bodyIn-flat f m (i + 2) (getD (children (v .node t)) j 0) (omega arith) (omega arith) (omega arith)

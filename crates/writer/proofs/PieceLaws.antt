@@ -1,5 +1,5 @@
--- The laws of the text that is written: it does not depend on the bound of its depth, and what it is in each case of the
--- code. Assumes nothing.
+-- The laws of the text that is written: it does not depend on the bound of its depth, and what it is in each case of
+-- the code. Assumes nothing.
 use mathlib.Core.Path.{_≡_, refl, sym, ap, _∙_}
 use mathlib.Core.List.{List, [], _∷_, _++_}
 use Prim.{Dec, yes, no}
@@ -102,11 +102,16 @@ module _ (rs : List ℕ) (ls : List ℤ) (ns : List ℕ) (n : ℕ) (r : Readable
       ∙ sym (ap (λ (x : Node). headText x ++ (each gap g (kidsAt rs t) ++ (41 ∷ []))) a))
 
   -- the head is part of the form
-  pub head-in-form : (gap : List ℕ) (g : ℕ → List ℕ) → length (headText (nodes rs ls ns t)) ≤ length (form gap g (nodes rs ls ns t))
+  pub head-in-form : (gap : List ℕ) (g : ℕ → List ℕ)
+      → length (headText (nodes rs ls ns t)) ≤ length (form gap g (nodes rs ls ns t))
   head-in-form gap g = by (ℕ-discrete (kindAt rs t) 2)
     where
       by : Dec (kindAt rs t ≡ 2) → length (headText (nodes rs ls ns t)) ≤ length (form gap g (nodes rs ls ns t))
       by (yes e) =
           let h = form-of-applied gap g e in
-          omega (arith, ap length h, length-append (headText (nodes rs ls ns t)) (each gap g (kidsAt rs t) ++ (41 ∷ [])))
+          omega (
+            arith,
+            ap length h,
+            length-append (headText (nodes rs ls ns t)) (each gap g (kidsAt rs t) ++ (41 ∷ [])),
+          )
       by (no e) = omega (arith, ap length (form-of-leaf gap g e))

@@ -7,7 +7,18 @@ use lib.ListN.{length, take, drop, getD, set, length-append}
 use lib.Seq.{take-all}
 use borrow.Rule.Slice.PartMut.{putMid}
 use Rattle.decimal.specs.Written.{Wrote}
-use Rattle.decimal.proofs.WrittenLaws.{Stands, laid, laid-laid, stands-of-wrote, wrote-of-stands, stands-again, stands-then, stands-byte, stands-length, stands-fits}
+use Rattle.decimal.proofs.WrittenLaws.{
+  Stands,
+  laid,
+  laid-laid,
+  stands-of-wrote,
+  wrote-of-stands,
+  stands-again,
+  stands-then,
+  stands-byte,
+  stands-length,
+  stands-fits,
+}
 use Rattle.text_rules.specs.Forms.{each}
 use Rattle.text_rules.proofs.FormLaws.{each-none, each-more, each-room, each-part}
 

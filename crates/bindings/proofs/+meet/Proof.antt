@@ -136,7 +136,8 @@ meet-mul-if1 :
     meet.Post
     meet-Inv-loop
     meet-μ-loop
-meet-mul-if1 t c = let s = c .before .before .before .before .before in omega (arith, s .pre .1 .linked .few, s .pre .1 .known)
+meet-mul-if1 t c =
+    let s = c .before .before .before .before .before in omega (arith, s .pre .1 .linked .few, s .pre .1 .known)
 
 meet-slice-read-if1 :
     (t : ℕ) →
@@ -146,7 +147,8 @@ meet-slice-read-if1 :
     meet.Post
     meet-Inv-loop
     meet-μ-loop
-meet-slice-read-if1 t c = let s = c .before .before .before .before .before .before in omega (arith, s .pre .1 .inPlaces, s .pre .1 .known)
+meet-slice-read-if1 t c =
+    let s = c .before .before .before .before .before .before in omega (arith, s .pre .1 .inPlaces, s .pre .1 .known)
 
 meet-returns :
     (t : ℕ) →
@@ -156,27 +158,37 @@ meet-returns :
     meet.Post
     meet-Inv-loop
     meet-μ-loop
-meet-returns t c = let s = c .before .before .before .before .before .before .before in record { met = s .pre .1 .met; same = is-old t s (c .if1 .taken) }
+meet-returns t c =
+    let s = c .before .before .before .before .before .before .before in
+    record { met = s .pre .1 .met; same = is-old t s (c .if1 .taken) }
 
 meet-mul-a :
     (t : ℕ) →
     meet-lts.Need-mul-a (meet-below t, meet.Post) (meet-at t) meet.Post meet-Inv-loop meet-μ-loop
-meet-mul-a t c = let s = c .before .before .before .before .before .before .before in omega (arith, s .pre .1 .linked .few, s .pre .1 .known)
+meet-mul-a t c =
+    let s = c .before .before .before .before .before .before .before in
+    omega (arith, s .pre .1 .linked .few, s .pre .1 .known)
 
 meet-add-a :
     (t : ℕ) →
     meet-lts.Need-add-a (meet-below t, meet.Post) (meet-at t) meet.Post meet-Inv-loop meet-μ-loop
-meet-add-a t c = let s = c .before .before .before .before .before .before .before in omega (arith, s .pre .1 .linked .few, s .pre .1 .known)
+meet-add-a t c =
+    let s = c .before .before .before .before .before .before .before in
+    omega (arith, s .pre .1 .linked .few, s .pre .1 .known)
 
 meet-mul-e :
     (t : ℕ) →
     meet-lts.Need-mul-e (meet-below t, meet.Post) (meet-at t) meet.Post meet-Inv-loop meet-μ-loop
-meet-mul-e t c = let s = c .before .before .before .before .before .before .before in omega (arith, s .pre .1 .linked .few, s .pre .1 .known)
+meet-mul-e t c =
+    let s = c .before .before .before .before .before .before .before in
+    omega (arith, s .pre .1 .linked .few, s .pre .1 .known)
 
 meet-add-e :
     (t : ℕ) →
     meet-lts.Need-add-e (meet-below t, meet.Post) (meet-at t) meet.Post meet-Inv-loop meet-μ-loop
-meet-add-e t c = let s = c .before .before .before .before .before .before .before in omega (arith, s .pre .1 .linked .few, s .pre .1 .known)
+meet-add-e t c =
+    let s = c .before .before .before .before .before .before .before in
+    omega (arith, s .pre .1 .linked .few, s .pre .1 .known)
 
 meet-mul-e-2 :
     (t : ℕ) →
@@ -186,7 +198,9 @@ meet-mul-e-2 :
     meet.Post
     meet-Inv-loop
     meet-μ-loop
-meet-mul-e-2 t c = let s = c .before .before .before .before .before .before .before in omega (arith, s .pre .1 .linked .few, s .pre .1 .known)
+meet-mul-e-2 t c =
+    let s = c .before .before .before .before .before .before .before in
+    omega (arith, s .pre .1 .linked .few, s .pre .1 .known)
 
 meet-shared-slice-read-e :
     (t : ℕ) →
@@ -196,7 +210,9 @@ meet-shared-slice-read-e :
     meet.Post
     meet-Inv-loop
     meet-μ-loop
-meet-shared-slice-read-e t c = let s = c .before .before .before .before .before .before .before .before in omega (arith, s .pre .1 .linked .inRecords, s .pre .1 .known)
+meet-shared-slice-read-e t c =
+    let s = c .before .before .before .before .before .before .before .before in
+    omega (arith, s .pre .1 .linked .inRecords, s .pre .1 .known)
 
 meet-add-e-2 :
     (t : ℕ) →
@@ -213,7 +229,9 @@ meet-add-e-2 t c =
 meet-mul-ks :
     (t : ℕ) →
     meet-lts.Need-mul-ks (meet-below t, meet.Post) (meet-at t) meet.Post meet-Inv-loop meet-μ-loop
-meet-mul-ks t c = let s = c .before .before .before .before .before .before .before .before in omega (arith, s .pre .1 .linked .few, s .pre .1 .known)
+meet-mul-ks t c =
+    let s = c .before .before .before .before .before .before .before .before in
+    omega (arith, s .pre .1 .linked .few, s .pre .1 .known)
 
 meet-sub-ks :
     (t : ℕ) →
@@ -271,7 +289,10 @@ meet-add-meet :
     meet.Post
     meet-Inv-loop
     meet-μ-loop
-meet-add-meet t c = let s = c .before .before .before .before .before .before .before .before .before .before .before .before .before .before in omega (arith, s .pre .1 .deep)
+meet-add-meet t c =
+    let s =
+    c .before .before .before .before .before .before .before .before .before .before .before .before .before
+    .before in omega (arith, s .pre .1 .deep)
 
 meet-mul-meet :
     (t : ℕ) →
@@ -281,7 +302,14 @@ meet-mul-meet :
     meet.Post
     meet-Inv-loop
     meet-μ-loop
-meet-mul-meet t c = omega (arith, few t (c .before .before .before .before .before .before .before .before .before .before .before .before .before .before), c .before .before .before .loop-test .taken)
+meet-mul-meet t c =
+    omega (
+      arith,
+      few t
+          (c .before .before .before .before .before .before .before .before .before .before .before .before .before
+          .before),
+      c .before .before .before .loop-test .taken,
+    )
 
 meet-shared-slice-read-meet : (t : ℕ) → meet-lts.Need-shared-slice-read-meet (
   meet-below t,
@@ -298,9 +326,13 @@ meet-meet-requires :
     meet-Inv-loop
     meet-μ-loop
 meet-meet-requires t c κs =
-    let s = c .before .before .before .before .before .before .before .before .before .before .before .before .before .before .before in
+    let s =
+    c .before .before .before .before .before .before .before .before .before .before .before .before
+    .before .before .before in
     let l = c .before .before .before .before .before .loop in
-    let k = s .pre .1 .linked .lower (s .args .t) (s .pre .1 .known) (l .j) (c .before .before .before .before .loop-test .taken) in (
+    let k =
+    s .pre .1 .linked .lower (s .args .t) (s .pre .1 .known) (l .j)
+    (c .before .before .before .before .loop-test .taken) in (
       omega (arith, k, s .pre .0),
       record {
         linked = s .pre .1 .linked;
@@ -315,7 +347,15 @@ meet-meet-requires t c κs =
 meet-add-j :
     (t : ℕ) →
     meet-lts.Need-add-j (meet-below t, meet.Post) (meet-at t) meet.Post meet-Inv-loop meet-μ-loop
-meet-add-j t c = omega (arith, few t (c .before .before .before .before .before .before .before .before .before .before .before .before .before .before .before .before .before .before .before .before .before .before), c .before .before .before .before .before .before .before .before .before .before .before .loop-test .taken)
+meet-add-j t c =
+    omega (
+      arith,
+      few t
+          (c .before .before .before .before .before .before .before .before .before .before .before
+          .before .before .before
+          .before .before .before .before .before .before .before .before),
+      c .before .before .before .before .before .before .before .before .before .before .before .loop-test .taken,
+    )
 
 meet-loop-less :
     (t : ℕ) →
@@ -336,14 +376,21 @@ meet-loop-again :
     meet-Inv-loop
     meet-μ-loop
 meet-loop-again t c =
-    let s = c .before .before .before .before .before .before .before .before .before .before .before .before .before .before .before .before .before .before .before .before .before .before in
+    let s =
+    c .before .before .before .before .before .before .before .before .before .before .before .before .before
+    .before .before .before .before .before .before .before .before .before in
     let l = c .before .before .before .before .before .before .before .before .before .before .before .before .loop in
-    let k = s .pre .1 .linked .lower (s .args .t) (s .pre .1 .known) (l .j) (c .before .before .before .before .before .before .before .before .before .before .before .loop-test .taken) in
+    let k =
+    s .pre .1 .linked .lower (s .args .t) (s .pre .1 .known) (l .j)
+    (c .before .before .before .before .before .before .before .before .before .before .before
+    .loop-test .taken) in
     let q = c .before .before .before .before .before .before .meet in
     turning-again (kidsAt (s .args .records .now)) (wantedAt (s .args .wanted .now)) (s .args .n)
     (s .pre .1 .linked .lower) (s .args .i) (s .args .t) (kids t s) (s .args .places .now) (s .args .terms .now)
     (s .args .indents .now) (s .args .m) (l .places) (l .terms) (l .indents) (l .b) (l .j) (l .inv) (q .last .1 .1 .0)
-    (q .last .1 .1 .1 .0) (q .last .1 .1 .1 .1 .0) (q .result) (c .before .before .before .before .before .before .before .before .before .before .before .loop-test .taken) k (s .pre .1 .known)
+    (q .last .1 .1 .1 .0) (q .last .1 .1 .1 .1 .0) (q .result)
+    (c .before .before .before .before .before .before .before .before .before .before .before .loop-test .taken) k
+    (s .pre .1 .known)
     (q .kept .1 .1 .0) (q .kept .1 .1 .1 .0) (q .kept .1 .1 .1 .1 .0) (q .ensures .met) (q .ensures .same)
 
 meet-mul-if2 :
@@ -354,13 +401,17 @@ meet-mul-if2 :
     meet.Post
     meet-Inv-loop
     meet-μ-loop
-meet-mul-if2 t c = let s = c .before .before .before .before .before .before .before .before .before .before .before in omega (arith, s .pre .1 .linked .few, s .pre .1 .known)
+meet-mul-if2 t c =
+    let s = c .before .before .before .before .before .before .before .before .before .before .before in
+    omega (arith, s .pre .1 .linked .few, s .pre .1 .known)
 
 meet-shared-slice-read-if2 : (t : ℕ) → meet-lts.Need-shared-slice-read-if2 (
   meet-below t,
   meet.Post,
 ) (meet-at t) meet.Post meet-Inv-loop meet-μ-loop
-meet-shared-slice-read-if2 t c = let s = c .before .before .before .before .before .before .before .before .before .before .before .before in omega (arith, s .pre .1 .inWanted, s .pre .1 .known)
+meet-shared-slice-read-if2 t c =
+    let s = c .before .before .before .before .before .before .before .before .before .before .before .before in
+    omega (arith, s .pre .1 .inWanted, s .pre .1 .known)
 
 meet-same-length :
     (t : ℕ) →
@@ -401,7 +452,8 @@ meet-returns-2 :
     meet-Inv-loop
     meet-μ-loop
 meet-returns-2 t c =
-    let s = c .before .before .before .before .before .before .before .before .before .before .before .before .before in
+    let s =
+    c .before .before .before .before .before .before .before .before .before .before .before .before .before in
     let l = c .before .before .before .loop in
     record {
       met = l .inv .met;
@@ -419,7 +471,8 @@ meet-add-places :
     meet-Inv-loop
     meet-μ-loop
 meet-add-places t c =
-    let s = c .before .before .before .before .before .before .before .before .before .before .before .before .before in
+    let s =
+    c .before .before .before .before .before .before .before .before .before .before .before .before .before in
     let l = c .before .before .before .loop in
     omega (arith, room t s (l .places) (l .terms) (l .indents) (l .b) (l .j) (l .inv), l .inv .termsLong, s .good)
 
@@ -431,7 +484,10 @@ meet-mul-places :
     meet.Post
     meet-Inv-loop
     meet-μ-loop
-meet-mul-places t c = let s = c .before .before .before .before .before .before .before .before .before .before .before .before .before in omega (arith, s .pre .1 .linked .few, s .pre .1 .known)
+meet-mul-places t c =
+    let s =
+    c .before .before .before .before .before .before .before .before .before .before .before .before .before in
+    omega (arith, s .pre .1 .linked .few, s .pre .1 .known)
 
 meet-slice-write-places :
     (t : ℕ) →
@@ -442,7 +498,8 @@ meet-slice-write-places :
     meet-Inv-loop
     meet-μ-loop
 meet-slice-write-places t c =
-    let s = c .before .before .before .before .before .before .before .before .before .before .before .before .before in
+    let s =
+    c .before .before .before .before .before .before .before .before .before .before .before .before .before in
     omega (arith, s .pre .1 .inPlaces, s .pre .1 .known, c .before .before .before .loop .inv .placesLong)
 
 meet-mul-terms :
@@ -454,7 +511,8 @@ meet-mul-terms :
     meet-Inv-loop
     meet-μ-loop
 meet-mul-terms t c =
-    let s = c .before .before .before .before .before .before .before .before .before .before .before .before .before in
+    let s =
+    c .before .before .before .before .before .before .before .before .before .before .before .before .before in
     let l = c .before .before .before .loop in
     omega (arith, room t s (l .places) (l .terms) (l .indents) (l .b) (l .j) (l .inv), l .inv .termsLong, s .good)
 
@@ -467,7 +525,8 @@ meet-slice-write-terms :
     meet-Inv-loop
     meet-μ-loop
 meet-slice-write-terms t c =
-    let s = c .before .before .before .before .before .before .before .before .before .before .before .before .before in
+    let s =
+    c .before .before .before .before .before .before .before .before .before .before .before .before .before in
     let l = c .before .before .before .loop in
     room t s (l .places) (l .terms) (l .indents) (l .b) (l .j) (l .inv)
 
@@ -490,7 +549,8 @@ meet-slice-write-indents :
     meet-Inv-loop
     meet-μ-loop
 meet-slice-write-indents t c =
-    let s = c .before .before .before .before .before .before .before .before .before .before .before .before .before in
+    let s =
+    c .before .before .before .before .before .before .before .before .before .before .before .before .before in
     let l = c .before .before .before .loop in
     omega (arith, room t s (l .places) (l .terms) (l .indents) (l .b) (l .j) (l .inv), l .inv .met .long)
 
@@ -513,7 +573,8 @@ meet-same-length-4 :
     meet-Inv-loop
     meet-μ-loop
 meet-same-length-4 t c =
-    let s = c .before .before .before .before .before .before .before .before .before .before .before .before .before in
+    let s =
+    c .before .before .before .before .before .before .before .before .before .before .before .before .before in
     let l = c .before .before .before .loop in
     length-set (l .places) (s .args .t) (l .b + 1) ∙ l .inv .placesLong
 
@@ -526,7 +587,8 @@ meet-same-length-5 :
     meet-Inv-loop
     meet-μ-loop
 meet-same-length-5 t c =
-    let s = c .before .before .before .before .before .before .before .before .before .before .before .before .before in
+    let s =
+    c .before .before .before .before .before .before .before .before .before .before .before .before .before in
     let l = c .before .before .before .loop in
     length-set (l .terms) (l .b) (s .args .t) ∙ l .inv .termsLong
 
@@ -539,7 +601,8 @@ meet-same-length-6 :
     meet-Inv-loop
     meet-μ-loop
 meet-same-length-6 t c =
-    let s = c .before .before .before .before .before .before .before .before .before .before .before .before .before in
+    let s =
+    c .before .before .before .before .before .before .before .before .before .before .before .before .before in
     let l = c .before .before .before .loop in
     length-set (l .indents) (l .b) (s .args .i) ∙ l .inv .indentsLong
 
@@ -552,13 +615,17 @@ meet-returns-3 :
     meet-Inv-loop
     meet-μ-loop
 meet-returns-3 t c =
-    let s = c .before .before .before .before .before .before .before .before .before .before .before .before .before in
+    let s =
+    c .before .before .before .before .before .before .before .before .before .before .before .before .before in
     let l = c .before .before .before .loop in
-    let k : s .args .t < length (l .places) = omega (arith, s .pre .1 .known, s .pre .1 .inPlaces, l .inv .placesLong) in
+    let k : s .args .t < length (l .places) =
+    omega (arith, s .pre .1 .known, s .pre .1 .inPlaces, l .inv .placesLong) in
     record {
-      met = met-more (l .places) (l .terms) (l .indents) (l .b) (s .args .t) (s .args .i) (l .inv .met) k (l .inv .out);
+      met =
+          met-more (l .places) (l .terms) (l .indents) (l .b) (s .args .t) (s .args .i) (l .inv .met) k (l .inv .out);
       same =
-          bounds-more (l .places) (l .terms) (l .indents) (l .b) (s .args .t) (s .args .i) (l .inv .met) k (l .inv .out)
+          bounds-more (l .places) (l .terms) (l .indents) (l .b) (s .args .t) (s .args .i)
+          (l .inv .met) k (l .inv .out)
           ∙ (ap (λ (x : List Bound). x ++ one (s .args .t) (s .args .i))
           (turned t s (l .places) (l .terms) (l .indents) (l .b) (l .j) (l .inv) (c .before .before .loop-test .left))
           ∙ sym (is-wanted t s (c .before .before .before .before .before .before .if1 .left) (c .if2 .left)));

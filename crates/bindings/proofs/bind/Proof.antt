@@ -24,11 +24,20 @@ sub-meet c = search needs
 
 meet-requires : tie.Need-meet-requires
 meet-requires c κs =
-    let s = c .before .before .before .before .before .before .before .before .before .before .before .before .before .before .before .before .before .before .before .before .before .before .before in
+    let s =
+    c .before .before .before .before .before .before .before .before .before .before .before .before .before
+    .before .before .before .before .before .before .before .before .before .before in
     let b = s .pre .1 .1 in
     record {
       linked = s .pre .0;
-      inWanted = omega (arith, b .inCounts, c .before .before .before .before .before .before .before .before .before .before .before .before .before .before .before .count .kept .0, c .before .before .before .before .before .before .mark .kept .0);
+      inWanted =
+          omega (
+            arith,
+            b .inCounts,
+            c .before .before .before .before .before .before .before .before .before .before .before .before .before
+                .before .before .count .kept .0,
+            c .before .before .before .before .before .before .mark .kept .0,
+          );
       inPlaces = b .inPlaces;
       known = omega (arith, s .pre .1 .0);
       deep = omega (arith, s .pre .0 .few);
@@ -54,21 +63,40 @@ same-length-5 c = search needs
 
 returns : tie.Need-returns
 returns c =
-    let s = c .before .before .before .before .before .before .before .before .before .before .before .before .before .before .before .before .before .before .before .before .before .before .before .before .before .before .before .before .before .before in
+    let s =
+    c .before .before .before .before .before .before .before .before .before .before .before .before .before
+    .before .before .before .before .before .before .before .before .before .before .before .before .before .before
+    .before .before .before in
     let k : s .args .n - 1 < s .args .n = omega (arith, s .pre .1 .0) in
     let w =
-    wanted-of-marked (s .args .records .now) (c .before .before .before .before .before .before .before .before .before .before .before .before .before .before .before .before .before .before .before .before .before .before .count .last .0) (c .before .before .before .before .before .before .before .before .before .before .before .before .before .before .before .before .before .before .size .last .0) (c .before .before .before .before .before .before .before .before .before .before .before .before .before .mark .last .0) (s .args .n)
-    (c .before .before .before .before .before .before .before .before .before .before .before .before .before .before .before .before .before .before .before .before .before .before .count .ensures) (c .before .before .before .before .before .before .before .before .before .before .before .before .before .before .before .before .before .before .size .ensures) (c .before .before .before .before .before .before .before .before .before .before .before .before .before .mark .ensures) in
+    wanted-of-marked (s .args .records .now)
+    (c .before .before .before .before .before .before .before .before .before .before .before .before .before
+    .before .before .before .before .before .before .before .before .before .count .last .0)
+    (c .before .before .before .before .before .before .before .before .before .before .before .before .before
+    .before .before .before .before .before .size .last .0)
+    (c .before .before .before .before .before .before .before .before .before .before .before .before .before
+    .mark .last .0) (s .args .n)
+    (c .before .before .before .before .before .before .before .before .before .before .before .before .before .before
+    .before .before .before .before .before .before .before .before .count .ensures)
+    (c .before .before .before .before .before .before .before .before .before .before .before .before .before
+    .before .before .before .before .before .size .ensures)
+    (c .before .before .before .before .before .before .before .before .before .before .before .before
+    .before .mark .ensures) in
     let q = c .before .before .before .before .before .before .meet in
     record {
       met = q .ensures .met;
       same =
           q .ensures .same
           ∙ (ap
-          (metAt (kidsAt (s .args .records .now)) (wantedAt (c .before .before .before .before .before .before .before .before .before .before .before .before .before .mark .last .0)) 0 (s .args .n - 1))
+          (metAt (kidsAt (s .args .records .now))
+          (wantedAt
+          (c .before .before .before .before .before .before .before .before .before .before .before .before
+          .before .mark .last .0)) 0 (s .args .n - 1))
           (bounds-none (s .args .terms .now) (s .args .indents .now))
           ∙ bindings-of-met (kidsAt (s .args .records .now)) (s .args .n) (s .pre .0 .lower) (s .args .n - 1) k
-          (wantedAt (c .before .before .before .before .before .before .before .before .before .before .before .before .before .mark .last .0)) w);
+          (wantedAt
+          (c .before .before .before .before .before .before .before .before .before .before .before .before
+          .before .mark .last .0)) w);
     }
 
 pub bind-spec : {M : Type 1} → statement M

@@ -59,7 +59,8 @@ loop-again c =
         (
           marked-more (s .args .counts .now) (s .args .sizes .now) (l .counts) (l .t) (c .flag .result)
               (omega (arith, s .pre .1 .0, l .inv .1 .0, c .before .before .before .loop-test .taken))
-              (c .flag .ensures ∙ ap (λ (x : ℕ). flagOf x (getD (s .args .sizes .now) (l .t) 0)) (l .inv .1 .1 .1 (l .t) (omega arith)))
+              (c .flag .ensures ∙ ap (λ (x : ℕ). flagOf x (getD (s .args .sizes .now) (l .t) 0))
+              (l .inv .1 .1 .1 (l .t) (omega arith)))
               (l .inv .1 .1 .0),
           λ x lx.
               getD-set-other (l .counts) (l .t) x (c .flag .result) 0 (λ (q : x ≡ l .t). omega arith)

@@ -1,5 +1,6 @@
--- `build::build` meets its contract. It calls itself on each child class, whose rank is lower: the rank is the measure. The
--- loop's invariant is `Turn`: the children before j are built as the definition builds them. Assumes nothing.
+-- `build::build` meets its contract. It calls itself on each child class, whose rank is lower: the rank is the
+-- measure. The loop's invariant is `Turn`: the children before j are built as the definition builds them. Assumes
+-- nothing.
 use borrow.Author.Needs.{needs}
 use native.Mathlib.Omega.{arith}
 use Prim.Native.Nat.{ℕ, _-_, _<_}
@@ -73,7 +74,8 @@ build-child :
     (childOf (a .values .now) (placeOf (a .plan .now) (a .c) (l .j))) (c .if2 .r) (c .if2 .memo) (c .if2 .records)
     (c .if2 .literals) (c .if2 .names)
 build-child t c =
-    let s = c .before .before .before .before .before .before .before .before .before .before .before .before .before in
+    let s =
+    c .before .before .before .before .before .before .before .before .before .before .before .before .before in
     let a = s .args in
     let ready = s .pre .1 in
     let p = ready .planned _ (ready .ranked) in

@@ -44,7 +44,8 @@ loop-again c =
     let a = c .before .before .before .before .args in
     let l = c .before .before .loop in
     rw (toZ-ofZ w64 (getD (a .from .now) (l .i) (pos 0)) (record { sfits = c .to .given }))
-    (copying-goes-on (a .to .now) (a .from .now) (c .before .before .before .shorter .result) (l .i) (pos 0) (l .to) (c .before .loop-test .taken)
+    (copying-goes-on (a .to .now) (a .from .now) (c .before .before .before .shorter .result) (l .i) (pos 0) (l .to)
+    (c .before .loop-test .taken)
     (l .inv))
 
 same-length : tie.Need-same-length Inv-loop μ-loop
@@ -54,7 +55,8 @@ returns : tie.Need-returns Inv-loop μ-loop
 returns c =
     let a = c .before .before .before .args in
     let l = c .before .loop in
-    copying-ends (a .to .now) (a .from .now) (c .before .before .shorter .result) (l .i) (l .to) (c .loop-test .left) (l .inv)
+    copying-ends (a .to .now) (a .from .now) (c .before .before .shorter .result) (l .i) (l .to)
+    (c .loop-test .left) (l .inv)
 
 pub literals-spec : {M : Type 1} → statement M
 literals-spec =

@@ -39,7 +39,8 @@ loop-again : tie.Need-loop-again Inv-loop μ-loop
 loop-again c =
     let a = c .before .before .before .before .before .before .args in
     let l = c .before .before .loop in
-    copying-goes-on (a .to .now) (a .from .now) (c .before .before .before .shorter .result) (l .i) 0 (l .to) (c .before .loop-test .taken) (l .inv)
+    copying-goes-on (a .to .now) (a .from .now) (c .before .before .before .shorter .result) (l .i) 0 (l .to)
+    (c .before .loop-test .taken) (l .inv)
 
 same-length : tie.Need-same-length Inv-loop μ-loop
 same-length c = search needs
@@ -48,7 +49,8 @@ returns : tie.Need-returns Inv-loop μ-loop
 returns c =
     let a = c .before .before .before .before .before .args in
     let l = c .before .loop in
-    copying-ends (a .to .now) (a .from .now) (c .before .before .shorter .result) (l .i) (l .to) (c .loop-test .left) (l .inv)
+    copying-ends (a .to .now) (a .from .now) (c .before .before .shorter .result) (l .i) (l .to)
+    (c .loop-test .left) (l .inv)
 
 pub numbers-spec : {M : Type 1} → statement M
 numbers-spec =

@@ -38,7 +38,12 @@ digits-length-add-result : (t : ℕ) → digits-length-lts.Need-add-result (
   digits-length.Post,
 ) (digits-length-at t) digits-length.Post
 digits-length-add-result t c =
-    omega (arith, c .digits-length .ensures, digits-length-low (c .before .before .args .x / 10), c .before .before .good)
+    omega (
+      arith,
+      c .digits-length .ensures,
+      digits-length-low (c .before .before .args .x / 10),
+      c .before .before .good,
+    )
 
 digits-length-returns : (t : ℕ) → digits-length-lts.Need-returns (
   digits-length-below t,

@@ -88,8 +88,13 @@ put-digits-add-result : (t : ℕ) → put-digits-lts.Need-add-result (
 ) (put-digits-at t) put-digits.Post
 put-digits-add-result t c =
     let s = c .before .before .before .before .before .before in
-    omega
-    (arith, s .pre .1, s .good, digits-length-more (s .args .x) (c .before .before .before .before .if1 .left), c .before .before .put-digits .ensures .long)
+    omega (
+      arith,
+      s .pre .1,
+      s .good,
+      digits-length-more (s .args .x) (c .before .before .before .before .if1 .left),
+      c .before .before .put-digits .ensures .long,
+    )
 
 put-digits-same-length : (t : ℕ) → put-digits-lts.Need-same-length (
   put-digits-below t,
@@ -129,7 +134,8 @@ put-digits-returns-2 t c =
     rw (digits-more (a .x) ten)
     (wrote-of-stands (a .out .now) _ _ _
     (stands-byte (a .out .now) (digits (a .x / 10)) _ _
-    (stands-of-wrote (a .out .now) (digits (a .x / 10)) _ _ (c .before .before .put-digits .ensures)) (a .x % 10 + 48) room))
+    (stands-of-wrote (a .out .now) (digits (a .x / 10)) _ _ (c .before .before .put-digits .ensures))
+    (a .x % 10 + 48) room))
 
 pub +put-digits-spec : {M : Type 1} → statement M
 +put-digits-spec = close μ-put-digits λ t. put-digits-lts.spec (

@@ -5,7 +5,13 @@ use lib.IntN.{natAbs}
 use mir.Syntax.{w64}
 use mir.Facts.{toZ-ofZ, fits-natAbs}
 use Rattle.decimal.proofs.DigitLaws.{digits-length-low}
-use Rattle.decimal.proofs.SignLaws.{negative-of, nonneg-of, natAbs-of-negative, literalText-of-negative, literalText-of-nonneg}
+use Rattle.decimal.proofs.SignLaws.{
+  negative-of,
+  nonneg-of,
+  natAbs-of-negative,
+  literalText-of-negative,
+  literalText-of-nonneg,
+}
 use native.Mathlib.Omega.{arith}
 use borrow.Author.Needs.{needs}
 use Rattle.decimal.proofs.literal_length.Statement.{statement}

@@ -82,7 +82,8 @@ put-digits-requires-2 c κs =
 same-length : tie.Need-same-length
 same-length c =
     let o = c .before .before .before .before .before .before .before .args .out .now in
-    same-len-mid 1 (length (set o 0 45) - 1) (set o 0 45) (c .before .before .put-digits .last .0) (c .before .before .put-digits .kept .0)
+    same-len-mid 1 (length (set o 0 45) - 1) (set o 0 45) (c .before .before .put-digits .last .0)
+    (c .before .before .put-digits .kept .0)
     ∙ length-set o 0 45
 
 returns : tie.Need-returns
@@ -95,7 +96,8 @@ returns c =
     let m : c .before .before .before .magnitude .result ≡ natAbs (s .args .z) =
     rw (toZ-ofZ (s .fits .z)) at (c .before .before .before .magnitude .ensures) in
     let t = stands-then o (45 ∷ []) _ 1 (stands-first o 45 (omega (arith, s .pre, ap length e))) d
-    (c .before .before .put-digits .last .0) (c .before .before .put-digits .result) (rw m at (c .before .before .put-digits .ensures)) in
+    (c .before .before .put-digits .last .0) (c .before .before .put-digits .result)
+    (rw m at (c .before .before .put-digits .ensures)) in
     rw (e, add-comm (c .before .before .put-digits .result) 1) (wrote-of-stands o (45 ∷ d) _ _ t)
 
 same-length-2 : tie.Need-same-length-2
@@ -104,7 +106,8 @@ same-length-2 c = search needs
 returns-2 : tie.Need-returns-2
 returns-2 c =
     let s = c .before .before .before .before .before .before in
-    rw (literalText-of-nonneg (s .args .z) (nonneg-of (s .args .z) (s .fits .z) (c .before .before .before .before .if1 .left)))
+    rw (literalText-of-nonneg (s .args .z)
+    (nonneg-of (s .args .z) (s .fits .z) (c .before .before .before .before .if1 .left)))
     (rw (toZ-ofZ (s .fits .z)) at (c .before .before .put-digits2 .ensures))
 
 pub put-literal-spec : {M : Type 1} → statement M

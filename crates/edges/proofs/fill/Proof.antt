@@ -119,7 +119,8 @@ loop-again c =
       l .inv .0,
       flat-walk-goes-on (a .costs .now) (a .ranks .now) (a .outputs .now) (a .heads .now) (a .starts .now)
           (a .children .now) (l .edges) (l .i) (l .inv .1) (length (a .outputs .now)) refl (omega arith)
-          (t .before .before .before .before .before .before .before .before .before .before .before .before .pre .1 .1)
+          (t .before .before .before .before .before .before .before .before .before .before
+          .before .before .pre .1 .1)
           (r .last .0) (r .ensures),
     )
 
@@ -139,7 +140,8 @@ returns c =
     let t = c .before in
     let a = t .before .before .before .before .before .before .before .before .before .before .before .before .args in
     let l = t .loop in
-    flat-walk-ends (a .costs .now) (a .ranks .now) (a .outputs .now) (a .heads .now) (a .starts .now) (a .children .now)
+    flat-walk-ends (a .costs .now) (a .ranks .now) (a .outputs .now) (a .heads .now)
+    (a .starts .now) (a .children .now)
     (l .edges) (l .i) (l .inv .1) (omega arith)
 
 pub fill-spec : {M : Type 1} → statement M

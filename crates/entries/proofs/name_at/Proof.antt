@@ -1,5 +1,5 @@
--- `entries::name_at` meets its contract: a walk of its MIR, by hand. The slice is looked into, record i is taken out of the row, copied whole, and put back.
--- Assumes nothing.
+-- `entries::name_at` meets its contract: a walk of its MIR, by hand. The slice is looked into, record i is taken out
+-- of the row, copied whole, and put back. Assumes nothing.
 use mathlib.Core.Path.{_≡_, refl, sym}
 use Prim.Native.Nat.{ℕ, _<_, _*_, _^_}
 use native.Mathlib.Omega.{arith}
@@ -17,9 +17,53 @@ use prog.Wp.{Heap, Calls, Loops, WpFn, Tables}
 use ghost.Atoms.{Atoms}
 use contract.Monad.{Fun}
 use contract.Running.{givenOf, tables, tablesOf}
-use types.Kit.{Given, ‵, _⊛_, ⋆, _$_, _∵_, !, qed, by, move, keep, drop, split, join, rewrite, fsplit, fjoin, suffices, frame, done}
+use types.Kit.{
+  Given,
+  ‵,
+  _⊛_,
+  ⋆,
+  _$_,
+  _∵_,
+  !,
+  qed,
+  by,
+  move,
+  keep,
+  drop,
+  split,
+  join,
+  rewrite,
+  fsplit,
+  fjoin,
+  suffices,
+  frame,
+  done,
+}
 use types.Part.{whole, sub, look-in}
-use types.Run.{look, look-raw, init, forget, stop, hop, fld, from, load, lit, of-opd, bin, assigns, returns, enter, alloc1, alloc0, params1, pass1, pass0, free1, free0}
+use types.Run.{
+  look,
+  look-raw,
+  init,
+  forget,
+  stop,
+  hop,
+  fld,
+  from,
+  load,
+  lit,
+  of-opd,
+  bin,
+  assigns,
+  returns,
+  enter,
+  alloc1,
+  alloc0,
+  params1,
+  pass1,
+  pass0,
+  free1,
+  free0,
+}
 use sound.WpLaws.{WpFn-mono}
 use denote.RattleType.{RattleType, owns}
 use denote.Laws.{Is, shows}
@@ -34,7 +78,20 @@ use denote.Steps.{owned, nothing, only}
 use denote.Triple.Entry.{Vals, onEntry}
 use denote.Triple.Spec.{Meets, tripleOf}
 use denote.Triple.Table.{entered}
-use denote.Triple.Walked.{says, needs, Stays, stay-none, stay-none-slice, walkOf, goes-none, goes-none-slice, Walks, ends-at, walked, walk-meets}
+use denote.Triple.Walked.{
+  says,
+  needs,
+  Stays,
+  stay-none,
+  stay-none-slice,
+  walkOf,
+  goes-none,
+  goes-none-slice,
+  Walks,
+  ends-at,
+  walked,
+  walk-meets,
+}
 use denote.Exit.{yes}
 use Rattle.entries.proofs.name_at.Key.{name as #it}
 use Rattle.entries.proofs.name_at as it
@@ -109,7 +166,8 @@ module _ {M : Type 1} (𝓤 : URA M) (H : Heap 𝓤) (A : Atoms 𝓤) (W : Given
         (array-copy 𝓤 H A W u8 (uint-copy 𝓤 H A W w8) 32) ys b o (λ q′.
         elem-out ! Entry (Is Entry) (shows 𝓤 H A Entry) vals (array-tells u8 (uint-vals w8) (uint-tells w8) 32) q′ ys
         i [] b o l (λ g.
-        -- [ns[i]; what it owns; the others; what shuts; the fractured borrow; true; res; ns's fact; i's; _5; …; _4; …; _3; …; _2; …; _1; …; _0; …]
+        -- [ns[i]; what it owns; the others; what shuts; the fractured borrow; true; res; ns's fact; i's; _5; …; _4; …;
+        -- _3; …; _2; …; _1; …; _0; …]
         assigns ! (of-opd ! (load ! (from ! (hop ! (look ! 11 refl) (stop !))) (look-raw ! 0 refl))) (from ! (stop
         !)) (init ! 9 refl (array-lawful 𝓤 H A W u8 (uint-lawful 𝓤 H A W w8) 32 .typed elem _ g .0)) $
         assigns ! (of-opd ! (load ! (from ! (stop !)) (look ! 9 refl))) (from ! (stop !)) (init ! 19 refl

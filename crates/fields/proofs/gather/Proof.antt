@@ -1,4 +1,5 @@
--- `fields::gather` meets its contract: what is gathered is the number of the bits so far; each turn adds those of one byte. Assumes nothing.
+-- `fields::gather` meets its contract: what is gathered is the number of the bits so far; each turn adds those of one
+-- byte. Assumes nothing.
 use Prim.Native.Nat.{_≤_, _-_, _+_, _*_, _%_}
 use mathlib.Core.Path.{_≡_, sym, ap, _∙_}
 use native.Mathlib.Omega.{arith}
@@ -70,8 +71,14 @@ loop-again c =
     let l = c .before .before .before .before .before .loop in
     let n = c .before .before .before .smaller .result in
     let h : a .at + (l .i + n) ≤ 8 * length (a .s .now) = omega arith in
-    let k : (a .at + l .i) % 8 + n ≤ 8 = omega arith in
-    (omega arith, rw (c .before .before .power .ensures, l .inv .1, c .part .ensures) (sym (number-part (a .s .now) (a .at) (l .i) n h k)))
+    let k : (a .at + l .i) % 8 + n ≤ 8 = omega arith in (
+      omega arith,
+      rw (
+        c .before .before .power .ensures,
+        l .inv .1,
+        c .part .ensures,
+      ) (sym (number-part (a .s .now) (a .at) (l .i) n h k)),
+    )
 
 returns : tie.Need-returns Inv-loop μ-loop
 returns c =

@@ -17,7 +17,9 @@ add-t7 : tie.Need-add-t7
 add-t7 c = search needs
 
 returns : tie.Need-returns
-returns c = rw (c .gather .ensures) (sym (field-of-holds _ _ _ (sym (c .before .before .has .ensures) ∙ c .before .if1 .taken)))
+returns c =
+    rw (c .gather .ensures) (sym (field-of-holds _ _ _
+    (sym (c .before .before .has .ensures) ∙ c .before .if1 .taken)))
 
 returns-2 : tie.Need-returns-2
 returns-2 c = sym (field-refuses _ _ _ (sym (c .before .has .ensures) ∙ c .if1 .left))

@@ -1,4 +1,5 @@
--- `function_fields::read_arguments` meets its contract: the arity, then the loop over the argument sorts. Assumes nothing.
+-- `function_fields::read_arguments` meets its contract: the arity, then the loop over the argument sorts. Assumes
+-- nothing.
 use mathlib.Core.Path.{sym}
 use native.Mathlib.Omega.{arith}
 use borrow.Author.Needs.{needs}
@@ -19,12 +20,14 @@ enum-told : tie.Need-enum-told
 enum-told c = search needs
 
 returns : tie.Need-returns
-returns c = reads-refused (arguments-short _ _ _ (field-short (c .before .before .read .ensures) (c .enum-told .given .1)))
+returns c =
+    reads-refused (arguments-short _ _ _ (field-short (c .before .before .read .ensures) (c .enum-told .given .1)))
 
 returns-2 : tie.Need-returns-2
 returns-2 c =
     let f = c .before .before in
-    reads-refused (arguments-over _ _ _ (field-value (f .before .before .read .ensures) (f .f .given .1)) (c .if1 .taken))
+    reads-refused (arguments-over _ _ _
+    (field-value (f .before .before .read .ensures) (f .f .given .1)) (c .if1 .taken))
 
 mul-arities : tie.Need-mul-arities
 mul-arities c = search needs
@@ -44,7 +47,8 @@ read-sorts-requires c κs =
 returns-3 : tie.Need-returns-3
 returns-3 c =
     let f = c .before .before .before .before in
-    reads-weaken (sym (arguments-from _ _ _ (field-value (f .before .before .read .ensures) (f .f .given .1)) (c .before .before .if1 .left)))
+    reads-weaken (sym (arguments-from _ _ _ (field-value (f .before .before .read .ensures) (f .f .given .1))
+    (c .before .before .if1 .left)))
     (c .read-sorts .ensures)
     (λ xs k e h. record { arities-put = rw (many-length _ _ _ e); arguments-put = h .put })
 

@@ -53,7 +53,8 @@ enum-told-2 c = search needs
 returns-3 : tie.Need-returns-3
 returns-3 c =
     let f = c .before .before .before .before .before in
-    reads-refused (cost-cut _ _ (field-value (f .before .before .read .ensures) (f .f .given .1)) (c .before .before .before .if1 .left)
+    reads-refused (cost-cut _ _ (field-value (f .before .before .read .ensures) (f .f .given .1))
+    (c .before .before .before .if1 .left)
     (field-short (c .before .before .read2 .ensures) (c .enum-told2 .given .1)))
 
 mul-declared-2 : tie.Need-mul-declared-2
@@ -72,7 +73,8 @@ returns-4 : tie.Need-returns-4
 returns-4 c =
     let g = c .before in
     let f = g .before .before .before .before .before in
-    reads-got (cost-some _ _ (field-value (f .before .before .read .ensures) (f .f .given .1)) (g .before .before .before .if1 .left)
+    reads-got (cost-some _ _ (field-value (f .before .before .read .ensures) (f .f .given .1))
+    (g .before .before .before .if1 .left)
     (field-value (g .before .before .read2 .ensures) (g .g .given .1)))
     (record { declared-put = refl; costs-put = refl })
 

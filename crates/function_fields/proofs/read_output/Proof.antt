@@ -20,13 +20,16 @@ enum-told : tie.Need-enum-told
 enum-told c = search needs
 
 returns : tie.Need-returns
-returns c = reads-refused (output-short _ _ _ (field-short (c .before .before .read .ensures) (c .enum-told .given .1)))
+returns c =
+    reads-refused (output-short _ _ _ (field-short (c .before .before .read .ensures) (c .enum-told .given .1)))
 
 returns-2 : tie.Need-returns-2
 returns-2 c =
     let f = c .before .before in
-    let b : f .before .before .before .before .args .n ≤ length (f .before .before .before .before .args .kinds .now) = omega (arith, f .before .before .before .before .pre .1 .1) in
-    reads-refused (output-over _ _ _ _ b (field-value (f .before .before .read .ensures) (f .f .given .1)) (c .if1 .taken))
+    let b : f .before .before .before .before .args .n ≤ length (f .before .before .before .before .args .kinds .now) =
+    omega (arith, f .before .before .before .before .pre .1 .1) in
+    reads-refused (output-over _ _ _ _ b
+    (field-value (f .before .before .read .ensures) (f .f .given .1)) (c .if1 .taken))
 
 mul-if2 : tie.Need-mul-if2
 mul-if2 c = search needs
@@ -37,8 +40,10 @@ element-copy-out-if2 c = search needs
 returns-3 : tie.Need-returns-3
 returns-3 c =
     let f = c .before .before .before .before in
-    let b : f .before .before .before .before .args .n ≤ length (f .before .before .before .before .args .kinds .now) = omega (arith, f .before .before .before .before .pre .1 .1) in
-    reads-refused (output-base _ _ _ _ b (field-value (f .before .before .read .ensures) (f .f .given .1)) (c .before .before .if1 .left) (c .if2 .taken))
+    let b : f .before .before .before .before .args .n ≤ length (f .before .before .before .before .args .kinds .now) =
+    omega (arith, f .before .before .before .before .pre .1 .1) in
+    reads-refused (output-base _ _ _ _ b (field-value (f .before .before .read .ensures) (f .f .given .1))
+    (c .before .before .if1 .left) (c .if2 .taken))
 
 mul-outputs : tie.Need-mul-outputs
 mul-outputs c = search needs
@@ -49,8 +54,10 @@ element-write-outputs c = search needs
 returns-4 : tie.Need-returns-4
 returns-4 c =
     let f = c .before .before .before .before in
-    let b : f .before .before .before .before .args .n ≤ length (f .before .before .before .before .args .kinds .now) = omega (arith, f .before .before .before .before .pre .1 .1) in
-    reads-got (output-eq _ _ _ _ b (field-value (f .before .before .read .ensures) (f .f .given .1)) (c .before .before .if1 .left) (c .if2 .left))
+    let b : f .before .before .before .before .args .n ≤ length (f .before .before .before .before .args .kinds .now) =
+    omega (arith, f .before .before .before .before .pre .1 .1) in
+    reads-got (output-eq _ _ _ _ b (field-value (f .before .before .read .ensures) (f .f .given .1))
+    (c .before .before .if1 .left) (c .if2 .left))
     (record { put = refl })
 
 pub read-output-spec : {M : Type 1} → statement M

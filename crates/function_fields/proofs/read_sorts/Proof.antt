@@ -1,10 +1,17 @@
--- `function_fields::read_sorts` meets its contract: the argument sorts read so far stand in their places, and the rest of the reading is that of the whole. Assumes nothing.
+-- `function_fields::read_sorts` meets its contract: the argument sorts read so far stand in their places, and the rest
+-- of the reading is that of the whole. Assumes nothing.
 use Prim.Native.Nat.{_-_}
 use borrow.Author.Needs.{needs}
 use Rattle.fields.proofs.FieldLaws.{field-value, field-short}
 use Rattle.format.proofs.ReadingLaws.{reads-got, reads-refused}
 use Rattle.function_fields.proofs.StepLaws.{argument-short, argument-over}
-use Rattle.function_fields.proofs.ArgumentLaws.{Arguments-read, arguments-start, arguments-more, arguments-refuse, arguments-end}
+use Rattle.function_fields.proofs.ArgumentLaws.{
+  Arguments-read,
+  arguments-start,
+  arguments-more,
+  arguments-refuse,
+  arguments-end,
+}
 use Rattle.function_fields.proofs.read_sorts.Statement.{statement}
 use Rattle.function_fields.proofs.read_sorts.Tie as tie
 
@@ -58,7 +65,8 @@ loop-again : tie.Need-loop-again Inv-loop μ-loop
 loop-again c =
     let f = c .before .before in
     let r = f .before .before in
-    arguments-more (r .before .before .loop .inv) (r .before .loop-test .taken) (field-value (r .read .ensures) (f .f .given .1)) (c .if1 .left)
+    arguments-more (r .before .before .loop .inv) (r .before .loop-test .taken)
+    (field-value (r .read .ensures) (f .f .given .1)) (c .if1 .left)
 
 returns-3 : tie.Need-returns-3 Inv-loop μ-loop
 returns-3 c =

@@ -7,7 +7,18 @@ use lib.Seq.{length-take-le}
 use borrow.Author.Needs.{needs}
 use Rattle.format.proofs.ReadingLaws.{reads-done, reads-pass, reads-via}
 use Rattle.name_field.proofs.EntriesLaws.{free-is-new}
-use Rattle.functions.proofs.FunctionSteps.{name-near, cost-near, flags-near, output-near, functionOf, function-stops-1, function-stops-2, function-stops-3, function-stops-4, function-ends}
+use Rattle.functions.proofs.FunctionSteps.{
+  name-near,
+  cost-near,
+  flags-near,
+  output-near,
+  functionOf,
+  function-stops-1,
+  function-stops-2,
+  function-stops-3,
+  function-stops-4,
+  function-ends,
+}
 use Rattle.functions.proofs.read_function.Statement.{statement}
 use Rattle.functions.proofs.read_function.Tie as tie
 
@@ -122,7 +133,8 @@ returns-5 c = λ fs h.
     let f = reads-done (C .before .before .read-flags .ensures) (C .c .given .1) in
     let d = reads-done (D .before .before .read-output .ensures) (D .d .given .1) in
     let p = A .before .before .before .before .before .pre in
-    let n : A .before .before .before .before .before .args .n ≤ length (A .before .before .before .before .before .args .kinds .now) = omega (arith, p .1 .0 .0, p .1 .0 .1) in
+    let n : A .before .before .before .before .before .args .n ≤ length
+    (A .before .before .before .before .before .args .kinds .now) = omega (arith, p .1 .0 .0, p .1 .0 .1) in
     reads-via (functionOf (a .what) (b .what) (f .what) (d .what))
     (function-ends _ _ fs _ (sym (free-is-new _ _ _ _ h) ∙ a .is) (b .is) (f .is) (d .is) (length-take-le _ _ n))
     (c .read-arguments .ensures)

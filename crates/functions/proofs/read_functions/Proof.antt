@@ -1,19 +1,31 @@
--- `functions::read_functions` meets its contract: the functions read so far stand in the arrays, and the rest of the reading is that of the whole. Assumes nothing.
+-- `functions::read_functions` meets its contract: the functions read so far stand in the arrays, and the rest of the
+-- reading is that of the whole. Assumes nothing.
 use Prim.Native.Nat.{_<_, _-_}
 use native.Mathlib.Omega.{arith}
 use lib.ListN.{take}
 use borrow.Author.Needs.{needs}
 use Rattle.format.proofs.ReadingLaws.{reads-done, reads-pass, reads-got}
-use Rattle.functions.proofs.FunctionLoop.{Functions-read, functions-start, functions-names, functions-entries, functions-room, functions-more, functions-refuse, functions-end}
+use Rattle.functions.proofs.FunctionLoop.{
+  Functions-read,
+  functions-start,
+  functions-names,
+  functions-entries,
+  functions-room,
+  functions-more,
+  functions-refuse,
+  functions-end,
+}
 use Rattle.functions.proofs.read_functions.Statement.{statement}
 use Rattle.functions.proofs.read_functions.Tie as tie
 
 abbrev Inv-loop : tie.InvT-loop
-Inv-loop s at count n kinds names₀ declared₀ costs₀ unextractable₀ hidden₀ outputs₀ arities₀ arguments₀ p₀ i₀ names declared costs unextractable hidden outputs arities arguments p i =
+Inv-loop s at count n kinds names₀ declared₀ costs₀ unextractable₀ hidden₀ outputs₀ arities₀ arguments₀ p₀ i₀ names
+    declared costs unextractable hidden outputs arities arguments p i =
     Functions-read s (take n kinds) at count names declared costs unextractable hidden outputs arities arguments p i
 
 abbrev μ-loop : tie.MeasureT-loop
-μ-loop s at count n kinds names₀ declared₀ costs₀ unextractable₀ hidden₀ outputs₀ arities₀ arguments₀ p₀ i₀ names declared costs unextractable hidden outputs arities arguments p i =
+μ-loop s at count n kinds names₀ declared₀ costs₀ unextractable₀ hidden₀ outputs₀ arities₀ arguments₀ p₀ i₀ names
+    declared costs unextractable hidden outputs arities arguments p i =
     count - i
 
 loop-holds : tie.Need-loop-holds Inv-loop μ-loop

@@ -34,8 +34,10 @@ held :
     (kindAt (s .args .records .now) (s .args .t) ≡ 0 → ⊥) →
     (symbolNo (s .args .records .now) (s .args .t) * 32 + 32 ≤ length (s .args .names .now))
     × (lengthAt (s .args .names .now) (symbolNo (s .args .records .now) (s .args .t)) ≤ 31)
-held s z =
-    (s .pre .0 .inNames (s .args .t) (s .pre .1) (omega arith), s .pre .0 .short (s .args .t) (s .pre .1) (omega arith))
+held s z = (
+  s .pre .0 .inNames (s .args .t) (s .pre .1) (omega arith),
+  s .pre .0 .short (s .args .t) (s .pre .1) (omega arith),
+)
 
 mul-kind : tie.Need-mul-kind
 mul-kind c = search needs
@@ -64,7 +66,8 @@ returns c =
     let same : literalText (toZ w64 (ofZ w64 (getD (s .args .literals .now) (s .args .t) (pos 0))))
     ≡ headText (node s) =
     ap literalText (same-literal s (c .before .before .literal-length-arg .given))
-    ∙ sym (head-of-literal _ _ _ (s .args .n) (s .pre .0) (s .args .t) (s .pre .1) (c .before .before .before .if1 .taken)) in
+    ∙ sym (head-of-literal _ _ _ (s .args .n) (s .pre .0) (s .args .t) (s .pre .1)
+    (c .before .before .before .if1 .taken)) in
     let long : c .before .literal-length .result ≡ length (headText (node s)) =
     c .before .literal-length .ensures ∙ ap length same in
     omega (arith, c .add .ensures, long)
@@ -82,32 +85,43 @@ shared-slice-read-k : tie.Need-shared-slice-read-k
 shared-slice-read-k c = search needs
 
 mul-long : tie.Need-mul-long
-mul-long c = let s = c .before .before .before .before .before in let h = held s (c .before .if1 .left) in omega (arith, h .0, s .good)
+mul-long c =
+    let s = c .before .before .before .before .before in
+    let h = held s (c .before .if1 .left) in omega (arith, h .0, s .good)
 
 shared-slice-read-long : tie.Need-shared-slice-read-long
-shared-slice-read-long c = let s = c .before .before .before .before .before .before in let h = held s (c .before .before .if1 .left) in omega (arith, h .0)
+shared-slice-read-long c =
+    let s = c .before .before .before .before .before .before in
+    let h = held s (c .before .before .if1 .left) in omega (arith, h .0)
 
 cast-long : tie.Need-cast-long
-cast-long c = let s = c .before .before .before .before .before .before in let h = held s (c .before .before .if1 .left) in omega (arith, h .1)
+cast-long c =
+    let s = c .before .before .before .before .before .before in
+    let h = held s (c .before .before .if1 .left) in omega (arith, h .1)
 
 returns-2 : tie.Need-returns-2
 returns-2 c =
     let s = c .before .before .before .before .before .before .before in
     let h = held s (c .before .before .before .if1 .left) in
     let e = head-of-variable _ _ _ (s .args .n) (s .pre .0) (s .args .t) (s .pre .1) (c .if2 .taken) in
-    let l = name-length _ _ _ (s .args .n) (s .pre .0) (s .args .t) (s .pre .1) (c .before .before .before .if1 .left) in
+    let l =
+    name-length _ _ _ (s .args .n) (s .pre .0) (s .args .t) (s .pre .1) (c .before .before .before .if1 .left) in
     omega (arith, h .1, ap length e, l)
 
 add-result : tie.Need-add-result
-add-result c = let s = c .before .before .before .before .before .before .before in let h = held s (c .before .before .before .if1 .left) in omega (arith, h .1)
+add-result c =
+    let s = c .before .before .before .before .before .before .before in
+    let h = held s (c .before .before .before .if1 .left) in omega (arith, h .1)
 
 returns-3 : tie.Need-returns-3
 returns-3 c =
     let s = c .before .before .before .before .before .before .before in
     let h = held s (c .before .before .before .if1 .left) in
     let e =
-    head-of-application _ _ _ (s .args .n) (s .pre .0) (s .args .t) (s .pre .1) (c .before .before .before .if1 .left) (c .if2 .left) in
-    let l = name-length _ _ _ (s .args .n) (s .pre .0) (s .args .t) (s .pre .1) (c .before .before .before .if1 .left) in
+    head-of-application _ _ _ (s .args .n) (s .pre .0) (s .args .t) (s .pre .1)
+    (c .before .before .before .if1 .left) (c .if2 .left) in
+    let l =
+    name-length _ _ _ (s .args .n) (s .pre .0) (s .args .t) (s .pre .1) (c .before .before .before .if1 .left) in
     omega (arith, h .1, ap length e, l)
 
 pub head-length-spec : {M : Type 1} → statement M

@@ -86,7 +86,8 @@ returns : tie.Need-returns
 returns c =
     let s = c .before .before .before .before .before .before .before .before .before .before in
     rw (literal s (c .before .before .before .before .before .if1 .taken))
-    (rw (same-literal s (c .before .before .before .put-literal-arg2 .given)) at (c .before .before .put-literal .ensures))
+    (rw (same-literal s (c .before .before .before .put-literal-arg2 .given)) at (c .before .before
+    .put-literal .ensures))
 
 mul-k : tie.Need-mul-k
 mul-k c = search needs
@@ -110,7 +111,9 @@ same-length-2 : tie.Need-same-length-2
 same-length-2 c = search needs
 
 returns-2 : tie.Need-returns-2
-returns-2 c = let s = c .before .before .before .before .before .before .before .before .before .before .before in rw (variable s (c .before .before .before .before .if2 .taken)) (c .before .before .put-symbol .ensures)
+returns-2 c =
+    let s = c .before .before .before .before .before .before .before .before .before .before .before in
+    rw (variable s (c .before .before .before .before .if2 .taken)) (c .before .before .put-symbol .ensures)
 
 slice-write-out : tie.Need-slice-write-out
 slice-write-out c =
@@ -120,13 +123,21 @@ slice-write-out c =
 sub-put-symbol : tie.Need-sub-put-symbol
 sub-put-symbol c =
     let s = c .before .before .before .before .before .before .before in
-    simp length-set (omega (arith, s .pre .1 .1, ap length (application s (c .before .before .if1 .left) (c .if2 .left))))
+    simp length-set (omega (
+      arith,
+      s .pre .1 .1,
+      ap length (application s (c .before .before .if1 .left) (c .if2 .left)),
+    ))
 
 part-put-symbol-start : tie.Need-part-put-symbol-start
 part-put-symbol-start c =
     let s = c .before .before .before .before .before .before .before in
     let h : 1 ≤ length (set (s .args .out .now) 0 40) =
-    simp length-set (omega (arith, s .pre .1 .1, ap length (application s (c .before .before .if1 .left) (c .if2 .left)))) in
+    simp length-set (omega (
+      arith,
+      s .pre .1 .1,
+      ap length (application s (c .before .before .if1 .left) (c .if2 .left)),
+    )) in
     h
 
 part-put-symbol-end : tie.Need-part-put-symbol-end
@@ -153,25 +164,31 @@ add-result c =
       arith,
       s .pre .1 .1,
       s .good,
-      ap length (application s (c .before .before .before .before .before .before .if1 .left) (c .before .before .before .before .if2 .left)),
+      ap length (application s (c .before .before .before .before .before .before .if1 .left)
+          (c .before .before .before .before .if2 .left)),
       c .before .before .put-symbol2 .ensures .long,
     )
 
 same-length-3 : tie.Need-same-length-3
 same-length-3 c =
-    let o = c .before .before .before .before .before .before .before .before .before .before .before .args .out .now in
-    same-len-mid 1 (length (set o 0 40) - 1) (set o 0 40) (c .before .before .put-symbol2 .last .0) (c .before .before .put-symbol2 .kept .0)
+    let o =
+    c .before .before .before .before .before .before .before .before .before .before .before .args .out .now in
+    same-len-mid 1 (length (set o 0 40) - 1) (set o 0 40) (c .before .before .put-symbol2 .last .0)
+    (c .before .before .put-symbol2 .kept .0)
     ∙ length-set o 0 40
 
 returns-3 : tie.Need-returns-3
 returns-3 c =
     let s = c .before .before .before .before .before .before .before .before .before .before .before in
     let o = s .args .out .now in
-    let e = application s (c .before .before .before .before .before .before .if1 .left) (c .before .before .before .before .if2 .left) in
+    let e =
+    application s (c .before .before .before .before .before .before .if1 .left)
+    (c .before .before .before .before .if2 .left) in
     rw e
     (wrote-of-stands o (40 ∷ nameOf s) _ _
     (stands-then o (40 ∷ []) _ 1 (stands-first o 40 (omega (arith, s .pre .1 .1, ap length e))) (nameOf s)
-    (c .before .before .put-symbol2 .last .0) (c .before .before .put-symbol2 .result) (c .before .before .put-symbol2 .ensures)))
+    (c .before .before .put-symbol2 .last .0) (c .before .before .put-symbol2 .result)
+    (c .before .before .put-symbol2 .ensures)))
 
 pub put-head-spec : {M : Type 1} → statement M
 put-head-spec =

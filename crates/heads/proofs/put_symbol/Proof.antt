@@ -32,13 +32,18 @@ part-put-bytes-end : tie.Need-part-put-bytes-end
 part-put-bytes-end c = search needs
 
 put-bytes-requires : tie.Need-put-bytes-requires
-put-bytes-requires c κs = rw (nameAt-is (c .before .before .before .before .before .args .names .now) (c .before .before .before .before .before .args .k)) at (c .before .before .before .before .before .pre .1 .1)
+put-bytes-requires c κs =
+    rw (nameAt-is (c .before .before .before .before .before .args .names .now)
+    (c .before .before .before .before .before .args .k)) at (c .before .before .before .before .before .pre .1 .1)
 
 same-length : tie.Need-same-length
 same-length c = search needs
 
 returns : tie.Need-returns
-returns c = rw (nameAt-is (c .before .before .before .before .before .before .before .before .args .names .now) (c .before .before .before .before .before .before .before .before .args .k)) (c .before .before .put-bytes .ensures)
+returns c =
+    rw (nameAt-is (c .before .before .before .before .before .before .before .before .args .names .now)
+    (c .before .before .before .before .before .before .before .before .args .k))
+    (c .before .before .put-bytes .ensures)
 
 pub put-symbol-spec : {M : Type 1} → statement M
 put-symbol-spec =

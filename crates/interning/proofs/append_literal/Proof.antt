@@ -16,7 +16,8 @@ has-room-requires c κs = search needs
 returns : tie.Need-returns
 returns c =
     let g = c .before .before .before .before .args in
-    literal-full (g .records .now) (g .literals .now) (g .names .now) (g .terms) (g .symbols) (g .literal) (sym (c .before .has-room .ensures) ∙ not-true _ (c .if1 .taken))
+    literal-full (g .records .now) (g .literals .now) (g .names .now) (g .terms) (g .symbols) (g .literal)
+    (sym (c .before .has-room .ensures) ∙ not-true _ (c .if1 .taken))
 
 array-share-prefix-none : tie.Need-array-share-prefix-none
 array-share-prefix-none c = search needs
@@ -27,13 +28,22 @@ slice-aggregate-put-record c = search needs
 put-record-requires : tie.Need-put-record-requires
 put-record-requires c κs =
     let g = c .before .before .before .before .before .before .before .args in
-    let r = room-get (length (g .records .now)) (length (g .literals .now)) (g .terms) (sym (c .before .before .before .before .has-room .ensures) ∙ not-false _ (c .before .before .before .if1 .left)) in
+    let r =
+    room-get (length (g .records .now)) (length (g .literals .now)) (g .terms)
+    (sym (c .before .before .before .before .has-room .ensures) ∙ not-false _
+    (c .before .before .before .if1 .left)) in
     (record { numbers = r .1; literal = r .2 }, omega arith)
 
 add-t9 : tie.Need-add-t9
 add-t9 c =
     let g = c .before .before .before .before .before .before .before .before .before .before .before .args in
-    omega (arith, room-get (length (g .records .now)) (length (g .literals .now)) (g .terms) (sym (c .before .before .before .before .before .before .before .before .has-room .ensures) ∙ not-false _ (c .before .before .before .before .before .before .before .if1 .left)) .0)
+    omega (
+      arith,
+      room-get (length (g .records .now)) (length
+          (g .literals .now)) (g .terms)
+          (sym (c .before .before .before .before .before .before .before .before .has-room .ensures) ∙ not-false _
+          (c .before .before .before .before .before .before .before .if1 .left)) .0,
+    )
 
 same-length : tie.Need-same-length
 same-length c = search needs
@@ -44,8 +54,13 @@ same-length-2 c = search needs
 returns-2 : tie.Need-returns-2
 returns-2 c =
     let g = c .before .before .before .before .before .before .before .before .before .before .before .args in
-    literal-put (g .records .now) (g .literals .now) (g .names .now) (g .terms) (g .symbols) (g .literal) _ _ (sym (c .before .before .before .before .before .before .before .before .has-room .ensures) ∙ not-false _ (c .before .before .before .before .before .before .before .if1 .left)) (c .before .before .before .put-record .ensures .0)
-    (rw (toZ-ofZ w64 (g .literal) (c .before .before .before .before .before .before .before .before .before .before .before .fits .literal)) at (c .before .before .before .put-record .ensures .1))
+    literal-put (g .records .now) (g .literals .now) (g .names .now) (g .terms) (g .symbols) (g .literal) _ _
+    (sym (c .before .before .before .before .before .before .before .before .has-room .ensures) ∙ not-false _
+    (c .before .before .before .before .before .before .before .if1 .left))
+    (c .before .before .before .put-record .ensures .0)
+    (rw (toZ-ofZ w64 (g .literal)
+    (c .before .before .before .before .before .before .before .before .before .before .before .fits
+    .literal)) at (c .before .before .before .put-record .ensures .1))
 
 pub append-literal-spec : {M : Type 1} → statement M
 append-literal-spec =

@@ -23,7 +23,9 @@ returns : tie.Need-returns
 returns c =
     let g = c .before .before .before .before .before .before .before .args in
     let s = store (g .records .now) (g .literals .now) (g .names .now) (g .terms) (g .symbols) in
-    findTerm-application-none s (sound-of-wellFormed s (c .before .before .before .before .before .before .before .pre .0)) (g .name .now) (g .children .now)
+    findTerm-application-none s
+    (sound-of-wellFormed s (c .before .before .before .before .before .before .before .pre .0))
+    (g .name .now) (g .children .now)
     (sym (c .before .before .find .ensures) ∙ c .enum-told .given .1)
 
 find-record-requires : tie.Need-find-record-requires
@@ -38,7 +40,9 @@ returns-2 c =
     let g = c .before .before .before .before .before .before .before .before .before .args in
     let s = store (g .records .now) (g .literals .now) (g .names .now) (g .terms) (g .symbols) in
     c .find-record .ensures
-    ∙ findTerm-application s (sound-of-wellFormed s (c .before .before .before .before .before .before .before .before .before .pre .0)) (g .name .now) (g .children .now) _
+    ∙ findTerm-application s
+    (sound-of-wellFormed s (c .before .before .before .before .before .before .before .before .before .pre .0))
+    (g .name .now) (g .children .now) _
     (sym (c .before .before .before .before .find .ensures) ∙ c .before .before .symbol .given .1)
 
 pub find-application-spec : {M : Type 1} → statement M

@@ -23,8 +23,11 @@ abbrev μ-loop : tie.MeasureT-loop
 
 loop-holds : tie.Need-loop-holds Inv-loop μ-loop
 loop-holds c =
-    let g = c .before .before .args in
-    (omega arith, first-start (hasAt (g .records .now) (g .literals .now) (g .kind) (g .symbol) (toZ w64 (ofZ w64 (g .literal))) (g .children .now)) (g .terms))
+    let g = c .before .before .args in (
+      omega arith,
+      first-start (hasAt (g .records .now) (g .literals .now) (g .kind) (g .symbol)
+          (toZ w64 (ofZ w64 (g .literal))) (g .children .now)) (g .terms),
+    )
 
 is-record-requires : tie.Need-is-record-requires Inv-loop μ-loop
 is-record-requires c κs = search needs
@@ -33,8 +36,12 @@ returns : tie.Need-returns Inv-loop μ-loop
 returns c =
     let g = c .before .before .before .before .before .before .args in
     let l = c .before .before .before .loop in
-    let p = hasAt (g .records .now) (g .literals .now) (g .kind) (g .symbol) (toZ w64 (ofZ w64 (g .literal))) (g .children .now) in
-    let found = sym (first-here p (l .i) (g .terms) (omega arith) (sym (c .before .is-record .ensures) ∙ c .if1 .taken)) ∙ l .inv .1 in
+    let p =
+    hasAt (g .records .now) (g .literals .now) (g .kind) (g .symbol) (toZ w64 (ofZ w64 (g .literal)))
+    (g .children .now) in
+    let found =
+    sym (first-here p (l .i) (g .terms) (omega arith) (sym (c .before .is-record .ensures) ∙ c .if1 .taken))
+    ∙ l .inv .1 in
     rw (toZ-ofZ w64 (g .literal) (c .before .before .before .before .before .before .fits .literal)) at found
 
 add-i : tie.Need-add-i Inv-loop μ-loop
@@ -47,14 +54,21 @@ loop-again : tie.Need-loop-again Inv-loop μ-loop
 loop-again c =
     let g = c .before .before .before .before .before .before .args in
     let l = c .before .before .before .loop in
-    let p = hasAt (g .records .now) (g .literals .now) (g .kind) (g .symbol) (toZ w64 (ofZ w64 (g .literal))) (g .children .now) in
-    (omega arith, first-more p (l .i) (g .terms) (omega arith) (sym (c .before .is-record .ensures) ∙ c .if1 .left) ∙ l .inv .1)
+    let p =
+    hasAt (g .records .now) (g .literals .now) (g .kind) (g .symbol) (toZ w64 (ofZ w64 (g .literal)))
+    (g .children .now) in (
+      omega arith,
+      first-more p (l .i) (g .terms) (omega arith) (sym (c .before .is-record .ensures) ∙
+          c .if1 .left) ∙ l .inv .1,
+    )
 
 returns-2 : tie.Need-returns-2 Inv-loop μ-loop
 returns-2 c =
     let g = c .before .before .before .before .args in
     let l = c .before .loop in
-    let p = hasAt (g .records .now) (g .literals .now) (g .kind) (g .symbol) (toZ w64 (ofZ w64 (g .literal))) (g .children .now) in
+    let p =
+    hasAt (g .records .now) (g .literals .now) (g .kind) (g .symbol) (toZ w64 (ofZ w64 (g .literal)))
+    (g .children .now) in
     let found = sym (first-end p (l .i) (g .terms) (omega arith)) ∙ l .inv .1 in
     rw (toZ-ofZ w64 (g .literal) (c .before .before .before .before .fits .literal)) at found
 

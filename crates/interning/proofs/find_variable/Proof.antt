@@ -24,7 +24,8 @@ returns : tie.Need-returns
 returns c =
     let g = c .before .before .before .before .before .before .args in
     let s = store (g .records .now) (g .literals .now) (g .names .now) (g .terms) (g .symbols) in
-    findTerm-variable-none s (sound-of-wellFormed s (c .before .before .before .before .before .before .pre)) (g .name .now)
+    findTerm-variable-none s
+    (sound-of-wellFormed s (c .before .before .before .before .before .before .pre)) (g .name .now)
     (sym (c .before .before .find .ensures) ∙ c .enum-told .given .1)
 
 array-share-prefix-none : tie.Need-array-share-prefix-none
@@ -45,7 +46,8 @@ returns-2 c =
     let g = c .before .before .before .before .before .before .before .before .before .args in
     let s = store (g .records .now) (g .literals .now) (g .names .now) (g .terms) (g .symbols) in
     c .find-record .ensures
-    ∙ findTerm-variable s (sound-of-wellFormed s (c .before .before .before .before .before .before .before .before .before .pre)) (g .name .now) _
+    ∙ findTerm-variable s (sound-of-wellFormed s
+    (c .before .before .before .before .before .before .before .before .before .pre)) (g .name .now) _
     (sym (c .before .before .before .before .before .find .ensures) ∙ c .before .before .before .symbol .given .1)
 
 pub find-variable-spec : {M : Type 1} → statement M

@@ -11,7 +11,8 @@ returns-2 : tie.Need-returns-2
 returns-2 c = let g = c .before .before .args in room-refuses (g .records) (g .literals) (g .terms) (omega arith)
 
 returns-3 : tie.Need-returns-3
-returns-3 c = let g = c .before .before .before .args in room-refuses (g .records) (g .literals) (g .terms) (omega arith)
+returns-3 c =
+    let g = c .before .before .before .args in room-refuses (g .records) (g .literals) (g .terms) (omega arith)
 
 returns-4 : tie.Need-returns-4
 returns-4 c = let g = c .before .before .before .args in room-holds (g .records) (g .literals) (g .terms) (omega arith)

@@ -1,4 +1,5 @@
--- `interning::intern_application` meets its contract. The application is looked for, and appended if it is not there. Assumes nothing.
+-- `interning::intern_application` meets its contract. The application is looked for, and appended if it is not there.
+-- Assumes nothing.
 use mathlib.Core.Path.{sym, _∙_}
 use Rattle.store.specs.Lent.{store}
 use Rattle.store.specs.Nodes.{application}
@@ -18,8 +19,12 @@ enum-told c = search needs
 
 append-named-requires : tie.Need-append-named-requires
 append-named-requires c κs =
-    let g = c .before .before .before .before .before .before .before .before .before .before .before .before .before .args in
-    let p = c .before .before .before .before .before .before .before .before .before .before .before .before .before .pre in
+    let g =
+    c .before .before .before .before .before .before .before .before .before .before .before
+    .before .before .args in
+    let p =
+    c .before .before .before .before .before .before .before .before .before .before .before
+    .before .before .pre in
     (p .0, (valid-short (g .name .now) (p .1 .0), p .1 .1))
 
 same-length : tie.Need-same-length
@@ -33,11 +38,14 @@ same-length-3 c = search needs
 
 returns : tie.Need-returns
 returns c =
-    let g = c .before .before .before .before .before .before .before .before .before .before .before .before .before .before .before .before .before .before .before .args in
+    let g =
+    c .before .before .before .before .before .before .before .before .before .before .before .before .before
+    .before .before .before .before .before .before .args in
     let s = store (g .records .now) (g .literals .now) (g .names .now) (g .terms) (g .symbols) in
     leaves-as s _ _ _ _ _ _
     (add-new-application s (g .name .now) (g .children .now)
-    (sym (c .before .before .before .before .before .before .before .before .before .before .before .find-application .ensures) ∙ c .before .before .before .before .before .before .before .before .before .enum-told .given .1))
+    (sym (c .before .before .before .before .before .before .before .before .before .before .before .find-application
+    .ensures) ∙ c .before .before .before .before .before .before .before .before .before .enum-told .given .1))
     (c .before .before .before .before .before .append-named .ensures)
 
 same-length-4 : tie.Need-same-length-4
@@ -52,7 +60,8 @@ same-length-6 c = search needs
 returns-2 : tie.Need-returns-2
 returns-2 c =
     let g = c .before .before .before .before .before .before .before .before .before .before .before .args in
-    add-there (g .records .now) (g .literals .now) (g .names .now) (g .terms) (g .symbols) (application (g .name .now) (g .children .now)) _
+    add-there (g .records .now) (g .literals .now) (g .names .now) (g .terms) (g .symbols)
+    (application (g .name .now) (g .children .now)) _
     (sym (c .before .before .before .find-application .ensures) ∙ c .before .i .given .1)
 
 pub intern-application-spec : {M : Type 1} → statement M

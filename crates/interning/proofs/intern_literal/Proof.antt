@@ -1,4 +1,5 @@
--- `interning::intern_literal` meets its contract. The literal is looked for, and appended if it is not there. Assumes nothing.
+-- `interning::intern_literal` meets its contract. The literal is looked for, and appended if it is not there. Assumes
+-- nothing.
 use mathlib.Core.Path.{sym, _∙_}
 use mir.Syntax.{w64}
 use mir.ValLaws.{toZ-ofZ}
@@ -29,11 +30,18 @@ same-length-2 c = search needs
 
 returns : tie.Need-returns
 returns c =
-    let g = c .before .before .before .before .before .before .before .before .before .before .before .before .before .args in
+    let g =
+    c .before .before .before .before .before .before .before .before .before .before .before
+    .before .before .args in
     let s = store (g .records .now) (g .literals .now) (g .names .now) (g .terms) (g .symbols) in
-    let e = toZ-ofZ w64 (g .literal) (c .before .before .before .before .before .before .before .before .before .before .before .before .before .fits .literal) in
+    let e =
+    toZ-ofZ w64 (g .literal)
+    (c .before .before .before .before .before .before .before .before .before .before .before .before
+    .before .fits .literal) in
     leaves-as s _ _ _ _ _ _
-    (add-new-literal s (g .literal) (sym (rw e at (c .before .before .before .before .before .before .before .before .find-literal .ensures)) ∙ c .before .before .before .before .before .before .enum-told .given .1))
+    (add-new-literal s (g .literal)
+    (sym (rw e at (c .before .before .before .before .before .before .before .before .find-literal .ensures)) ∙
+    c .before .before .before .before .before .before .enum-told .given .1))
     (rw e at (c .before .before .before .append-literal .ensures))
 
 same-length-3 : tie.Need-same-length-3
@@ -45,7 +53,8 @@ same-length-4 c = search needs
 returns-2 : tie.Need-returns-2
 returns-2 c =
     let g = c .before .before .before .before .before .before .before .before .args in
-    let e = toZ-ofZ w64 (g .literal) (c .before .before .before .before .before .before .before .before .fits .literal) in
+    let e =
+    toZ-ofZ w64 (g .literal) (c .before .before .before .before .before .before .before .before .fits .literal) in
     add-there (g .records .now) (g .literals .now) (g .names .now) (g .terms) (g .symbols) (literal (g .literal)) _
     (sym (rw e at (c .before .before .before .find-literal .ensures)) ∙ c .before .i .given .1)
 

@@ -1,4 +1,5 @@
--- `interning::intern_variable` meets its contract. The variable is looked for, and appended if it is not there. Assumes nothing.
+-- `interning::intern_variable` meets its contract. The variable is looked for, and appended if it is not there.
+-- Assumes nothing.
 use mathlib.Core.Path.{sym, _∙_}
 use Rattle.store.specs.Lent.{store}
 use Rattle.store.specs.Nodes.{variable}
@@ -25,8 +26,12 @@ slice-aggregate-append-named c = search needs
 
 append-named-requires : tie.Need-append-named-requires
 append-named-requires c κs =
-    let g = c .before .before .before .before .before .before .before .before .before .before .before .before .before .args in
-    let p = c .before .before .before .before .before .before .before .before .before .before .before .before .before .pre in
+    let g =
+    c .before .before .before .before .before .before .before .before .before .before .before
+    .before .before .args in
+    let p =
+    c .before .before .before .before .before .before .before .before .before .before .before
+    .before .before .pre in
     (p .0, (valid-short (g .name .now) (p .1), omega arith))
 
 same-length : tie.Need-same-length
@@ -40,10 +45,15 @@ same-length-3 c = search needs
 
 returns : tie.Need-returns
 returns c =
-    let g = c .before .before .before .before .before .before .before .before .before .before .before .before .before .before .before .before .before .before .before .args in
+    let g =
+    c .before .before .before .before .before .before .before .before .before .before .before .before .before
+    .before .before .before .before .before .before .args in
     let s = store (g .records .now) (g .literals .now) (g .names .now) (g .terms) (g .symbols) in
     leaves-as s _ _ _ _ _ _
-    (add-new-variable s (g .name .now) (sym (c .before .before .before .before .before .before .before .before .before .before .before .before .find-variable .ensures) ∙ c .before .before .before .before .before .before .before .before .before .before .enum-told .given .1))
+    (add-new-variable s (g .name .now)
+    (sym (c .before .before .before .before .before .before .before .before .before .before .before .before
+    .find-variable .ensures) ∙
+    c .before .before .before .before .before .before .before .before .before .before .enum-told .given .1))
     (c .before .before .before .before .before .append-named .ensures)
 
 same-length-4 : tie.Need-same-length-4
@@ -58,7 +68,8 @@ same-length-6 c = search needs
 returns-2 : tie.Need-returns-2
 returns-2 c =
     let g = c .before .before .before .before .before .before .before .before .before .before .args in
-    add-there (g .records .now) (g .literals .now) (g .names .now) (g .terms) (g .symbols) (variable (g .name .now)) _ (sym (c .before .before .before .find-variable .ensures) ∙ c .before .i .given .1)
+    add-there (g .records .now) (g .literals .now) (g .names .now) (g .terms) (g .symbols) (variable (g .name .now)) _
+    (sym (c .before .before .before .find-variable .ensures) ∙ c .before .i .given .1)
 
 pub intern-variable-spec : {M : Type 1} → statement M
 intern-variable-spec =

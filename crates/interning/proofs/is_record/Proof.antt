@@ -3,7 +3,13 @@ use mathlib.Core.Path.{sym, _∙_}
 use lib.ListN.{getD}
 use lib.IntN.{pos}
 use Rattle.store.proofs.SignLaws.{bits-same, bits-apart}
-use Rattle.interning.proofs.MatchLaws.{kind-refuses, symbol-refuses, count-refuses, literal-refuses, children-rest}
+use Rattle.interning.proofs.MatchLaws.{
+  kind-refuses,
+  symbol-refuses,
+  count-refuses,
+  literal-refuses,
+  children-rest,
+}
 use borrow.Author.Needs.{needs}
 use Rattle.interning.proofs.is_record.Statement.{statement}
 use Rattle.interning.proofs.is_record.Tie as tie
@@ -67,7 +73,8 @@ returns-4 c =
     let g = c .before .before .before .before .before .before .before .before .before .before .args in
     sym
     (literal-refuses (g .records .now) (g .literals .now) (g .i) (g .kind) (g .symbol) (g .literal) (g .children .now)
-    (c .before .before .before .before .before .before .if1 .left) (c .before .before .before .before .if2 .left) (c .before .before .if3 .left)
+    (c .before .before .before .before .before .before .if1 .left) (c .before .before .before .before .if2 .left)
+    (c .before .before .if3 .left)
     (bits-apart (getD (g .literals .now) (g .i) (pos 0)) (g .literal) (c .if4 .taken)))
 
 add-a : tie.Need-add-a
@@ -95,11 +102,15 @@ returns-5 : tie.Need-returns-5
 returns-5 c =
     let g = c .before .before .before .before .before .before .before .before .before .before .before .before .args in
     let e =
-    bits-same (getD (g .literals .now) (g .i) (pos 0)) (g .literal) (record { sfits = c .before .before .before .if42 .given })
-    (c .before .before .before .before .before .before .before .before .before .before .before .before .fits .literal) (c .before .before .if4 .left) in
+    bits-same (getD (g .literals .now) (g .i) (pos 0)) (g .literal)
+    (record { sfits = c .before .before .before .if42 .given })
+    (c .before .before .before .before .before .before .before .before .before .before .before .before .fits .literal)
+    (c .before .before .if4 .left) in
     c .are-equal .ensures
     ∙ children-rest (g .records .now) (g .literals .now) (g .i) (g .kind) (g .symbol) (g .literal) (g .children .now)
-    (c .before .before .before .before .before .before .before .before .if1 .left) (c .before .before .before .before .before .before .if2 .left) (c .before .before .before .before .if3 .left) (c .before .before .before .before .before .before .before .before .before .before .before .before .pre .1) e
+    (c .before .before .before .before .before .before .before .before .if1 .left)
+    (c .before .before .before .before .before .before .if2 .left) (c .before .before .before .before .if3 .left)
+    (c .before .before .before .before .before .before .before .before .before .before .before .before .pre .1) e
 
 pub is-record-spec : {M : Type 1} → statement M
 is-record-spec =

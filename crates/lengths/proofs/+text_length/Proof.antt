@@ -7,7 +7,14 @@ use Rattle.text_rules.specs.Forms.{each, form}
 use Rattle.pieces.specs.Pieces.{capped, nameText}
 use Rattle.heads.specs.Readable.{nodes, kindAt, arityAt, kidsAt, headText}
 use Rattle.writer.specs.Piece.{View, gapOf, piece, view}
-use Rattle.writer.proofs.PieceLaws.{body-step, piece-of-named, piece-of-unnamed, lower-of-readable, form-of-leaf, form-of-applied}
+use Rattle.writer.proofs.PieceLaws.{
+  body-step,
+  piece-of-named,
+  piece-of-unnamed,
+  lower-of-readable,
+  form-of-leaf,
+  form-of-applied,
+}
 use Rattle.writer.proofs.MeasuringLaws.{Measuring, measuring-none, measuring-again, measuring-end}
 use borrow.Author.Needs.{needs}
 use native.Mathlib.Omega.{arith}
@@ -95,7 +102,8 @@ by-name :
     text t s ≡ nameText (s .args .stem .now) (s .args .start) (s .args .bare) (placeOf t s - 1)
 by-name t s l = piece-of-named (seen t s) (s .args .lim) (s .args .m) (s .args .i) (s .args .t) l
 
-by-form : (t : ℕ) (s : Start t) → placeOf t s ≤ s .args .lim → text t s ≡ form (gap t s) (child t s) (seen t s .node (s .args .t))
+by-form : (t : ℕ) (s : Start t) → placeOf t s ≤ s .args .lim
+    → text t s ≡ form (gap t s) (child t s) (seen t s .node (s .args .t))
 by-form t s l =
     piece-of-unnamed (seen t s) (s .args .lim) (s .args .m) (s .args .i) (s .args .t) l
     ∙ body-step (seen t s) (s .args .n)
@@ -183,7 +191,8 @@ text-length-name-length-requires : (t : ℕ) → text-length-lts.Need-name-lengt
   add-reads.Asked,
   add-reads.Learnt,
 ) (text-length-at t) text-length.Post text-length-Inv-loop text-length-μ-loop
-text-length-name-length-requires t c κs = let s = c .before .before .before .before .before .before .before in omega (arith, counts t s, c .if1 .taken)
+text-length-name-length-requires t c κs =
+    let s = c .before .before .before .before .before .before .before in omega (arith, counts t s, c .if1 .taken)
 
 text-length-returns : (t : ℕ) → text-length-lts.Need-returns (
   name-length-reads.Asked,
@@ -213,7 +222,8 @@ text-length-head-length-requires : (t : ℕ) → text-length-lts.Need-head-lengt
   add-reads.Asked,
   add-reads.Learnt,
 ) (text-length-at t) text-length.Post text-length-Inv-loop text-length-μ-loop
-text-length-head-length-requires t c κs = let s = c .before .before .before .before .before .before .before in (s .pre .1 .0 .readable, s .pre .1 .1 .0)
+text-length-head-length-requires t c κs =
+    let s = c .before .before .before .before .before .before .before in (s .pre .1 .0 .readable, s .pre .1 .1 .0)
 
 text-length-mul-if2 : (t : ℕ) → text-length-lts.Need-mul-if2 (
   name-length-reads.Asked,
@@ -271,7 +281,9 @@ text-length-returns-2 : (t : ℕ) → text-length-lts.Need-returns-2 (
 ) (text-length-at t) text-length.Post text-length-Inv-loop text-length-μ-loop
 text-length-returns-2 t c =
     let s = c .before .before .before .before .before .before .before .before .before .before in
-    c .before .before .head-length .ensures ∙ ap (λ (x : List ℕ). capped (length x)) (sym (by-leaf t s (c .before .before .before .if1 .left) (c .if2 .taken)))
+    c .before .before .head-length .ensures
+    ∙ ap (λ (x : List ℕ). capped (length x))
+    (sym (by-leaf t s (c .before .before .before .if1 .left) (c .if2 .taken)))
 
 text-length-mul-gap-length : (t : ℕ) → text-length-lts.Need-mul-gap-length (
   name-length-reads.Asked,
@@ -330,7 +342,9 @@ text-length-add-gap-length-2 : (t : ℕ) → text-length-lts.Need-add-gap-length
   add-reads.Asked,
   add-reads.Learnt,
 ) (text-length-at t) text-length.Post text-length-Inv-loop text-length-μ-loop
-text-length-add-gap-length-2 t c = let s = c .before .before .before .before .before .before .before .before .before .before .before in omega (arith, s .pre .1 .1 .1)
+text-length-add-gap-length-2 t c =
+    let s = c .before .before .before .before .before .before .before .before .before .before .before in
+    omega (arith, s .pre .1 .1 .1)
 
 text-length-add-gap-length-3 : (t : ℕ) → text-length-lts.Need-add-gap-length-3 (
   name-length-reads.Asked,
@@ -344,7 +358,9 @@ text-length-add-gap-length-3 : (t : ℕ) → text-length-lts.Need-add-gap-length
   add-reads.Asked,
   add-reads.Learnt,
 ) (text-length-at t) text-length.Post text-length-Inv-loop text-length-μ-loop
-text-length-add-gap-length-3 t c = let s = c .before .before .before .before .before .before .before .before .before .before .before in omega (arith, s .pre .1 .1 .1)
+text-length-add-gap-length-3 t c =
+    let s = c .before .before .before .before .before .before .before .before .before .before .before in
+    omega (arith, s .pre .1 .1 .1)
 
 text-length-gap-length-requires : (t : ℕ) → text-length-lts.Need-gap-length-requires (
   name-length-reads.Asked,
@@ -358,7 +374,9 @@ text-length-gap-length-requires : (t : ℕ) → text-length-lts.Need-gap-length-
   add-reads.Asked,
   add-reads.Learnt,
 ) (text-length-at t) text-length.Post text-length-Inv-loop text-length-μ-loop
-text-length-gap-length-requires t c κs = let s = c .before .before .before .before .before .before .before .before .before .before .before in omega (arith, s .pre .1 .1 .1)
+text-length-gap-length-requires t c κs =
+    let s = c .before .before .before .before .before .before .before .before .before .before .before in
+    omega (arith, s .pre .1 .1 .1)
 
 text-length-mul-a : (t : ℕ) → text-length-lts.Need-mul-a (
   name-length-reads.Asked,
@@ -457,7 +475,8 @@ text-length-add-e-2 : (t : ℕ) → text-length-lts.Need-add-e-2 (
   add-reads.Learnt,
 ) (text-length-at t) text-length.Post text-length-Inv-loop text-length-μ-loop
 text-length-add-e-2 t c =
-    let s = c .before .before .before .before .before .before .before .before .before .before .before .before .before in
+    let s =
+    c .before .before .before .before .before .before .before .before .before .before .before .before .before in
     omega
     (arith, s .pre .1 .0 .readable .arity (s .args .t) (s .pre .1 .1 .0), s .pre .1 .0 .readable .few, s .pre .1 .1 .0)
 
@@ -516,7 +535,8 @@ text-length-part-ks-end : (t : ℕ) → text-length-lts.Need-part-ks-end (
   add-reads.Learnt,
 ) (text-length-at t) text-length.Post text-length-Inv-loop text-length-μ-loop
 text-length-part-ks-end t c =
-    let s = c .before .before .before .before .before .before .before .before .before .before .before .before .before in
+    let s =
+    c .before .before .before .before .before .before .before .before .before .before .before .before .before in
     omega (
       arith,
       s .pre .1 .0 .readable .arity (s .args .t) (s .pre .1 .1 .0),
@@ -537,8 +557,12 @@ text-length-loop-holds : (t : ℕ) → text-length-lts.Need-loop-holds (
   add-reads.Learnt,
 ) (text-length-at t) text-length.Post text-length-Inv-loop text-length-μ-loop
 text-length-loop-holds t c =
-    let s = c .before .before .before .before .before .before .before .before .before .before .before .before .before .before in
-    measuring-none (head t s) (gap t s) (child t s) (kids t s) (c .before .before .before .before .before .before .head-length .result) (c .before .before .before .before .before .before .head-length .ensures)
+    let s =
+    c .before .before .before .before .before .before .before .before .before .before .before
+    .before .before .before in
+    measuring-none (head t s) (gap t s) (child t s) (kids t s)
+    (c .before .before .before .before .before .before .head-length .result)
+    (c .before .before .before .before .before .before .head-length .ensures)
 
 text-length-mul-k : (t : ℕ) → text-length-lts.Need-mul-k (
   name-length-reads.Asked,
@@ -552,7 +576,15 @@ text-length-mul-k : (t : ℕ) → text-length-lts.Need-mul-k (
   add-reads.Asked,
   add-reads.Learnt,
 ) (text-length-at t) text-length.Post text-length-Inv-loop text-length-μ-loop
-text-length-mul-k t c = omega (arith, few t (c .before .before .before .before .before .before .before .before .before .before .before .before .before .before .before .before), c .loop-test .taken)
+text-length-mul-k t c =
+    omega (
+      arith,
+      few t
+          (c .before .before .before .before .before .before .before .before .before .before .before
+          .before .before .before
+          .before .before),
+      c .loop-test .taken,
+    )
 
 text-length-shared-slice-read-k : (t : ℕ) → text-length-lts.Need-shared-slice-read-k (
   name-length-reads.Asked,
@@ -580,7 +612,10 @@ text-length-add-text-length : (t : ℕ) → text-length-lts.Need-add-text-length
   add-reads.Asked,
   add-reads.Learnt,
 ) (text-length-at t) text-length.Post text-length-Inv-loop text-length-μ-loop
-text-length-add-text-length t c = let s = c .before .before .before .before .before .before .before .before .before .before .before .before .before .before .before .before .before in omega (arith, s .pre .1 .1 .1)
+text-length-add-text-length t c =
+    let s =
+    c .before .before .before .before .before .before .before .before .before .before .before .before .before .before
+    .before .before .before in omega (arith, s .pre .1 .1 .1)
 
 text-length-text-length-requires : (t : ℕ) → text-length-lts.Need-text-length-requires (
   name-length-reads.Asked,
@@ -595,9 +630,12 @@ text-length-text-length-requires : (t : ℕ) → text-length-lts.Need-text-lengt
   add-reads.Learnt,
 ) (text-length-at t) text-length.Post text-length-Inv-loop text-length-μ-loop
 text-length-text-length-requires t c κs =
-    let s = c .before .before .before .before .before .before .before .before .before .before .before .before .before .before .before .before .before in
+    let s =
+    c .before .before .before .before .before .before .before .before .before .before .before .before .before
+    .before .before .before .before in
     let k : getD (kids t s) (c .before .before .loop .j) 0 < s .args .t =
-    s .pre .1 .0 .readable .lower (s .args .t) (s .pre .1 .1 .0) (c .before .before .loop .j) (c .before .loop-test .taken) in (
+    s .pre .1 .0 .readable .lower (s .args .t) (s .pre .1 .1 .0) (c .before .before .loop .j)
+    (c .before .loop-test .taken) in (
       omega (arith, k, s .pre .0),
       (s .pre .1 .0, (omega (arith, k, s .pre .1 .1 .0), omega (arith, k, s .pre .1 .1 .1))),
     )
@@ -642,7 +680,15 @@ text-length-add-j : (t : ℕ) → text-length-lts.Need-add-j (
   add-reads.Asked,
   add-reads.Learnt,
 ) (text-length-at t) text-length.Post text-length-Inv-loop text-length-μ-loop
-text-length-add-j t c = omega (arith, few t (c .before .before .before .before .before .before .before .before .before .before .before .before .before .before .before .before .before .before .before .before), c .before .before .before .before .loop-test .taken)
+text-length-add-j t c =
+    omega (
+      arith,
+      few t
+          (c .before .before .before .before .before .before .before .before .before .before .before
+          .before .before .before
+          .before .before .before .before .before .before),
+      c .before .before .before .before .loop-test .taken,
+    )
 
 text-length-loop-less : (t : ℕ) → text-length-lts.Need-loop-less (
   name-length-reads.Asked,
@@ -671,10 +717,15 @@ text-length-loop-again : (t : ℕ) → text-length-lts.Need-loop-again (
   add-reads.Learnt,
 ) (text-length-at t) text-length.Post text-length-Inv-loop text-length-μ-loop
 text-length-loop-again t c =
-    let s = c .before .before .before .before .before .before .before .before .before .before .before .before .before .before .before .before .before .before .before .before in
+    let s =
+    c .before .before .before .before .before .before .before .before .before .before .before .before .before
+    .before .before .before .before .before .before .before in
     let l = c .before .before .before .before .before .loop in
-    measuring-again (head t s) (gap t s) (child t s) (kids t s) (l .acc) (l .j) (l .inv) (c .before .before .before .before .loop-test .taken)
-    (c .before .before .before .before .before .before .before .before .gap-length .result) (c .before .add .result) (c .before .before .text-length .result) (c .add2 .result) (c .before .before .before .before .before .before .before .before .gap-length .ensures)
+    measuring-again (head t s) (gap t s) (child t s) (kids t s) (l .acc) (l .j) (l .inv)
+    (c .before .before .before .before .loop-test .taken)
+    (c .before .before .before .before .before .before .before .before .gap-length .result) (c .before .add .result)
+    (c .before .before .text-length .result) (c .add2 .result)
+    (c .before .before .before .before .before .before .before .before .gap-length .ensures)
     (c .before .add .ensures) (c .before .before .text-length .ensures) (c .add2 .ensures)
 
 text-length-add-requires-3 : (t : ℕ) → text-length-lts.Need-add-requires-3 (
@@ -704,11 +755,15 @@ text-length-returns-3 : (t : ℕ) → text-length-lts.Need-returns-3 (
   add-reads.Learnt,
 ) (text-length-at t) text-length.Post text-length-Inv-loop text-length-μ-loop
 text-length-returns-3 t c =
-    let s = c .before .before .before .before .before .before .before .before .before .before .before .before .before .before .before .before .before in
+    let s =
+    c .before .before .before .before .before .before .before .before .before .before .before .before .before
+    .before .before .before .before in
     let l = c .before .before .loop in
     measuring-end (head t s) (gap t s) (child t s) (kids t s) (l .acc) (l .j) (l .inv) (c .before .loop-test .left)
     (c .add3 .result) (c .add3 .ensures)
-    ∙ ap (λ (x : List ℕ). capped (length x)) (sym (by-app t s (c .before .before .before .before .before .before .before .before .before .before .if1 .left) (c .before .before .before .before .before .before .before .if2 .left)))
+    ∙ ap (λ (x : List ℕ). capped (length x))
+    (sym (by-app t s (c .before .before .before .before .before .before .before .before .before .before .if1 .left)
+    (c .before .before .before .before .before .before .before .if2 .left)))
 
 pub +text-length-spec : {M : Type 1} → statement M
 +text-length-spec = close μ-text-length λ t. text-length-lts.spec (

@@ -1,5 +1,5 @@
--- `lent::load` meets its contract: a walk of its MIR, by hand. A loop copies record by record: the two local arrays are lent to
--- `put_flat` for each, and come back. Assumes nothing.
+-- `lent::load` meets its contract: a walk of its MIR, by hand. A loop copies record by record: the two local arrays
+-- are lent to `put_flat` for each, and come back. Assumes nothing.
 use mathlib.Core.Path.{_≡_, refl, sym, ap, subst}
 use Prim.Native.Nat.{ℕ, _<_, _≤_, _+_, _-_, _*_, _^_, min}
 use native.Mathlib.Omega.{arith}
@@ -468,7 +468,17 @@ module _ {M : Type 1} (𝓤 : URA M) (H : Heap 𝓤) (A : Atoms 𝓤) (W : Given
         keep ! (34 ∷ 0 ∷ 2 ∷ 3 ∷ 4 ∷ 5 ∷ 6 ∷ 7 ∷ 8 ∷ 9 ∷ 10 ∷ 11 ∷ 12 ∷ 13 ∷ 14 ∷ 15 ∷ 16 ∷ 17 ∷ 18 ∷ 19 ∷ 20 ∷ 21 ∷
         22 ∷ 23 ∷ 24 ∷ 25 ∷ 26 ∷ 27 ∷ 28 ∷ 29 ∷ 30 ∷ 31 ∷ 32 ∷ 33 ∷ []) $
         looped n en (isn .1) l₀ l₁ l₂ l₃ l₄ l₅ l₆ l₇ l₈ l₉ l₁₀ l₁₁ l₁₂ l₁₃ l₁₄ l₁₅
-        record { i = 0; rs = rs; ls = ls; vr = w₂; vl = w₃; within = omega arith; isr = isr; isl = isl; copied = copied-none ys rs ls })))))))))))))))))))
+        record {
+          i = 0;
+          rs = rs;
+          ls = ls;
+          vr = w₂;
+          vl = w₃;
+          within = omega arith;
+          isr = isr;
+          isl = isl;
+          copied = copied-none ys rs ls;
+        })))))))))))))))))))
 
 module _ {M : Type 1} (𝓤 : URA M) (H : Heap 𝓤) (A : Atoms 𝓤) (W : Given 𝓤 H A)
     (mem : Memory → SProp 𝓤) (run : Routine → Fun 𝓤) (𝓣 : Tables 𝓤 H)

@@ -1,5 +1,5 @@
--- `lent::put_at` meets its contract: a walk of its MIR, by hand. The borrow is opened, record i is taken out of the row and stored to, t is put in its place, and the borrow is closed at the list with t at i.
--- Assumes nothing.
+-- `lent::put_at` meets its contract: a walk of its MIR, by hand. The borrow is opened, record i is taken out of the
+-- row and stored to, t is put in its place, and the borrow is closed at the list with t at i. Assumes nothing.
 use mathlib.Core.Path.{_≡_, refl, sym, ap, subst}
 use Prim.Native.Nat.{ℕ, _<_, _*_, _^_}
 use native.Mathlib.Omega.{arith}
@@ -52,7 +52,10 @@ use Rattle.lent.proofs.put_at.Statement as stated
 use Rattle.lent.proofs.put_at.Code as code
 
 abbrev stayed : Stays (it.ended .signature .params) (it.ended .kept)
-stayed = (stay-slice (0 ∷ []) tt (plain (λ _. T.the-row)), (stay-none (λ _. usize) yes, (stay-none (λ _. T.the-row) yes, tt)))
+stayed = (
+  stay-slice (0 ∷ []) tt (plain (λ _. T.the-row)),
+  (stay-none (λ _. usize) yes, (stay-none (λ _. T.the-row) yes, tt)),
+)
 
 abbrev vals : Term → List Val
 vals t = T′.lowered t ∷ []
@@ -83,8 +86,10 @@ module _ {M : Type 1} (𝓤 : URA M) (H : Heap 𝓤) (A : Atoms 𝓤) (W : Given
       (((κ, tt), (q, tt), tt, (x ys, (i, (v, tt))), at), tt) vunit tt (zs, (tt, (tt, tt)))
       (length-set ys i v, (tt, (tt, tt)))) $ says ! refl $
       nothing ! $ move ! (3 ∷ 0 ∷ []) $ join ! $ frame ! $ fjoin ! $
-      pureI ! (at-slice T.the-row (x zs) (at .0)) (tt, (tt, tt))
-      (ap (λ (m : ℕ). sliceVal (b, o) m ∷ []) (sym (length-set ys i v)), subst (Room T.the-row) (sym (length-set ys i v)) gn)
+      pureI ! (at-slice T.the-row (x zs) (at .0)) (tt, (tt, tt)) (
+        ap (λ (m : ℕ). sliceVal (b, o) m ∷ []) (sym (length-set ys i v)),
+        subst (Room T.the-row) (sym (length-set ys i v)) gn,
+      )
       $ fjoin ! $
       nothing ! $ owned ! T.the-row (Is T.the-row) (LL.makes T.the-type T′.the-plain 𝓤 H A) v _ gv $ fjoin ! $
       owned ! usize (Is usize) (uint-makes 𝓤 H A W w64) i _ (refl, gi) $ fjoin ! $ move ! (1 ∷ 0 ∷ []) $
@@ -113,7 +118,8 @@ module _ {M : Type 1} (𝓤 : URA M) (H : Heap 𝓤) (A : Atoms 𝓤) (W : Given
         opens-slice ! tt T.the-row ys b o $
         elem-out ! T.the-row (Is T.the-row) (shows 𝓤 H A T.the-row) vals (T′.lowers .val-is) fullShare ys i noTerm b
         o l (λ _.
-        -- [ts[i]; what it owns; the others; the open borrow; obs; auth; true; ts's fact; i's and t's; _5; …; _4; …; _3; …; _2; …; _1; …; _0; …]
+        -- [ts[i]; what it owns; the others; the open borrow; obs; auth; true; ts's fact; i's and t's; _5; …; _4; …;
+        -- _3; …; _2; …; _1; …; _0; …]
         assigns ! (of-opd ! (load ! (from ! (stop !)) (look ! 13 refl))) (from ! (hop ! (look ! 9 refl) (stop !)))
         (store-raw ! 0 refl typed) $
         move ! (1 ∷ []) $ drop ! $ owned ! T.the-row (Is T.the-row) (LL.makes T.the-type T′.the-plain 𝓤 H A) v _ gv $
@@ -146,8 +152,13 @@ module _ {M : Type 1} (𝓤 : URA M) (H : Heap 𝓤) (A : Atoms 𝓤) (W : Given
 meets : {M : Type 1} (𝓤 : URA M) (H : Heap 𝓤) (A : Atoms 𝓤) → Given 𝓤 H A → (mem : Memory → SProp 𝓤) (run : Routine →
     Fun 𝓤) (𝓣 : Tables 𝓤 H)
     → Meets 𝓤 H A it.signature (WpFn 𝓤 H (𝓣 .C) (𝓣 .Λ) code.function) (it.spec 𝓤 H A mem run)
-meets 𝓤 H A W mem run 𝓣 = walk-meets 𝓤 H A it.ended stayed W
-    (goes-slice 𝓤 H A W 1 0 tt (plain (λ _. T.the-row)), (goes-none 𝓤 H A W 1 (λ _. usize) yes (λ κs x f. refl), (goes-none 𝓤 H A W 1 (λ _. T.the-row) yes (λ κs x f. refl), tt)))
+meets 𝓤 H A W mem run 𝓣 = walk-meets 𝓤 H A it.ended stayed W (
+  goes-slice 𝓤 H A W 1 0 tt (plain (λ _. T.the-row)),
+  (
+    goes-none 𝓤 H A W 1 (λ _. usize) yes (λ κs x f. refl),
+    (goes-none 𝓤 H A W 1 (λ _. T.the-row) yes (λ κs x f. refl), tt),
+  ),
+)
     (it.clauses 𝓤 H A mem run) (WpFn 𝓤 H (𝓣 .C) (𝓣 .Λ) code.function) (WpFn-mono 𝓤 H (W .laws) 𝓣 code.function)
     (walks 𝓤 H A W mem run (𝓣 .C) (𝓣 .Λ))
 

@@ -1,5 +1,5 @@
--- `lent::unload` meets its contract: a walk of its MIR, by hand. A loop puts record by record back: the two local arrays are shown
--- to `records::record_at` for each, and the slice is lent again to `put_at`. Assumes nothing.
+-- `lent::unload` meets its contract: a walk of its MIR, by hand. A loop puts record by record back: the two local
+-- arrays are shown to `records::record_at` for each, and the slice is lent again to `put_at`. Assumes nothing.
 use mathlib.Core.Path.{_≡_, refl, sym, _∙_, ap, subst}
 use Prim.Native.Nat.{ℕ, _<_, _≤_, _+_, _-_, _^_}
 use native.Mathlib.Omega.{arith}
@@ -187,8 +187,10 @@ module _ {M : Type 1} (𝓤 : URA M) (H : Heap 𝓤) (A : Atoms 𝓤) (W : Given
 
   abbrev to-put : (ν : ℕ) (δ : GName) (zs : List Term) (i : ℕ) (r : Term) (w : Val) →
       Of 𝓤 H A put.ended (put.clauses 𝓤 H A mem run) .Ghost
-  to-put ν δ zs i r w =
-      (((ν ∷ [], tt), (fullShare, tt), tt, (ref b o δ zs, (i, (r, tt))), (s ∷ [], (vint w64 i ∷ [], (w ∷ [], tt)))), tt)
+  to-put ν δ zs i r w = (
+    ((ν ∷ [], tt), (fullShare, tt), tt, (ref b o δ zs, (i, (r, tt))), (s ∷ [], (vint w64 i ∷ [], (w ∷ [], tt)))),
+    tt,
+  )
 
   goes-put :
       (ν : ℕ) (δ : GName) (zs : List Term) (i : ℕ) (r : Term) (w : Val) →
@@ -346,7 +348,11 @@ module _ {M : Type 1} (𝓤 : URA M) (H : Heap 𝓤) (A : Atoms 𝓤) (W : Given
           next-fits = omega (arith, less, gn)
 
           stands : InRecords rs ls i
-          stands = record { numbers = omega (arith, less, small, isr .1 .0 .1); literal = omega (arith, less, small, isl .1 .0 .1) }
+          stands =
+              record {
+                numbers = omega (arith, less, small, isr .1 .0 .1);
+                literal = omega (arith, less, small, isl .1 .0 .1);
+              }
       turn t false test =
           assigns ! (bin ! (load ! (from ! (stop !)) (look ! 20 refl)) (load ! (from ! (stop !)) (look ! 22 refl))
           tt) (from ! (stop !)) (init ! 16 refl (tt, tt)) $
@@ -410,8 +416,10 @@ module _ {M : Type 1} (𝓤 : URA M) (H : Heap 𝓤) (A : Atoms 𝓤) (W : Given
 
   meets : Meets 𝓤 H A it.signature (WpFn 𝓤 H (𝓣 .C) (𝓣 .Λ) code.function) (it.spec 𝓤 H A mem run)
   meets =
-      walk-meets 𝓤 H A it.ended stayed W
-      (goes-slice 𝓤 H A W 1 0 tt (plain (λ _. T.the-row)), (goes-dropped 𝓤 H A W 1 (plain (λ _. F.the-row)) yes (λ κs x f. refl), tt))
+      walk-meets 𝓤 H A it.ended stayed W (
+        goes-slice 𝓤 H A W 1 0 tt (plain (λ _. T.the-row)),
+        (goes-dropped 𝓤 H A W 1 (plain (λ _. F.the-row)) yes (λ κs x f. refl), tt),
+      )
       (it.clauses 𝓤 H A mem run) (WpFn 𝓤 H (𝓣 .C) (𝓣 .Λ) code.function) (WpFn-mono 𝓤 H (W .laws) 𝓣 code.function)
       walks
 

@@ -46,7 +46,10 @@ add-requires c κs = search needs
 body-width-requires : tie.Need-body-width-requires
 body-width-requires c κs =
     let s = c .before .before .before .before .before .before .before in (
-      (omega (arith, s .pre .0 .readable .few, s .pre .1 .0), omega (arith, s .pre .0 .readable .inRecords, s .pre .1 .0)),
+      (
+        omega (arith, s .pre .0 .readable .few, s .pre .1 .0),
+        omega (arith, s .pre .0 .readable .inRecords, s .pre .1 .0),
+      ),
       (
         omega (arith, s .pre .0 .inWides, s .pre .1 .0),
         omega (arith, s .pre .0 .wideLow (s .args .t) (s .pre .1 .0), s .pre .1 .1 .0),
@@ -70,19 +73,27 @@ add-requires-4 c κs = search needs
 
 returns : tie.Need-returns
 returns c =
-    let s = c .before .before .before .before .before .before .before .before .before .before .before .before .before in
-    line-measured (length (seen s .name (s .args .k))) (length (gapOfBody s)) (length (body (seen s) 2 (s .args .i) (s .args .t)))
-    (c .before .before .before .before .before .before .add .result) (c .before .before .add2 .result) (c .before .add3 .result) (c .add4 .result)
-    (c .before .before .before .before .before .before .add .ensures ∙ ap (λ (x : ℕ). capped (5 + x)) (c .before .before .before .before .before .before .before .name-length .ensures))
+    let s =
+    c .before .before .before .before .before .before .before .before .before .before .before .before .before in
+    line-measured (length (seen s .name (s .args .k))) (length (gapOfBody s))
+    (length (body (seen s) 2 (s .args .i) (s .args .t)))
+    (c .before .before .before .before .before .before .add .result) (c .before .before .add2 .result)
+    (c .before .add3 .result) (c .add4 .result)
+    (c .before .before .before .before .before .before .add .ensures ∙ ap (λ (x : ℕ). capped (5 + x))
+    (c .before .before .before .before .before .before .before .name-length .ensures))
     (c .before .before .add2 .ensures
     ∙ ap (λ (x : ℕ). capped (c .before .before .before .before .before .before .add .result + x))
-    (gap-is s (c .before .before .before .before .gap-length .result) (c .before .before .before .before .before .body-width .result) (c .before .before .before .before .before .body-width .ensures) (c .before .before .before .before .gap-length .ensures)))
+    (gap-is s (c .before .before .before .before .gap-length .result)
+    (c .before .before .before .before .before .body-width .result)
+    (c .before .before .before .before .before .body-width .ensures)
+    (c .before .before .before .before .gap-length .ensures)))
     (c .before .add3 .ensures
     ∙ ap (λ (x : ℕ). capped (c .before .before .add2 .result + x))
     (c .before .before .before .text-length .ensures ∙ ap (λ (x : List ℕ). capped (length x)) (own-piece s)))
     (c .add4 .ensures)
     ∙ ap capped
-    (sym (lineText-length (seen s) (s .args .records .now) (s .args .wides .now) (s .args .i) (s .args .t) (s .args .k)))
+    (sym (lineText-length (seen s) (s .args .records .now) (s .args .wides .now) (s .args .i)
+    (s .args .t) (s .args .k)))
 
 pub line-length-spec : {M : Type 1} → statement M
 line-length-spec =

@@ -32,20 +32,30 @@ seen s =
 loop-holds : tie.Need-loop-holds Inv-loop μ-loop
 loop-holds c =
     let s = c .before .before .before .before .before .before .before in
-    let z = ap length (linesTo-none (seen s) (s .args .records .now) (s .args .wides .now) (s .args .terms .now) (s .args .indents .now)) in
+    let z =
+    ap length (linesTo-none (seen s) (s .args .records .now) (s .args .wides .now) (s .args .terms .now)
+    (s .args .indents .now)) in
     (omega arith, omega (arith, z))
 
 mul-i : tie.Need-mul-i Inv-loop μ-loop
-mul-i c = let s = c .before .before .before .before .before .before .before .before .before in omega (arith, s .pre .1 .inIndents, c .loop-test .taken, s .good)
+mul-i c =
+    let s = c .before .before .before .before .before .before .before .before .before in
+    omega (arith, s .pre .1 .inIndents, c .loop-test .taken, s .good)
 
 shared-slice-read-i : tie.Need-shared-slice-read-i Inv-loop μ-loop
-shared-slice-read-i c = let s = c .before .before .before .before .before .before .before .before .before .before in omega (arith, s .pre .1 .inIndents, c .before .loop-test .taken)
+shared-slice-read-i c =
+    let s = c .before .before .before .before .before .before .before .before .before .before in
+    omega (arith, s .pre .1 .inIndents, c .before .loop-test .taken)
 
 mul-t : tie.Need-mul-t Inv-loop μ-loop
-mul-t c = let s = c .before .before .before .before .before .before .before .before .before .before in omega (arith, s .pre .1 .inTerms, c .before .loop-test .taken, s .good)
+mul-t c =
+    let s = c .before .before .before .before .before .before .before .before .before .before in
+    omega (arith, s .pre .1 .inTerms, c .before .loop-test .taken, s .good)
 
 shared-slice-read-t : tie.Need-shared-slice-read-t Inv-loop μ-loop
-shared-slice-read-t c = let s = c .before .before .before .before .before .before .before .before .before .before .before in omega (arith, s .pre .1 .inTerms, c .before .before .loop-test .taken)
+shared-slice-read-t c =
+    let s = c .before .before .before .before .before .before .before .before .before .before .before in
+    omega (arith, s .pre .1 .inTerms, c .before .before .loop-test .taken)
 
 line-length-requires : tie.Need-line-length-requires Inv-loop μ-loop
 line-length-requires c κs =
@@ -65,18 +75,24 @@ add-requires : tie.Need-add-requires Inv-loop μ-loop
 add-requires c κs = omega (arith, c .before .before .before .before .loop .inv .1)
 
 add-k : tie.Need-add-k Inv-loop μ-loop
-add-k c = let s = c .before .before .before .before .before .before .before .before .before .before .before .before .before in omega (arith, s .pre .1 .low, c .before .before .before .before .loop-test .taken)
+add-k c =
+    let s =
+    c .before .before .before .before .before .before .before .before .before .before .before .before .before in
+    omega (arith, s .pre .1 .low, c .before .before .before .before .loop-test .taken)
 
 loop-less : tie.Need-loop-less Inv-loop μ-loop
 loop-less c = search needs
 
 loop-again : tie.Need-loop-again Inv-loop μ-loop
 loop-again c =
-    let s = c .before .before .before .before .before .before .before .before .before .before .before .before .before in
+    let s =
+    c .before .before .before .before .before .before .before .before .before .before .before .before .before in
     let l = c .before .before .before .before .before .loop in (
       omega arith,
-      lines-measured (seen s) (s .args .records .now) (s .args .wides .now) (s .args .terms .now) (s .args .indents .now)
-          (l .k) (l .acc) (c .before .line-length .result) (c .add .result) (l .inv .1) (c .before .line-length .ensures) (c .add .ensures),
+      lines-measured (seen s) (s .args .records .now) (s .args .wides .now) (s .args .terms .now)
+          (s .args .indents .now)
+          (l .k) (l .acc) (c .before .line-length .result) (c .add .result) (l .inv .1)
+          (c .before .line-length .ensures) (c .add .ensures),
     )
 
 returns : tie.Need-returns Inv-loop μ-loop

@@ -11,7 +11,16 @@ use Rattle.writer.specs.Piece.{View, view, piece, body}
 use Rattle.writer.proofs.PieceLaws.{piece-of-unnamed}
 use Rattle.lines.specs.Lines.{bodyWidth, openText}
 use Rattle.lines.proofs.LineLaws.{lineText-is, lineText-length}
-use Rattle.lines.proofs.ThreeLaws.{first-place, second-fits, second-place, second-low, third-fits, third-end, third-length, third-wrote}
+use Rattle.lines.proofs.ThreeLaws.{
+  first-place,
+  second-fits,
+  second-place,
+  second-low,
+  third-fits,
+  third-end,
+  third-length,
+  third-wrote,
+}
 use native.Mathlib.Omega.{arith}
 use borrow.Author.Needs.{needs}
 use Rattle.lines.proofs.put_line.Statement.{statement}
@@ -61,7 +70,9 @@ gap-wrote s w e {r} {o} {q} x = subst (λ (y : ℕ). Wrote (gapText (ltb 80 y) 2
 -- after the body
 end-of :
     (c : tie.After-slice-known4) →
-    let s = c .before .before .before .before .before .before .before .before .before .before .before .before .before .before .before .before .before .before .before in
+    let s =
+    c .before .before .before .before .before .before .before .before .before .before .before .before .before
+    .before .before .before .before .before .before in
     let p₁ = c .before .before .before .before .before .before .before .before .before .before .put-open .result in
     let p₂ = p₁ + c .before .before .before .before .before .before .put-gap .result in
     let o₁ = c .before .before .before .before .before .before .before .before .before .before .put-open .last .0 in
@@ -69,21 +80,44 @@ end-of :
     (p₂ + c .before .before .put .result + 2 ≤ length (s .args .out .now))
     × (length (putMid p₂ (length o₂ - p₂) o₂ (c .before .before .put .last .0)) ≡ length (s .args .out .now))
 end-of c =
-    let s = c .before .before .before .before .before .before .before .before .before .before .before .before .before .before .before .before .before .before .before in (
-      third-end (s .args .out .now) (opening s) (gapOfBody s) (bodyOf s) (room s) (c .before .before .before .before .before .before .before .before .before .before .put-open .last .0)
-          (c .before .before .before .before .before .before .before .before .before .before .put-open .result) (c .before .before .before .before .before .before .before .before .before .before .put-open .ensures) (c .before .before .before .before .before .before .put-gap .last .0) (c .before .before .before .before .before .before .put-gap .result)
-          (gap-wrote s (c .before .before .before .before .before .before .before .before .before .before .before .before .body-width .result) (c .before .before .before .before .before .before .before .before .before .before .before .before .body-width .ensures) (c .before .before .before .before .before .before .put-gap .ensures)) (c .before .before .put .last .0)
+    let s =
+    c .before .before .before .before .before .before .before .before .before .before .before .before .before
+    .before .before .before .before .before .before in (
+      third-end (s .args .out .now) (opening s) (gapOfBody s) (bodyOf s) (room s)
+          (c .before .before .before .before .before .before .before .before .before .before .put-open .last .0)
+          (c .before .before .before .before .before .before .before .before .before .before .put-open .result)
+          (c .before .before .before .before .before .before .before .before .before .before .put-open .ensures)
+          (c .before .before .before .before .before .before .put-gap .last .0)
+          (c .before .before .before .before .before .before .put-gap .result)
+          (gap-wrote s
+          (c .before .before .before .before .before .before .before .before .before .before .before .before
+          .body-width .result)
+          (c .before .before .before .before .before .before .before .before .before .before .before .before
+          .body-width .ensures) (c .before .before .before .before .before .before .put-gap .ensures))
+          (c .before .before .put .last .0)
           (c .before .before .put .result) (rw (own-piece s) at (c .before .before .put .ensures)),
-      third-length (s .args .out .now) (opening s) (gapOfBody s) (bodyOf s) (room s) (c .before .before .before .before .before .before .before .before .before .before .put-open .last .0)
-          (c .before .before .before .before .before .before .before .before .before .before .put-open .result) (c .before .before .before .before .before .before .before .before .before .before .put-open .ensures) (c .before .before .before .before .before .before .put-gap .last .0) (c .before .before .before .before .before .before .put-gap .result)
-          (gap-wrote s (c .before .before .before .before .before .before .before .before .before .before .before .before .body-width .result) (c .before .before .before .before .before .before .before .before .before .before .before .before .body-width .ensures) (c .before .before .before .before .before .before .put-gap .ensures)) (c .before .before .put .last .0)
+      third-length (s .args .out .now) (opening s) (gapOfBody s) (bodyOf s) (room s)
+          (c .before .before .before .before .before .before .before .before .before .before .put-open .last .0)
+          (c .before .before .before .before .before .before .before .before .before .before .put-open .result)
+          (c .before .before .before .before .before .before .before .before .before .before .put-open .ensures)
+          (c .before .before .before .before .before .before .put-gap .last .0)
+          (c .before .before .before .before .before .before .put-gap .result)
+          (gap-wrote s
+          (c .before .before .before .before .before .before .before .before .before .before .before .before
+          .body-width .result)
+          (c .before .before .before .before .before .before .before .before .before .before .before .before
+          .body-width .ensures) (c .before .before .before .before .before .before .put-gap .ensures))
+          (c .before .before .put .last .0)
           (c .before .before .put .result) (rw (own-piece s) at (c .before .before .put .ensures)),
     )
 
 body-width-requires : tie.Need-body-width-requires
 body-width-requires c κs =
     let s = c .before .before .before .before .before .before in (
-      (omega (arith, s .pre .0 .readable .few, s .pre .1 .0), omega (arith, s .pre .0 .readable .inRecords, s .pre .1 .0)),
+      (
+        omega (arith, s .pre .0 .readable .few, s .pre .1 .0),
+        omega (arith, s .pre .0 .readable .inRecords, s .pre .1 .0),
+      ),
       (
         omega (arith, s .pre .0 .inWides, s .pre .1 .0),
         omega (arith, s .pre .0 .wideLow (s .args .t) (s .pre .1 .0), s .pre .1 .1 .0),
@@ -98,7 +132,8 @@ put-open-requires c κs =
 sub-put-gap : tie.Need-sub-put-gap
 sub-put-gap c =
     let s = c .before .before .before .before .before .before .before .before .before .before .before in
-    first-place (s .args .out .now) (opening s) (gapOfBody s) (bodyOf s) (room s) (c .before .before .put-open .last .0)
+    first-place (s .args .out .now) (opening s) (gapOfBody s) (bodyOf s) (room s)
+    (c .before .before .put-open .last .0)
     (c .before .before .put-open .result) (c .before .before .put-open .ensures)
 
 part-put-gap-start : tie.Need-part-put-gap-start
@@ -111,26 +146,41 @@ put-gap-requires : tie.Need-put-gap-requires
 put-gap-requires c κs =
     let s = c .before .before .before .before .before .before .before .before .before .before .before .before in
     rw (c .before .before .before .before .before .body-width .ensures)
-    (second-fits (s .args .out .now) (opening s) (gapOfBody s) (bodyOf s) (room s) (c .before .before .before .put-open .last .0)
+    (second-fits (s .args .out .now) (opening s) (gapOfBody s) (bodyOf s) (room s)
+    (c .before .before .before .put-open .last .0)
     (c .before .before .before .put-open .result) (c .before .before .before .put-open .ensures))
 
 add-p : tie.Need-add-p
 add-p c =
-    let s = c .before .before .before .before .before .before .before .before .before .before .before .before .before .before .before in
+    let s =
+    c .before .before .before .before .before .before .before .before .before .before .before .before
+    .before .before .before in
     omega (
       arith,
       s .good,
-      second-low (s .args .out .now) (opening s) (gapOfBody s) (bodyOf s) (room s) (c .before .before .before .before .before .before .put-open .last .0)
-          (c .before .before .before .before .before .before .put-open .result) (c .before .before .before .before .before .before .put-open .ensures) (c .before .before .put-gap .last .0) (c .before .before .put-gap .result)
-          (gap-wrote s (c .before .before .before .before .before .before .before .before .body-width .result) (c .before .before .before .before .before .before .before .before .body-width .ensures) (c .before .before .put-gap .ensures)),
+      second-low (s .args .out .now) (opening s) (gapOfBody s) (bodyOf s) (room s)
+          (c .before .before .before .before .before .before .put-open .last .0)
+          (c .before .before .before .before .before .before .put-open .result)
+          (c .before .before .before .before .before .before .put-open .ensures)
+          (c .before .before .put-gap .last .0) (c .before .before .put-gap .result)
+          (gap-wrote s (c .before .before .before .before .before .before .before .before .body-width .result)
+          (c .before .before .before .before .before .before .before .before .body-width .ensures)
+          (c .before .before .put-gap .ensures)),
     )
 
 sub-put : tie.Need-sub-put
 sub-put c =
-    let s = c .before .before .before .before .before .before .before .before .before .before .before .before .before .before .before in
-    second-place (s .args .out .now) (opening s) (gapOfBody s) (bodyOf s) (room s) (c .before .before .before .before .before .before .put-open .last .0)
-    (c .before .before .before .before .before .before .put-open .result) (c .before .before .before .before .before .before .put-open .ensures) (c .before .before .put-gap .last .0) (c .before .before .put-gap .result)
-    (gap-wrote s (c .before .before .before .before .before .before .before .before .body-width .result) (c .before .before .before .before .before .before .before .before .body-width .ensures) (c .before .before .put-gap .ensures))
+    let s =
+    c .before .before .before .before .before .before .before .before .before .before .before .before
+    .before .before .before in
+    second-place (s .args .out .now) (opening s) (gapOfBody s) (bodyOf s) (room s)
+    (c .before .before .before .before .before .before .put-open .last .0)
+    (c .before .before .before .before .before .before .put-open .result)
+    (c .before .before .before .before .before .before .put-open .ensures) (c .before .before .put-gap .last .0)
+    (c .before .before .put-gap .result)
+    (gap-wrote s (c .before .before .before .before .before .before .before .before .body-width .result)
+    (c .before .before .before .before .before .before .before .before .body-width .ensures)
+    (c .before .before .put-gap .ensures))
 
 part-put-start : tie.Need-part-put-start
 part-put-start c = sub-put c
@@ -140,45 +190,82 @@ part-put-end c = search needs
 
 put-requires : tie.Need-put-requires
 put-requires c κs =
-    let s = c .before .before .before .before .before .before .before .before .before .before .before .before .before .before .before .before in (
+    let s =
+    c .before .before .before .before .before .before .before .before .before .before .before .before .before
+    .before .before .before in (
       s .pre .0,
       (
         s .pre .1 .0,
         (
           s .pre .1 .1 .0,
           rw (own-piece s)
-              (third-fits (s .args .out .now) (opening s) (gapOfBody s) (bodyOf s) (room s) (c .before .before .before .before .before .before .before .put-open .last .0)
-              (c .before .before .before .before .before .before .before .put-open .result) (c .before .before .before .before .before .before .before .put-open .ensures) (c .before .before .before .put-gap .last .0) (c .before .before .before .put-gap .result)
-              (gap-wrote s (c .before .before .before .before .before .before .before .before .before .body-width .result) (c .before .before .before .before .before .before .before .before .before .body-width .ensures) (c .before .before .before .put-gap .ensures))),
+              (third-fits (s .args .out .now) (opening s) (gapOfBody s) (bodyOf s) (room s)
+              (c .before .before .before .before .before .before .before .put-open .last .0)
+              (c .before .before .before .before .before .before .before .put-open .result)
+              (c .before .before .before .before .before .before .before .put-open .ensures)
+              (c .before .before .before .put-gap .last .0) (c .before .before .before .put-gap .result)
+              (gap-wrote s
+              (c .before .before .before .before .before .before .before .before .before .body-width .result)
+              (c .before .before .before .before .before .before .before .before .before .body-width .ensures)
+              (c .before .before .before .put-gap .ensures))),
         ),
       ),
     )
 
 add-p-2 : tie.Need-add-p-2
-add-p-2 c = omega (arith, c .before .before .before .before .before .before .before .before .before .before .before .before .before .before .before .before .before .before .before .good, end-of c .0)
+add-p-2 c =
+    omega (
+      arith,
+      c .before .before .before .before .before .before .before .before .before .before .before .before .before .before
+          .before .before .before .before .before .good,
+      end-of c .0,
+    )
 
 slice-write-out : tie.Need-slice-write-out
 slice-write-out c = omega (arith, end-of c .0, end-of c .1)
 
 add-out : tie.Need-add-out
-add-out c = omega (arith, c .before .before .before .before .before .before .before .before .before .before .before .before .before .before .before .before .before .before .before .good, end-of c .0)
+add-out c =
+    omega (
+      arith,
+      c .before .before .before .before .before .before .before .before .before .before .before .before .before .before
+          .before .before .before .before .before .good,
+      end-of c .0,
+    )
 
 slice-write-out-2 : tie.Need-slice-write-out-2
 slice-write-out-2 c = simp length-set (omega (arith, end-of c .0, end-of c .1))
 
 add-result : tie.Need-add-result
-add-result c = omega (arith, c .before .before .before .before .before .before .before .before .before .before .before .before .before .before .before .before .before .before .before .good, end-of c .0)
+add-result c =
+    omega (
+      arith,
+      c .before .before .before .before .before .before .before .before .before .before .before .before .before .before
+          .before .before .before .before .before .good,
+      end-of c .0,
+    )
 
 same-length : tie.Need-same-length
 same-length c = simp length-set (end-of c .1)
 
 returns : tie.Need-returns
 returns c =
-    let s = c .before .before .before .before .before .before .before .before .before .before .before .before .before .before .before .before .before .before .before in
+    let s =
+    c .before .before .before .before .before .before .before .before .before .before .before .before .before
+    .before .before .before .before .before .before in
     rw (lineText-is (seen s) (s .args .records .now) (s .args .wides .now) (s .args .i) (s .args .t) (s .args .k))
-    (third-wrote (s .args .out .now) (opening s) (gapOfBody s) (bodyOf s) (room s) (c .before .before .before .before .before .before .before .before .before .before .put-open .last .0)
-    (c .before .before .before .before .before .before .before .before .before .before .put-open .result) (c .before .before .before .before .before .before .before .before .before .before .put-open .ensures) (c .before .before .before .before .before .before .put-gap .last .0) (c .before .before .before .before .before .before .put-gap .result)
-    (gap-wrote s (c .before .before .before .before .before .before .before .before .before .before .before .before .body-width .result) (c .before .before .before .before .before .before .before .before .before .before .before .before .body-width .ensures) (c .before .before .before .before .before .before .put-gap .ensures)) (c .before .before .put .last .0)
+    (third-wrote (s .args .out .now) (opening s) (gapOfBody s) (bodyOf s) (room s)
+    (c .before .before .before .before .before .before .before .before .before .before .put-open .last .0)
+    (c .before .before .before .before .before .before .before .before .before .before .put-open .result)
+    (c .before .before .before .before .before .before .before .before .before .before .put-open .ensures)
+    (c .before .before .before .before .before .before .put-gap .last .0)
+    (c .before .before .before .before .before .before .put-gap .result)
+    (gap-wrote s
+    (c .before .before .before .before .before .before .before .before .before .before .before .before .body-width
+    .result)
+    (c .before .before .before .before .before .before .before .before .before .before .before .before .body-width
+    .ensures) (c .before .before .before .before .before .before .put-gap .ensures))
+    (c .before .before .put .last .0)
     (c .before .before .put .result) (rw (own-piece s) at (c .before .before .put .ensures)) 41 10)
 
 pub put-line-spec : {M : Type 1} → statement M

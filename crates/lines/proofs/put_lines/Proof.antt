@@ -1,7 +1,16 @@
 -- `lines::put_lines` meets its contract: the lines passed stand. Assumes nothing.
 use Prim.Native.Nat.{_-_}
 use Rattle.writer.specs.Piece.{View, view}
-use Rattle.lines.proofs.LineLaws.{Lining, lining-none, lining-length, lining-place, lining-fits, lining-again, lining-next, lining-end}
+use Rattle.lines.proofs.LineLaws.{
+  Lining,
+  lining-none,
+  lining-length,
+  lining-place,
+  lining-fits,
+  lining-again,
+  lining-next,
+  lining-end,
+}
 use borrow.Author.Needs.{needs}
 use native.Mathlib.Omega.{arith}
 use Rattle.lines.proofs.put_lines.Statement.{statement}
@@ -29,16 +38,24 @@ loop-holds c =
     (s .args .m) (s .args .out .now)
 
 mul-i : tie.Need-mul-i Inv-loop μ-loop
-mul-i c = let s = c .before .before .before .before .before .before .before .before .before .before in omega (arith, s .pre .1 .0 .inIndents, c .loop-test .taken, s .good)
+mul-i c =
+    let s = c .before .before .before .before .before .before .before .before .before .before in
+    omega (arith, s .pre .1 .0 .inIndents, c .loop-test .taken, s .good)
 
 shared-slice-read-i : tie.Need-shared-slice-read-i Inv-loop μ-loop
-shared-slice-read-i c = let s = c .before .before .before .before .before .before .before .before .before .before .before in omega (arith, s .pre .1 .0 .inIndents, c .before .loop-test .taken)
+shared-slice-read-i c =
+    let s = c .before .before .before .before .before .before .before .before .before .before .before in
+    omega (arith, s .pre .1 .0 .inIndents, c .before .loop-test .taken)
 
 mul-t : tie.Need-mul-t Inv-loop μ-loop
-mul-t c = let s = c .before .before .before .before .before .before .before .before .before .before .before in omega (arith, s .pre .1 .0 .inTerms, c .before .loop-test .taken, s .good)
+mul-t c =
+    let s = c .before .before .before .before .before .before .before .before .before .before .before in
+    omega (arith, s .pre .1 .0 .inTerms, c .before .loop-test .taken, s .good)
 
 shared-slice-read-t : tie.Need-shared-slice-read-t Inv-loop μ-loop
-shared-slice-read-t c = let s = c .before .before .before .before .before .before .before .before .before .before .before .before in omega (arith, s .pre .1 .0 .inTerms, c .before .before .loop-test .taken)
+shared-slice-read-t c =
+    let s = c .before .before .before .before .before .before .before .before .before .before .before .before in
+    omega (arith, s .pre .1 .0 .inTerms, c .before .before .loop-test .taken)
 
 sub-put-line : tie.Need-sub-put-line Inv-loop μ-loop
 sub-put-line c =
@@ -55,7 +72,8 @@ part-put-line-end c = search needs
 
 put-line-requires : tie.Need-put-line-requires Inv-loop μ-loop
 put-line-requires c κs =
-    let s = c .before .before .before .before .before .before .before .before .before .before .before .before .before in
+    let s =
+    c .before .before .before .before .before .before .before .before .before .before .before .before .before in
     let l = c .before .before .before .before .loop in (
       s .pre .0,
       (
@@ -64,8 +82,10 @@ put-line-requires c κs =
           s .pre .1 .0 .deep (l .k) (c .before .before .before .loop-test .taken),
           (
             omega (arith, s .pre .1 .0 .low, c .before .before .before .loop-test .taken),
-            lining-fits (seen s) (s .args .records .now) (s .args .wides .now) (s .args .terms .now) (s .args .indents .now)
-                (s .args .m) (s .args .out .now) (l .out) (l .p) (l .k) (l .inv) (s .pre .1 .1) (c .before .before .before .loop-test .taken),
+            lining-fits (seen s) (s .args .records .now) (s .args .wides .now) (s .args .terms .now)
+                (s .args .indents .now)
+                (s .args .m) (s .args .out .now) (l .out) (l .p) (l .k) (l .inv) (s .pre .1 .1)
+                (c .before .before .before .loop-test .taken),
           ),
         ),
       ),
@@ -73,28 +93,39 @@ put-line-requires c κs =
 
 add-p : tie.Need-add-p Inv-loop μ-loop
 add-p c =
-    let s = c .before .before .before .before .before .before .before .before .before .before .before .before .before .before .before .before in
+    let s =
+    c .before .before .before .before .before .before .before .before .before .before .before .before .before
+    .before .before .before in
     let l = c .before .before .before .before .before .before .before .loop in
     omega (
       arith,
       s .good,
       lining-next (seen s) (s .args .records .now) (s .args .wides .now) (s .args .terms .now) (s .args .indents .now)
-          (s .args .m) (s .args .out .now) (l .out) (l .p) (l .k) (l .inv) (s .pre .1 .1) (c .before .before .before .before .before .before .loop-test .taken)
-          (c .before .before .put-line .last .0) (c .before .before .put-line .result) (c .before .before .put-line .ensures),
+          (s .args .m) (s .args .out .now) (l .out) (l .p) (l .k) (l .inv) (s .pre .1 .1)
+          (c .before .before .before .before .before .before .loop-test .taken)
+          (c .before .before .put-line .last .0) (c .before .before .put-line .result)
+          (c .before .before .put-line .ensures),
     )
 
 add-k : tie.Need-add-k Inv-loop μ-loop
-add-k c = let s = c .before .before .before .before .before .before .before .before .before .before .before .before .before .before .before .before in omega (arith, s .pre .1 .0 .low, c .before .before .before .before .before .before .loop-test .taken)
+add-k c =
+    let s =
+    c .before .before .before .before .before .before .before .before .before .before .before .before .before .before
+    .before .before in
+    omega (arith, s .pre .1 .0 .low, c .before .before .before .before .before .before .loop-test .taken)
 
 loop-less : tie.Need-loop-less Inv-loop μ-loop
 loop-less c = search needs
 
 loop-again : tie.Need-loop-again Inv-loop μ-loop
 loop-again c =
-    let s = c .before .before .before .before .before .before .before .before .before .before .before .before .before .before .before .before in
+    let s =
+    c .before .before .before .before .before .before .before .before .before .before .before .before .before
+    .before .before .before in
     let l = c .before .before .before .before .before .before .before .loop in
     lining-again (seen s) (s .args .records .now) (s .args .wides .now) (s .args .terms .now) (s .args .indents .now)
-    (s .args .m) (s .args .out .now) (l .out) (l .p) (l .k) (l .inv) (s .pre .1 .1) (c .before .before .before .before .before .before .loop-test .taken)
+    (s .args .m) (s .args .out .now) (l .out) (l .p) (l .k) (l .inv) (s .pre .1 .1)
+    (c .before .before .before .before .before .before .loop-test .taken)
     (c .before .before .put-line .last .0) (c .before .before .put-line .result) (c .before .before .put-line .ensures)
 
 same-length : tie.Need-same-length Inv-loop μ-loop

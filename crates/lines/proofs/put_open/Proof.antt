@@ -36,7 +36,8 @@ wrote :
     Stands (s .args .out .now) (openText (name s))
     (putMid 5 (length (five (s .args .out .now)) - 5) (five (s .args .out .now)) q) (5 + r)
 wrote s q r w =
-    stands-then (s .args .out .now) (40 ∷ 108 ∷ 101 ∷ 116 ∷ 32 ∷ []) (five (s .args .out .now)) 5 (opened s) (name s) q r w
+    stands-then (s .args .out .now) (40 ∷ 108 ∷ 101 ∷ 116 ∷ 32 ∷ []) (five (s .args .out .now)) 5
+    (opened s) (name s) q r w
 
 slice-write-out : tie.Need-slice-write-out
 slice-write-out c = search needs
@@ -70,19 +71,24 @@ put-name-requires c κs =
     )
 
 add-result : tie.Need-add-result
-add-result c = let s = c .before .before .before .before .before .before in omega (arith, room s, s .good, c .before .before .put-name .ensures .long)
+add-result c =
+    let s = c .before .before .before .before .before .before in
+    omega (arith, room s, s .good, c .before .before .put-name .ensures .long)
 
 same-length : tie.Need-same-length
 same-length c =
     let s = c .before .before .before .before .before .before in
-    let w = wrote s (c .before .before .put-name .last .0) (c .before .before .put-name .result) (c .before .before .put-name .ensures) in
+    let w =
+    wrote s (c .before .before .put-name .last .0) (c .before .before .put-name .result)
+    (c .before .before .put-name .ensures) in
     stands-length (s .args .out .now) (openText (name s)) _ _ w (s .pre .1)
 
 returns : tie.Need-returns
 returns c =
     let s = c .before .before .before .before .before .before in
     wrote-of-stands (s .args .out .now) (openText (name s)) _ _
-    (wrote s (c .before .before .put-name .last .0) (c .before .before .put-name .result) (c .before .before .put-name .ensures))
+    (wrote s (c .before .before .put-name .last .0) (c .before .before .put-name .result)
+    (c .before .before .put-name .ensures))
 
 pub put-open-spec : {M : Type 1} → statement M
 put-open-spec =

@@ -1,7 +1,14 @@
--- `literals::read_literals` meets its contract: the literals read so far stand in the array, and the rest of the reading is that of the whole. Assumes nothing.
+-- `literals::read_literals` meets its contract: the literals read so far stand in the array, and the rest of the
+-- reading is that of the whole. Assumes nothing.
 use Prim.Native.Nat.{_-_}
 use borrow.Author.Needs.{needs}
-use Rattle.literals.proofs.LiteralLaws.{Literals-read, literals-start, literals-more, literals-refuse, literals-end}
+use Rattle.literals.proofs.LiteralLaws.{
+  Literals-read,
+  literals-start,
+  literals-more,
+  literals-refuse,
+  literals-end,
+}
 use Rattle.format.proofs.ReadingLaws.{reads-got, reads-refused}
 use Rattle.fields.proofs.FieldLaws.{field-value, field-short}
 use Rattle.literals.proofs.read_literals.Statement.{statement}
@@ -28,7 +35,8 @@ enum-told c = search needs
 returns : tie.Need-returns Inv-loop μ-loop
 returns c =
     let r = c .before .before in
-    reads-refused (literals-refuse (r .before .before .loop .inv) (r .before .loop-test .taken) (field-short (r .read .ensures) (c .enum-told .given .1)))
+    reads-refused (literals-refuse (r .before .before .loop .inv) (r .before .loop-test .taken)
+    (field-short (r .read .ensures) (c .enum-told .given .1)))
 
 signed-of-requires : tie.Need-signed-of-requires Inv-loop μ-loop
 signed-of-requires c κs = search needs
@@ -49,7 +57,8 @@ loop-again : tie.Need-loop-again Inv-loop μ-loop
 loop-again c =
     let f = c .before .before in
     let r = f .before .before in
-    literals-more (r .before .before .loop .inv) (r .before .before .before .before .pre .1 .0) (r .before .loop-test .taken)
+    literals-more (r .before .before .loop .inv) (r .before .before .before .before .pre .1 .0)
+    (r .before .loop-test .taken)
     (field-value (r .read .ensures) (f .f .given .1)) (c .signed-of .ensures)
 
 returns-2 : tie.Need-returns-2 Inv-loop μ-loop

@@ -30,7 +30,13 @@ same-length-2 c = search needs
 
 returns-2 : tie.Need-returns-2
 unfolding isFree isMissing pick
-returns-2 c = (rw (← c .before .before .before .before .before .before .find .ensures, c .before .before .before .before .enum-told2 .given .1), c .before .before .put .ensures)
+returns-2 c = (
+  rw (
+    ← c .before .before .before .before .before .before .find .ensures,
+    c .before .before .before .before .enum-told2 .given .1,
+  ),
+  c .before .before .put .ensures,
+)
 
 pub put-new-spec : {M : Type 1} → statement M
 put-new-spec =

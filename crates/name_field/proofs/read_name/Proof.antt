@@ -1,4 +1,5 @@
--- `name_field::read_name` meets its contract: a name is free in the table exactly when no function before has it. Assumes nothing.
+-- `name_field::read_name` meets its contract: a name is free in the table exactly when no function before has it.
+-- Assumes nothing.
 use Prim.Native.Nat.{_≤_}
 use mathlib.Core.Path.{sym, _∙_}
 use native.Mathlib.Omega.{arith}
@@ -7,7 +8,14 @@ use lib.Seq.{length-take-le}
 use borrow.Author.Needs.{needs}
 use Rattle.fields.specs.Got.{pick}
 use Rattle.format.proofs.ReadingLaws.{reads-got, reads-refused}
-use Rattle.name_field.proofs.EntriesLaws.{name-got, name-refused, name-length, free-refused, free-name, free-taken}
+use Rattle.name_field.proofs.EntriesLaws.{
+  name-got,
+  name-refused,
+  name-length,
+  free-refused,
+  free-name,
+  free-taken,
+}
 use Rattle.name_field.proofs.read_name.Statement.{statement}
 use Rattle.name_field.proofs.read_name.Tie as tie
 
@@ -33,14 +41,16 @@ slice-aggregate-put-new : tie.Need-slice-aggregate-put-new
 slice-aggregate-put-new c =
     let x = c .before .before .before in
     let h : x .x2 .given .0 .0 ≤ 31 = name-length (x .before .before .before .read-text .ensures) (x .x2 .given .1) in
-    let l : x .x2 .given .0 .0 ≤ length (x .before .before .before .read-text .last .1 .1 .0) = omega (arith, h, x .before .before .before .read-text .kept .1 .1 .0) in
+    let l : x .x2 .given .0 .0 ≤ length (x .before .before .before .read-text .last .1 .1 .0) =
+    omega (arith, h, x .before .before .before .read-text .kept .1 .1 .0) in
     sym (length-take-le _ _ l)
 
 put-new-requires : tie.Need-put-new-requires
 put-new-requires c κs =
     let x = c .before .before .before in
     let h : x .x2 .given .0 .0 ≤ 31 = name-length (x .before .before .before .read-text .ensures) (x .x2 .given .1) in
-    let l : x .x2 .given .0 .0 ≤ length (x .before .before .before .read-text .last .1 .1 .0) = omega (arith, h, x .before .before .before .read-text .kept .1 .1 .0) in
+    let l : x .x2 .given .0 .0 ≤ length (x .before .before .before .read-text .last .1 .1 .0) =
+    omega (arith, h, x .before .before .before .read-text .kept .1 .1 .0) in
     let p = x .before .before .before .before .before .before .before .pre in
     (p .1 .1 .0, (omega (arith, p .1 .0, p .1 .1 .1), rw (length-take-le _ _ l) h))
 
@@ -58,7 +68,8 @@ returns c =
 returns-2 : tie.Need-returns-2
 returns-2 c =
     let x = c .before in
-    reads-refused (free-refused _ _ _ _ (name-refused (x .before .before .before .read-text .ensures) (x .x .given .1)))
+    reads-refused (free-refused _ _ _ _
+    (name-refused (x .before .before .before .read-text .ensures) (x .x .given .1)))
 
 same-length-2 : tie.Need-same-length-2
 same-length-2 c = search needs

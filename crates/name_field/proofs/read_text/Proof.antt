@@ -23,12 +23,19 @@ enum-told c = search needs
 
 returns : tie.Need-returns
 returns c =
-    record { answer = sym (name-short _ _ (field-short (c .before .before .read .ensures) (c .enum-told .given .1))); short = omega arith }
+    record {
+      answer = sym (name-short _ _ (field-short (c .before .before .read .ensures) (c .enum-told .given .1)));
+      short = omega arith;
+    }
 
 returns-2 : tie.Need-returns-2
 returns-2 c =
     let f = c .before .before in
-    record { answer = sym (name-empty _ _ (field-value (f .before .before .read .ensures) (f .f .given .1)) (c .if1 .taken)); short = omega arith }
+    record {
+      answer = sym (name-empty _ _ (field-value (f .before .before .read .ensures) (f .f .given .1))
+          (c .if1 .taken));
+      short = omega arith;
+    }
 
 mul-has : tie.Need-mul-has
 mul-has c =
@@ -47,7 +54,9 @@ returns-3 c =
     let f = c .before .before .before .before in
     let d = sym (c .before .has .ensures) ∙ not-true _ (c .if2 .taken) in
     record {
-      answer = sym (name-cut _ _ (field-value (f .before .before .read .ensures) (f .f .given .1)) (c .before .before .if1 .left) d);
+      answer =
+          sym (name-cut _ _ (field-value (f .before .before .read .ensures) (f .f .given .1))
+          (c .before .before .if1 .left) d);
       short = omega arith;
     }
 
@@ -55,8 +64,10 @@ read-bytes-requires : tie.Need-read-bytes-requires
 read-bytes-requires c κs =
     let f = c .before .before .before .before .before in
     let k = field-read _ _ 5 (field-value (f .before .before .read .ensures) (f .f .given .1)) in
-    let d = sym (c .before .before .has .ensures) ∙ not-false _ (c .before .if2 .left) in
-    (omega (arith, k .small, k .end, f .before .before .before .before .before .pre .0), (holds-true _ _ _ d, omega (arith, k .small, f .before .before .before .before .before .pre .1)))
+    let d = sym (c .before .before .has .ensures) ∙ not-false _ (c .before .if2 .left) in (
+      omega (arith, k .small, k .end, f .before .before .before .before .before .pre .0),
+      (holds-true _ _ _ d, omega (arith, k .small, f .before .before .before .before .before .pre .1)),
+    )
 
 slice-reshare-prefix-all-allowed : tie.Need-slice-reshare-prefix-all-allowed
 slice-reshare-prefix-all-allowed c =
@@ -68,7 +79,8 @@ slice-aggregate-all-allowed : tie.Need-slice-aggregate-all-allowed
 slice-aggregate-all-allowed c =
     let f = c .before .before .before .before .before .before .before .before .before in
     let k = field-read _ _ 5 (field-value (f .before .before .read .ensures) (f .f .given .1)) in
-    let h : f .f .given .0 .0 ≤ length (c .before .before .before .read-bytes .last .1 .1 .1 .0) = omega (arith, k .small, f .before .before .before .before .before .pre .1) in
+    let h : f .f .given .0 .0 ≤ length (c .before .before .before .read-bytes .last .1 .1 .1 .0) =
+    omega (arith, k .small, f .before .before .before .before .before .pre .1) in
     sym (length-take-le _ _ h)
 
 all-allowed-requires : tie.Need-all-allowed-requires
@@ -80,10 +92,16 @@ same-length c = search needs
 returns-4 : tie.Need-returns-4
 returns-4 c =
     let f = c .before .before .before .before .before .before .before .before .before .before .before in
-    let h = sym (c .before .before .before .before .before .before .before .before .has .ensures) ∙ not-false _ (c .before .before .before .before .before .before .before .if2 .left) in
-    let b = ap allAllowed (sym (c .before .before .before .before .before .read-bytes .ensures)) ∙ sym (c .before .all-allowed .ensures) ∙ not-true _ (c .if3 .taken) in
+    let h =
+    sym (c .before .before .before .before .before .before .before .before .has .ensures)
+    ∙ not-false _ (c .before .before .before .before .before .before .before .if2 .left) in
+    let b =
+    ap allAllowed (sym (c .before .before .before .before .before .read-bytes .ensures))
+    ∙ sym (c .before .all-allowed .ensures) ∙ not-true _ (c .if3 .taken) in
     record {
-      answer = sym (name-bad _ _ (field-value (f .before .before .read .ensures) (f .f .given .1)) (c .before .before .before .before .before .before .before .before .before .if1 .left) h b);
+      answer =
+          sym (name-bad _ _ (field-value (f .before .before .read .ensures) (f .f .given .1))
+          (c .before .before .before .before .before .before .before .before .before .if1 .left) h b);
       short = omega arith;
     }
 
@@ -106,12 +124,17 @@ returns-5 : tie.Need-returns-5
 returns-5 c =
     let f = c .before .before .before .before .before .before .before .before .before .before .before in
     let k = field-read _ _ 5 (field-value (f .before .before .read .ensures) (f .f .given .1)) in
-    let h = sym (c .before .before .before .before .before .before .before .before .has .ensures) ∙ not-false _ (c .before .before .before .before .before .before .before .if2 .left) in
-    let b = ap allAllowed (sym (c .before .before .before .before .before .read-bytes .ensures)) ∙ sym (c .before .all-allowed .ensures) ∙ not-false _ (c .if3 .left) in
+    let h =
+    sym (c .before .before .before .before .before .before .before .before .has .ensures)
+    ∙ not-false _ (c .before .before .before .before .before .before .before .if2 .left) in
+    let b =
+    ap allAllowed (sym (c .before .before .before .before .before .read-bytes .ensures))
+    ∙ sym (c .before .all-allowed .ensures) ∙ not-false _ (c .if3 .left) in
     record {
       answer =
           rw (c .before .before .before .before .before .read-bytes .ensures)
-          (sym (name-good _ _ (field-value (f .before .before .read .ensures) (f .f .given .1)) (c .before .before .before .before .before .before .before .before .before .if1 .left) h b));
+          (sym (name-good _ _ (field-value (f .before .before .read .ensures) (f .f .given .1))
+          (c .before .before .before .before .before .before .before .before .before .if1 .left) h b));
       short = omega (arith, k .small);
     }
 

@@ -28,7 +28,8 @@ returns : tie.Need-returns Inv-loop μ-loop
 returns c =
     let g = c .before .before .before .before .before .before .args in
     let l = c .before .before .before .before .loop in
-    sym (allAllowed-refuses (g .s .now) (l .i) (omega arith) (sym (c .before .is-allowed .ensures) ∙ not-true _ (c .if1 .taken))) ∙ l .inv .1
+    sym (allAllowed-refuses (g .s .now) (l .i) (omega arith)
+    (sym (c .before .is-allowed .ensures) ∙ not-true _ (c .if1 .taken))) ∙ l .inv .1
 
 add-i : tie.Need-add-i Inv-loop μ-loop
 add-i c = search needs
@@ -39,8 +40,11 @@ loop-less c = search needs
 loop-again : tie.Need-loop-again Inv-loop μ-loop
 loop-again c =
     let g = c .before .before .before .before .before .before .args in
-    let l = c .before .before .before .before .loop in
-    (omega arith, allAllowed-more (g .s .now) (l .i) (omega arith) (sym (c .before .is-allowed .ensures) ∙ not-false _ (c .if1 .left)) ∙ l .inv .1)
+    let l = c .before .before .before .before .loop in (
+      omega arith,
+      allAllowed-more (g .s .now) (l .i) (omega arith) (sym (c .before .is-allowed .ensures) ∙ not-false _
+          (c .if1 .left)) ∙ l .inv .1,
+    )
 
 returns-2 : tie.Need-returns-2 Inv-loop μ-loop
 returns-2 c =

@@ -45,8 +45,15 @@ loop-again : tie.Need-loop-again Inv-loop μ-loop
 loop-again c =
     let g = c .before .before .before .before .before .args in
     let l = c .before .before .loop in
-    let h : l .j < length (entry (g .name .now)) = omega (arith, entry-length (g .name .now) (c .before .before .before .before .before .pre .1)) in
-    (omega arith, (rw (l .inv .1 .0, c .entry-byte .ensures) (rw add-one (paste-suc (g .table .now) (g .k * 32) (entry (g .name .now)) (l .j) 0 (omega arith) h)), simp length-set (l .inv .1 .1)))
+    let h : l .j < length (entry (g .name .now)) =
+    omega (arith, entry-length (g .name .now) (c .before .before .before .before .before .pre .1)) in (
+      omega arith,
+      (
+        rw (l .inv .1 .0, c .entry-byte .ensures)
+            (rw add-one (paste-suc (g .table .now) (g .k * 32) (entry (g .name .now)) (l .j) 0 (omega arith) h)),
+        simp length-set (l .inv .1 .1),
+      ),
+    )
 
 same-length : tie.Need-same-length Inv-loop μ-loop
 same-length c = search needs

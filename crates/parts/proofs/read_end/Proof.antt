@@ -29,12 +29,14 @@ returns-2 c =
 returns-3 : tie.Need-returns-3
 returns-3 c =
     let f = c .before .before .before in
-    reads-refused (end-more _ _ (field-value (f .before .before .read .ensures) (f .f .given .1)) (c .before .if1 .left) (c .if2 .taken))
+    reads-refused (end-more _ _ (field-value (f .before .before .read .ensures) (f .f .given .1))
+    (c .before .if1 .left) (c .if2 .taken))
 
 returns-4 : tie.Need-returns-4
 returns-4 c =
     let f = c .before .before .before in
-    reads-got (end-here _ _ (field-value (f .before .before .read .ensures) (f .f .given .1)) (c .before .if1 .left) (c .if2 .left)) tt
+    reads-got (end-here _ _ (field-value (f .before .before .read .ensures) (f .f .given .1))
+    (c .before .if1 .left) (c .if2 .left)) tt
 
 pub read-end-spec : {M : Type 1} → statement M
 read-end-spec =

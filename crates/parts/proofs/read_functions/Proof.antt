@@ -19,7 +19,8 @@ enum-told : tie.Need-enum-told
 enum-told c = search needs
 
 returns : tie.Need-returns
-returns c = counts-refused (functions-short _ _ _ (field-short (c .before .before .read .ensures) (c .enum-told .given .1)))
+returns c =
+    counts-refused (functions-short _ _ _ (field-short (c .before .before .read .ensures) (c .enum-told .given .1)))
 
 read-functions-requires : tie.Need-read-functions-requires
 read-functions-requires c κs =
@@ -38,14 +39,16 @@ returns-2 : tie.Need-returns-2
 returns-2 c =
     let x = c .before in
     let f = x .before .before .before .before .before .before .before .before .before .before .before .before in
-    counts-refused (functions-from _ _ _ (field-value (f .before .before .read .ensures) (f .f .given .1)) ∙ reads-not (x .before .before .read-functions .ensures) (x .x .given .1))
+    counts-refused (functions-from _ _ _ (field-value (f .before .before .read .ensures) (f .f .given .1)) ∙ reads-not
+    (x .before .before .read-functions .ensures) (x .x .given .1))
 
 returns-3 : tie.Need-returns-3
 returns-3 c =
     let x = c .before in
     let f = x .before .before .before .before .before .before .before .before .before .before .before .before in
     counts-along (functions-from _ _ _ (field-value (f .before .before .read .ensures) (f .f .given .1)))
-    (counts-of-done (reads-done (x .before .before .read-functions .ensures) (x .x2 .given .1)) (λ xs j e. functions-length _ _ _ _ e))
+    (counts-of-done (reads-done (x .before .before .read-functions .ensures) (x .x2 .given .1))
+    (λ xs j e. functions-length _ _ _ _ e))
 
 pub read-functions-spec : {M : Type 1} → statement M
 read-functions-spec =

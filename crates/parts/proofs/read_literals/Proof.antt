@@ -19,7 +19,8 @@ enum-told : tie.Need-enum-told
 enum-told c = search needs
 
 returns : tie.Need-returns
-returns c = counts-refused (literals-short _ _ (field-short (c .before .before .read .ensures) (c .enum-told .given .1)))
+returns c =
+    counts-refused (literals-short _ _ (field-short (c .before .before .read .ensures) (c .enum-told .given .1)))
 
 read-literals-requires : tie.Need-read-literals-requires
 read-literals-requires c κs =
@@ -38,14 +39,16 @@ returns-2 : tie.Need-returns-2
 returns-2 c =
     let x = c .before in
     let f = x .before .before .before .before .before in
-    counts-refused (literals-from _ _ (field-value (f .before .before .read .ensures) (f .f .given .1)) ∙ reads-not (x .before .before .read-literals .ensures) (x .x .given .1))
+    counts-refused (literals-from _ _ (field-value (f .before .before .read .ensures) (f .f .given .1)) ∙ reads-not
+    (x .before .before .read-literals .ensures) (x .x .given .1))
 
 returns-3 : tie.Need-returns-3
 returns-3 c =
     let x = c .before in
     let f = x .before .before .before .before .before in
     counts-along (literals-from _ _ (field-value (f .before .before .read .ensures) (f .f .given .1)))
-    (counts-of-done (reads-done (x .before .before .read-literals .ensures) (x .x2 .given .1)) (λ xs j e. literals-length _ _ _ e))
+    (counts-of-done (reads-done (x .before .before .read-literals .ensures) (x .x2 .given .1))
+    (λ xs j e. literals-length _ _ _ e))
 
 pub read-literals-spec : {M : Type 1} → statement M
 read-literals-spec =

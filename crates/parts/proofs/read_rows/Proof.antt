@@ -19,12 +19,15 @@ enum-told : tie.Need-enum-told
 enum-told c = search needs
 
 returns : tie.Need-returns
-returns c = counts-refused (rows-short _ _ _ _ _ _ _ _ _ (field-short (c .before .before .read .ensures) (c .enum-told .given .1)))
+returns c =
+    counts-refused (rows-short _ _ _ _ _ _ _ _ _
+    (field-short (c .before .before .read .ensures) (c .enum-told .given .1)))
 
 returns-2 : tie.Need-returns-2
 returns-2 c =
     let f = c .before .before in
-    counts-refused (rows-over _ _ _ _ _ _ _ _ _ (field-value (f .before .before .read .ensures) (f .f .given .1)) (c .if1 .taken))
+    counts-refused (rows-over _ _ _ _ _ _ _ _ _
+    (field-value (f .before .before .read .ensures) (f .f .given .1)) (c .if1 .taken))
 
 read-rows-requires : tie.Need-read-rows-requires
 read-rows-requires c κs =
@@ -43,15 +46,18 @@ returns-3 : tie.Need-returns-3
 returns-3 c =
     let x = c .before in
     let f = x .before .before .before .before .before .before .before .before in
-    counts-refused (rows-from _ _ _ _ _ _ _ _ _ (field-value (f .before .before .read .ensures) (f .f .given .1)) (x .before .before .before .before .before .before .if1 .left)
+    counts-refused (rows-from _ _ _ _ _ _ _ _ _ (field-value (f .before .before .read .ensures) (f .f .given .1))
+    (x .before .before .before .before .before .before .if1 .left)
     ∙ reads-not (x .before .before .read-rows .ensures) (x .x .given .1))
 
 returns-4 : tie.Need-returns-4
 returns-4 c =
     let x = c .before in
     let f = x .before .before .before .before .before .before .before .before in
-    counts-along (rows-from _ _ _ _ _ _ _ _ _ (field-value (f .before .before .read .ensures) (f .f .given .1)) (x .before .before .before .before .before .before .if1 .left))
-    (counts-of-done (reads-done (x .before .before .read-rows .ensures) (x .x2 .given .1)) (λ xs j e. rowsIn-length _ _ _ _ _ _ _ _ _ _ e))
+    counts-along (rows-from _ _ _ _ _ _ _ _ _ (field-value (f .before .before .read .ensures) (f .f .given .1))
+    (x .before .before .before .before .before .before .if1 .left))
+    (counts-of-done (reads-done (x .before .before .read-rows .ensures) (x .x2 .given .1))
+    (λ xs j e. rowsIn-length _ _ _ _ _ _ _ _ _ _ e))
 
 pub read-rows-spec : {M : Type 1} → statement M
 read-rows-spec =

@@ -38,14 +38,16 @@ returns-2 : tie.Need-returns-2
 returns-2 c =
     let x = c .before in
     let f = x .before .before .before .before .before .before in
-    counts-refused (sorts-from _ _ (field-value (f .before .before .read .ensures) (f .f .given .1)) ∙ reads-not (x .before .before .read-sorts .ensures) (x .x .given .1))
+    counts-refused (sorts-from _ _ (field-value (f .before .before .read .ensures) (f .f .given .1)) ∙ reads-not
+    (x .before .before .read-sorts .ensures) (x .x .given .1))
 
 returns-3 : tie.Need-returns-3
 returns-3 c =
     let x = c .before in
     let f = x .before .before .before .before .before .before in
     counts-along (sorts-from _ _ (field-value (f .before .before .read .ensures) (f .f .given .1)))
-    (counts-of-done (reads-done (x .before .before .read-sorts .ensures) (x .x2 .given .1)) (λ xs j e. sorts-length _ _ _ e))
+    (counts-of-done (reads-done (x .before .before .read-sorts .ensures) (x .x2 .given .1))
+    (λ xs j e. sorts-length _ _ _ e))
 
 pub read-sorts-spec : {M : Type 1} → statement M
 read-sorts-spec =

@@ -21,7 +21,8 @@ returns-2 : tie.Need-returns-2
 returns-2 c =
     let a = c .before .before .before .args in
     c .digits-length .ensures
-    ∙ sym (ap length (countText-digits (a .bare) (a .n) (sym (c .before .before .is-bare .ensures) ∙ c .before .if1 .left)))
+    ∙ sym (ap length (countText-digits (a .bare) (a .n)
+    (sym (c .before .before .is-bare .ensures) ∙ c .before .if1 .left)))
 
 pub count-length-spec : {M : Type 1} → statement M
 count-length-spec = tie.close (tie.spec is-bare-requires returns digits-length-requires returns-2)

@@ -40,12 +40,14 @@ loop-again c =
 same-length : tie.Need-same-length Inv-loop μ-loop
 same-length c =
     let s = c .before .before in
-    copying-length (s .args .out .now) (s .args .s .now) (s .pre) (c .before .loop .out) (c .before .loop .j) (c .before .loop .inv)
+    copying-length (s .args .out .now) (s .args .s .now) (s .pre) (c .before .loop .out) (c .before .loop .j)
+    (c .before .loop .inv)
 
 returns : tie.Need-returns Inv-loop μ-loop
 returns c =
     let s = c .before .before in
-    copying-end (s .args .out .now) (s .args .s .now) (s .pre) (c .before .loop .out) (c .before .loop .j) (c .before .loop .inv)
+    copying-end (s .args .out .now) (s .args .s .now) (s .pre) (c .before .loop .out) (c .before .loop .j)
+    (c .before .loop .inv)
     (omega arith)
 
 pub put-bytes-spec : {M : Type 1} → statement M

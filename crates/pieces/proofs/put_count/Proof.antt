@@ -19,7 +19,8 @@ returns c =
 put-digits-requires : tie.Need-put-digits-requires
 put-digits-requires c κs =
     let s = c .before .before .before .before in
-    rw (countText-digits (s .args .bare) (s .args .n) (sym (c .before .before .is-bare .ensures) ∙ c .before .if1 .left)) at (s .pre)
+    rw (countText-digits (s .args .bare) (s .args .n)
+    (sym (c .before .before .is-bare .ensures) ∙ c .before .if1 .left)) at (s .pre)
 
 same-length : tie.Need-same-length
 same-length c = search needs
@@ -27,7 +28,9 @@ same-length c = search needs
 returns-2 : tie.Need-returns-2
 returns-2 c =
     let a = c .before .before .before .before .before .before .before .args in
-    rw (countText-digits (a .bare) (a .n) (sym (c .before .before .before .before .before .is-bare .ensures) ∙ c .before .before .before .before .if1 .left))
+    rw (countText-digits (a .bare) (a .n)
+    (sym (c .before .before .before .before .before .is-bare .ensures) ∙
+    c .before .before .before .before .if1 .left))
     (c .before .before .put-digits .ensures)
 
 pub put-count-spec : {M : Type 1} → statement M

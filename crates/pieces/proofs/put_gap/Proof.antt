@@ -4,7 +4,16 @@ use mathlib.Core.Path.{_≡_, ap, _∙_}
 use mathlib.Core.List.{List, [], _∷_}
 use lib.ListN.{length, set, length-set}
 use Rattle.decimal.proofs.WrittenLaws.{stands-first, wrote-of-stands}
-use Rattle.pieces.proofs.PieceLaws.{gapText-narrow, gapText-wide, newLine-length, Spacing, spacing-none, spacing-length, spacing-again, spacing-end}
+use Rattle.pieces.proofs.PieceLaws.{
+  gapText-narrow,
+  gapText-wide,
+  newLine-length,
+  Spacing,
+  spacing-none,
+  spacing-length,
+  spacing-again,
+  spacing-end,
+}
 use borrow.Author.Needs.{needs}
 use native.Mathlib.Omega.{arith}
 use Rattle.pieces.proofs.put_gap.Statement.{statement}
@@ -22,8 +31,12 @@ Start = tie.Start Inv-loop μ-loop
 -- a wide text has room for the whole new line
 room : (s : Start) → s .args .limit < s .args .width → s .args .n < length (s .args .out .now)
 room s l =
-    omega
-    (arith, s .pre, ap length (gapText-wide (s .args .limit) (s .args .width) (s .args .n) l), newLine-length (s .args .n))
+    omega (
+      arith,
+      s .pre,
+      ap length (gapText-wide (s .args .limit) (s .args .width) (s .args .n) l),
+      newLine-length (s .args .n),
+    )
 
 same :
     (s : Start) →
@@ -62,10 +75,15 @@ slice-write-out-3 : tie.Need-slice-write-out-3 Inv-loop μ-loop
 slice-write-out-3 c =
     let s = c .before .before .before in
     let l = c .before .loop in
-    omega (arith, room s (c .before .before .if1 .left), same s (c .before .before .if1 .left) (l .out) (l .j) (l .inv))
+    omega (
+      arith,
+      room s (c .before .before .if1 .left),
+      same s (c .before .before .if1 .left) (l .out) (l .j) (l .inv),
+    )
 
 add-j : tie.Need-add-j Inv-loop μ-loop
-add-j c = omega (arith, room (c .before .before .before) (c .before .before .if1 .left), c .before .before .before .good)
+add-j c =
+    omega (arith, room (c .before .before .before) (c .before .before .if1 .left), c .before .before .before .good)
 
 loop-less : tie.Need-loop-less Inv-loop μ-loop
 loop-less c = search needs
@@ -74,17 +92,21 @@ loop-again : tie.Need-loop-again Inv-loop μ-loop
 loop-again c =
     let s = c .before .before .before in
     let l = c .before .loop in
-    spacing-again (set (s .args .out .now) 0 10) (s .args .n) (simp length-set (room s (c .before .before .if1 .left))) (l .out)
+    spacing-again (set (s .args .out .now) 0 10) (s .args .n)
+    (simp length-set (room s (c .before .before .if1 .left))) (l .out)
     (l .j) (l .inv) (omega arith)
 
 same-length-2 : tie.Need-same-length-2 Inv-loop μ-loop
-same-length-2 c = same (c .before .before .before) (c .before .before .if1 .left) (c .before .loop .out) (c .before .loop .j) (c .before .loop .inv)
+same-length-2 c =
+    same (c .before .before .before) (c .before .before .if1 .left) (c .before .loop .out) (c .before .loop .j)
+    (c .before .loop .inv)
 
 returns-2 : tie.Need-returns-2 Inv-loop μ-loop
 returns-2 c =
     let s = c .before .before .before in
     rw (gapText-wide (s .args .limit) (s .args .width) (s .args .n) (c .before .before .if1 .left))
-    (spacing-end (s .args .out .now) (s .args .n) (room s (c .before .before .if1 .left)) (c .before .loop .out) (c .before .loop .j)
+    (spacing-end (s .args .out .now) (s .args .n) (room s (c .before .before .if1 .left))
+    (c .before .loop .out) (c .before .loop .j)
     (c .before .loop .inv) (omega arith))
 
 pub put-gap-spec : {M : Type 1} → statement M

@@ -40,7 +40,8 @@ put-count-requires c κs =
     let s = c .before .before .before .before .before .before .before in
     let a = s .args in
     stands-fits (a .out .now) (a .stem .now) _ _
-    (stands-of-wrote (a .out .now) (a .stem .now) _ _ (c .before .before .before .put-bytes .ensures)) (countText (a .bare) (a .start + a .k))
+    (stands-of-wrote (a .out .now) (a .stem .now) _ _ (c .before .before .before .put-bytes .ensures))
+    (countText (a .bare) (a .start + a .k))
     (omega (arith, s .pre .1, nameText-length (a .stem .now) (a .start) (a .bare) (a .k)))
 
 add-result : tie.Need-add-result
@@ -65,8 +66,10 @@ returns c =
     rw (nameText-is (a .stem .now) (a .start) (a .bare) (a .k))
     (wrote-of-stands (a .out .now) (a .stem .now ++ countText (a .bare) (a .start + a .k)) _ _
     (stands-then (a .out .now) (a .stem .now) _ _
-    (stands-of-wrote (a .out .now) (a .stem .now) _ _ (c .before .before .before .before .before .before .put-bytes .ensures))
-    (countText (a .bare) (a .start + a .k)) (c .before .before .put-count .last .0) (c .before .before .put-count .result)
+    (stands-of-wrote (a .out .now) (a .stem .now) _ _
+    (c .before .before .before .before .before .before .put-bytes .ensures))
+    (countText (a .bare) (a .start + a .k)) (c .before .before .put-count .last .0)
+    (c .before .before .put-count .result)
     (c .before .before .put-count .ensures)))
 
 pub put-name-spec : {M : Type 1} → statement M

@@ -32,10 +32,12 @@ loop-holds c =
           λ e.
               subst
               (λ (x : List ℕ).
-              Plans (g .costs .now) (g .ranks .now) (g .edges .now) (g .order .now) (g .functions .now) (g .starts .now)
+              Plans (g .costs .now) (g .ranks .now) (g .edges .now) (g .order .now)
+              (g .functions .now) (g .starts .now)
               (g .children .now) (g .plan .now) x 0)
               (sym e)
-              (plans-start (g .costs .now) (g .ranks .now) (g .edges .now) (g .order .now) (g .functions .now) (g .starts .now)
+              (plans-start (g .costs .now) (g .ranks .now) (g .edges .now) (g .order .now)
+              (g .functions .now) (g .starts .now)
               (g .children .now) v (g .plan .now)),
         ),
       ),
@@ -44,9 +46,18 @@ loop-holds c =
 put-one-requires : tie.Need-put-one-requires Inv-loop μ-loop
 put-one-requires c κs =
     let l = c .before .before .before .loop in
-    let q = c .before .before .before .before .before .before .before .before .before .before .before .before .before .pre .1 in
-    let z = ap (λ (x : List ℕ). length x) (q .1) ∙ length-replicate (length (c .before .before .before .before .before .before .before .before .before .before .before .before .before .args .ranks .now)) 0 in
-    (c .before .before .before .before .before .before .before .before .before .before .before .before .before .pre .0, (omega (arith, q .0, l .inv .1 .0), (c .before .before .loop-test .taken, l .inv .1 .1 .0 ∙ z)))
+    let q =
+    c .before .before .before .before .before .before .before .before .before .before .before
+    .before .before .pre .1 in
+    let z =
+    ap (λ (x : List ℕ). length x) (q .1)
+    ∙ length-replicate (length
+    (c .before .before .before .before .before .before .before .before .before .before .before .before .before
+    .args .ranks .now)) 0 in (
+      c .before .before .before .before .before .before .before .before .before .before .before
+          .before .before .pre .0,
+      (omega (arith, q .0, l .inv .1 .0), (c .before .before .loop-test .taken, l .inv .1 .1 .0 ∙ z)),
+    )
 
 add-c : tie.Need-add-c Inv-loop μ-loop
 add-c c = search needs
@@ -56,9 +67,13 @@ loop-less c = search needs
 
 loop-again : tie.Need-loop-again Inv-loop μ-loop
 loop-again c =
-    let g = c .before .before .before .before .before .before .before .before .before .before .before .before .before .before .before .before .before .before .args in
+    let g =
+    c .before .before .before .before .before .before .before .before .before .before .before .before .before
+    .before .before .before .before .before .args in
     let l = c .before .before .before .before .before .before .before .before .loop in
-    let q = c .before .before .before .before .before .before .before .before .before .before .before .before .before .before .before .before .before .before .pre .1 in
+    let q =
+    c .before .before .before .before .before .before .before .before .before .before .before .before .before
+    .before .before .before .before .before .pre .1 in
     let z = ap (λ (x : List ℕ). length x) (q .1) ∙ length-replicate (length (g .ranks .now)) 0 in
     let k = c .before .before .before .before .put-one .kept in (
       omega arith,
@@ -67,9 +82,15 @@ loop-again c =
         (
           k .1 .0 ∙ l .inv .1 .1 .0,
           λ e.
-              plans-step (g .costs .now) (g .ranks .now) (g .edges .now) (g .order .now) (g .functions .now) (g .starts .now)
-              (g .children .now) (c .before .before .before .before .before .before .before .before .before .before .before .before .before .before .before .before .before .before .pre .0) (l .plan) (l .known) (c .before .before .before .before .put-one .last .0) (c .before .before .before .before .put-one .last .1 .0)
-              (l .c) (c .before .before .before .before .before .before .before .loop-test .taken) (omega (arith, q .0, l .inv .1 .0)) (l .inv .1 .1 .0 ∙ z)
+              plans-step (g .costs .now) (g .ranks .now) (g .edges .now) (g .order .now)
+              (g .functions .now) (g .starts .now)
+              (g .children .now)
+              (c .before .before .before .before .before .before .before .before .before .before .before .before
+              .before .before .before .before .before .before .pre .0) (l .plan) (l .known)
+              (c .before .before .before .before .put-one .last .0)
+              (c .before .before .before .before .put-one .last .1 .0)
+              (l .c) (c .before .before .before .before .before .before .before .loop-test .taken)
+              (omega (arith, q .0, l .inv .1 .0)) (l .inv .1 .1 .0 ∙ z)
               (l .inv .1 .1 .1 e) (c .before .before .before .before .put-one .ensures),
         ),
       ),
@@ -90,7 +111,9 @@ returns c =
     (λ (n : ℕ).
     Plans (g .costs .now) (g .ranks .now) (g .edges .now) (g .order .now) (g .functions .now) (g .starts .now)
     (g .children .now) (l .plan) (l .known) n)
-    e (l .inv .1 .1 .1 (c .before .before .before .before .before .before .before .before .before .before .before .pre .1 .1))
+    e
+    (l .inv .1 .1 .1
+    (c .before .before .before .before .before .before .before .before .before .before .before .pre .1 .1))
 
 pub fill-spec : {M : Type 1} → statement M
 fill-spec =

@@ -60,7 +60,8 @@ mul-plan-4 c = search needs
 
 slice-write-plan-3 : tie.Need-slice-write-plan-3 Inv-loop μ-loop
 slice-write-plan-3 c =
-    let e : length (c .before .before .loop .plan) ≡ length (c .before .before .before .args .plan .now) = c .before .before .loop .inv .1 .0 ∙ simp (length-set, length-set) in
+    let e : length (c .before .before .loop .plan) ≡ length (c .before .before .before .args .plan .now) =
+    c .before .before .loop .inv .1 .0 ∙ simp (length-set, length-set) in
     omega (arith, e, c .before .before .before .pre .1 .0, c .before .before .before .pre .1 .1)
 
 add-j : tie.Need-add-j Inv-loop μ-loop
@@ -80,7 +81,8 @@ loop-again c =
         λ d p q.
             let m : length d ≡ length (g .plan .now) = q ∙ simp (length-set, length-set) in
             rw (l .inv .1 .1 d p q)
-            (paste-child d (g .c * 10) (g .f) (length (g .kids .now)) (g .kids .now) (l .j) (c .before .loop-test .taken)
+            (paste-child d (g .c * 10) (g .f) (length (g .kids .now)) (g .kids .now) (l .j)
+            (c .before .loop-test .taken)
             (omega (arith, m, c .before .before .before .pre .1 .0, c .before .before .before .pre .1 .1))),
       ),
     )
@@ -94,7 +96,8 @@ returns c =
     let l = c .before .loop in
     let e : l .j ≡ length (g .kids .now) = omega arith in
     l .inv .1 .1 (g .plan .now)
-    (paste-two (g .plan .now) (g .c * 10) (g .f) (length (g .kids .now)) (g .kids .now) (omega (arith, c .before .before .pre .1 .0)))
+    (paste-two (g .plan .now) (g .c * 10) (g .f) (length (g .kids .now)) (g .kids .now)
+    (omega (arith, c .before .before .pre .1 .0)))
     (sym (simp (length-set, length-set)))
     ∙ ap (λ (n : ℕ). paste (g .plan .now) (g .c * 10) (g .f ∷ length (g .kids .now) ∷ g .kids .now) (2 + n)) e
 

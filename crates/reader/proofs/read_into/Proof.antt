@@ -4,7 +4,24 @@ use borrow.Author.Needs.{needs}
 use Rattle.format.proofs.ReadingLaws.{reads-done, reads-not, counts-done, counts-not}
 use Rattle.format.proofs.TableLaws.{tight-of}
 use Rattle.reader.proofs.SoundLaws.{sound-of}
-use Rattle.reader.proofs.TableSteps.{take-kinds, kinds-length, kinds-few, version-near, sorts-near, literals-near, functions-near, table-stops-1, table-stops-2, table-stops-3, table-stops-4, table-stops-5, table-ends, functions-over, answers-got, answers-refused}
+use Rattle.reader.proofs.TableSteps.{
+  take-kinds,
+  kinds-length,
+  kinds-few,
+  version-near,
+  sorts-near,
+  literals-near,
+  functions-near,
+  table-stops-1,
+  table-stops-2,
+  table-stops-3,
+  table-stops-4,
+  table-stops-5,
+  table-ends,
+  functions-over,
+  answers-got,
+  answers-refused,
+}
 use Rattle.reader.proofs.read_into.Statement.{statement}
 use Rattle.reader.proofs.read_into.Tie as tie
 
@@ -35,7 +52,8 @@ returns-2 : tie.Need-returns-2
 returns-2 c =
     let W = c .before .before .before .before .before .before .before in
     let v = reads-done (W .before .before .read-version .ensures) (W .p .given .1) in
-    answers-refused (table-stops-2 _ (v .is) (counts-not (c .before .before .before .read-sorts .ensures) (c .before .r2 .given .1)))
+    answers-refused (table-stops-2 _ (v .is)
+    (counts-not (c .before .before .before .read-sorts .ensures) (c .before .r2 .given .1)))
 
 enum-known-c : tie.Need-enum-known-c
 enum-known-c c = search needs
@@ -57,7 +75,8 @@ returns-3 c =
     let W = S .before .before .before .before .before .before in
     let v = reads-done (W .before .before .read-version .ensures) (W .p .given .1) in
     let s = counts-done (S .before .before .read-sorts .ensures) (S .c .given .1) in
-    answers-refused (table-stops-3 _ (v .is) (s .is) (counts-not (c .before .before .before .read-literals .ensures) (c .before .r3 .given .1)))
+    answers-refused (table-stops-3 _ (v .is) (s .is)
+    (counts-not (c .before .before .before .read-literals .ensures) (c .before .r3 .given .1)))
 
 enum-known-c-2 : tie.Need-enum-known-c-2
 enum-known-c-2 c = search needs
@@ -80,7 +99,9 @@ enum-known-r-4 c = search needs
 
 returns-4 : tie.Need-returns-4
 returns-4 c =
-    let L = c .before .before .before .before .before .before .before .before .before .before .before .before .before .before in
+    let L =
+    c .before .before .before .before .before .before .before .before .before .before .before
+    .before .before .before in
     let S = L .before .before .before .before .before in
     let W = S .before .before .before .before .before .before in
     let v = reads-done (W .before .before .read-version .ensures) (W .p .given .1) in
@@ -96,7 +117,8 @@ enum-known-c-3 c = search needs
 read-tail-requires : tie.Need-read-tail-requires
 read-tail-requires c κs =
     let F = c .before .before .before .before .before .before .before .before .before in
-    let L = F .before .before .before .before .before .before .before .before .before .before .before .before .before in
+    let L =
+    F .before .before .before .before .before .before .before .before .before .before .before .before .before in
     let S = L .before .before .before .before .before in
     let W = S .before .before .before .before .before .before in
     let v = reads-done (W .before .before .read-version .ensures) (W .p .given .1) in
@@ -114,8 +136,10 @@ enum-known-r-5 c = search needs
 
 returns-5 : tie.Need-returns-5
 returns-5 c =
-    let F = c .before .before .before .before .before .before .before .before .before .before .before .before .before in
-    let L = F .before .before .before .before .before .before .before .before .before .before .before .before .before in
+    let F =
+    c .before .before .before .before .before .before .before .before .before .before .before .before .before in
+    let L =
+    F .before .before .before .before .before .before .before .before .before .before .before .before .before in
     let S = L .before .before .before .before .before in
     let W = S .before .before .before .before .before .before in
     let v = reads-done (W .before .before .read-version .ensures) (W .p .given .1) in
@@ -132,8 +156,10 @@ enum-known-c-4 c = search needs
 
 returns-6 : tie.Need-returns-6
 returns-6 c =
-    let F = c .before .before .before .before .before .before .before .before .before .before .before .before .before in
-    let L = F .before .before .before .before .before .before .before .before .before .before .before .before .before in
+    let F =
+    c .before .before .before .before .before .before .before .before .before .before .before .before .before in
+    let L =
+    F .before .before .before .before .before .before .before .before .before .before .before .before .before in
     let S = L .before .before .before .before .before in
     let W = S .before .before .before .before .before .before in
     let v = reads-done (W .before .before .read-version .ensures) (W .p .given .1) in

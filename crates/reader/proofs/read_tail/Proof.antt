@@ -38,7 +38,8 @@ returns-2 : tie.Need-returns-2
 returns-2 c =
     let x = c .before .before .before .before .before in
     let r = counts-done (x .before .before .read-rows .ensures) (x .c .given .1) in
-    counts-refused (tail-cut _ _ _ _ _ _ _ _ _ (r .is) (reads-not (c .before .before .before .read-end .ensures) (c .before .r2 .given .1)))
+    counts-refused (tail-cut _ _ _ _ _ _ _ _ _ (r .is)
+    (reads-not (c .before .before .before .read-end .ensures) (c .before .r2 .given .1)))
 
 returns-3 : tie.Need-returns-3
 returns-3 c =

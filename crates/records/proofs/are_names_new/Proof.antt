@@ -29,7 +29,8 @@ returns : tie.Need-returns Inv-loop μ-loop
 returns c =
     let g = c .before .before .before .before .before .args in
     let l = c .before .before .before .loop in
-    sym (every-fails (freshName (g .names .now)) (g .symbols) (l .k) (omega arith) (sym (c .before .is-new-name .ensures) ∙ not-true _ (c .if1 .taken)))
+    sym (every-fails (freshName (g .names .now)) (g .symbols) (l .k) (omega arith)
+    (sym (c .before .is-new-name .ensures) ∙ not-true _ (c .if1 .taken)))
 
 add-k : tie.Need-add-k Inv-loop μ-loop
 add-k c = search needs
@@ -40,8 +41,11 @@ loop-less c = search needs
 loop-again : tie.Need-loop-again Inv-loop μ-loop
 loop-again c =
     let g = c .before .before .before .before .before .args in
-    let l = c .before .before .before .loop in
-    (omega arith, every-more (freshName (g .names .now)) (l .k) (l .inv .1) (sym (c .before .is-new-name .ensures) ∙ not-false _ (c .if1 .left)))
+    let l = c .before .before .before .loop in (
+      omega arith,
+      every-more (freshName (g .names .now)) (l .k) (l .inv .1) (sym (c .before .is-new-name .ensures) ∙
+          not-false _ (c .if1 .left)),
+    )
 
 returns-2 : tie.Need-returns-2 Inv-loop μ-loop
 returns-2 c =

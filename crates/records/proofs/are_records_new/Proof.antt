@@ -27,7 +27,8 @@ returns : tie.Need-returns Inv-loop μ-loop
 returns c =
     let g = c .before .before .before .before .before .args in
     let l = c .before .before .before .loop in
-    sym (every-fails (freshRecord (g .records .now) (g .literals .now)) (g .terms) (l .i) (omega arith) (sym (c .before .is-new-record .ensures) ∙ not-true _ (c .if1 .taken)))
+    sym (every-fails (freshRecord (g .records .now) (g .literals .now)) (g .terms) (l .i) (omega arith)
+    (sym (c .before .is-new-record .ensures) ∙ not-true _ (c .if1 .taken)))
 
 add-i : tie.Need-add-i Inv-loop μ-loop
 add-i c = search needs
@@ -38,14 +39,19 @@ loop-less c = search needs
 loop-again : tie.Need-loop-again Inv-loop μ-loop
 loop-again c =
     let g = c .before .before .before .before .before .args in
-    let l = c .before .before .before .loop in
-    (omega arith, every-more (freshRecord (g .records .now) (g .literals .now)) (l .i) (l .inv .1) (sym (c .before .is-new-record .ensures) ∙ not-false _ (c .if1 .left)))
+    let l = c .before .before .before .loop in (
+      omega arith,
+      every-more (freshRecord (g .records .now)
+          (g .literals .now)) (l .i) (l .inv .1) (sym (c .before .is-new-record .ensures)
+          ∙ not-false _ (c .if1 .left)),
+    )
 
 returns-2 : tie.Need-returns-2 Inv-loop μ-loop
 returns-2 c =
     let g = c .before .before .before .args in
     let l = c .before .loop in
-    sym (every-end (freshRecord (g .records .now) (g .literals .now)) (l .i) (g .terms) (omega arith) (omega arith) (l .inv .1))
+    sym (every-end (freshRecord (g .records .now) (g .literals .now)) (l .i) (g .terms) (omega arith)
+    (omega arith) (l .inv .1))
 
 pub are-records-new-spec : {M : Type 1} → statement M
 are-records-new-spec =

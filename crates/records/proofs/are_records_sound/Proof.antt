@@ -1,4 +1,5 @@
--- `records::are_records_sound` meets its contract. The walk stops at the first record that is not sound. Assumes nothing.
+-- `records::are_records_sound` meets its contract. The walk stops at the first record that is not sound. Assumes
+-- nothing.
 use Rattle.store.proofs.TestLaws.{every-start, every-more, every-fails, every-end}
 use Prim.Native.Nat.{_≤_, _-_}
 use mathlib.Core.Path.{_≡_, sym, _∙_}
@@ -18,7 +19,9 @@ abbrev μ-loop : tie.MeasureT-loop
 μ-loop records literals terms symbols i₀ i = terms - i
 
 loop-holds : tie.Need-loop-holds Inv-loop μ-loop
-loop-holds c = let g = c .before .args in (omega arith, every-start (soundRecordAt (g .records .now) (g .literals .now) (g .symbols)))
+loop-holds c =
+    let g = c .before .args in
+    (omega arith, every-start (soundRecordAt (g .records .now) (g .literals .now) (g .symbols)))
 
 is-sound-record-requires : tie.Need-is-sound-record-requires Inv-loop μ-loop
 is-sound-record-requires c κs = search needs
@@ -27,7 +30,8 @@ returns : tie.Need-returns Inv-loop μ-loop
 returns c =
     let g = c .before .before .before .before .before .args in
     let l = c .before .before .before .loop in
-    sym (every-fails (soundRecordAt (g .records .now) (g .literals .now) (g .symbols)) (g .terms) (l .i) (omega arith) (sym (c .before .is-sound-record .ensures) ∙ not-true _ (c .if1 .taken)))
+    sym (every-fails (soundRecordAt (g .records .now) (g .literals .now) (g .symbols)) (g .terms) (l .i) (omega arith)
+    (sym (c .before .is-sound-record .ensures) ∙ not-true _ (c .if1 .taken)))
 
 add-i : tie.Need-add-i Inv-loop μ-loop
 add-i c = search needs
@@ -38,14 +42,18 @@ loop-less c = search needs
 loop-again : tie.Need-loop-again Inv-loop μ-loop
 loop-again c =
     let g = c .before .before .before .before .before .args in
-    let l = c .before .before .before .loop in
-    (omega arith, every-more (soundRecordAt (g .records .now) (g .literals .now) (g .symbols)) (l .i) (l .inv .1) (sym (c .before .is-sound-record .ensures) ∙ not-false _ (c .if1 .left)))
+    let l = c .before .before .before .loop in (
+      omega arith,
+      every-more (soundRecordAt (g .records .now) (g .literals .now)
+          (g .symbols)) (l .i) (l .inv .1) (sym (c .before .is-sound-record .ensures) ∙ not-false _ (c .if1 .left)),
+    )
 
 returns-2 : tie.Need-returns-2 Inv-loop μ-loop
 returns-2 c =
     let g = c .before .before .before .args in
     let l = c .before .loop in
-    sym (every-end (soundRecordAt (g .records .now) (g .literals .now) (g .symbols)) (l .i) (g .terms) (omega arith) (omega arith) (l .inv .1))
+    sym (every-end (soundRecordAt (g .records .now) (g .literals .now) (g .symbols)) (l .i) (g .terms) (omega arith)
+    (omega arith) (l .inv .1))
 
 pub are-records-sound-spec : {M : Type 1} → statement M
 are-records-sound-spec =

@@ -3,7 +3,13 @@ use mathlib.Core.Path.{sym, _∙_}
 use lib.ListN.{getD}
 use lib.IntN.{pos}
 use Rattle.store.proofs.SignLaws.{bits-same, bits-apart}
-use Rattle.records.proofs.CheckLaws.{same-kind-refuses, same-symbol-refuses, same-count-refuses, same-literal-refuses, same-rest}
+use Rattle.records.proofs.CheckLaws.{
+  same-kind-refuses,
+  same-symbol-refuses,
+  same-count-refuses,
+  same-literal-refuses,
+  same-rest,
+}
 use borrow.Author.Needs.{needs}
 use Rattle.records.proofs.is_same_record.Statement.{statement}
 use Rattle.records.proofs.is_same_record.Tie as tie
@@ -27,7 +33,9 @@ shared-slice-read-if1-2 : tie.Need-shared-slice-read-if1-2
 shared-slice-read-if1-2 c = search needs
 
 returns : tie.Need-returns
-returns c = let g = c .before .before .before .before .args in sym (same-kind-refuses (g .records .now) (g .literals .now) (g .j) (g .i) (c .if1 .taken))
+returns c =
+    let g = c .before .before .before .before .args in
+    sym (same-kind-refuses (g .records .now) (g .literals .now) (g .j) (g .i) (c .if1 .taken))
 
 add-if2 : tie.Need-add-if2
 add-if2 c = search needs
@@ -50,7 +58,8 @@ shared-slice-read-if2-2 c = search needs
 returns-2 : tie.Need-returns-2
 returns-2 c =
     let g = c .before .before .before .before .before .before .before .args in
-    sym (same-symbol-refuses (g .records .now) (g .literals .now) (g .j) (g .i) (c .before .before .before .if1 .left) (c .if2 .taken))
+    sym (same-symbol-refuses (g .records .now) (g .literals .now) (g .j) (g .i)
+    (c .before .before .before .if1 .left) (c .if2 .taken))
 
 add-if3 : tie.Need-add-if3
 add-if3 c = search needs
@@ -74,7 +83,8 @@ returns-3 : tie.Need-returns-3
 returns-3 c =
     let g = c .before .before .before .before .before .before .before .before .before .before .args in
     sym
-    (same-count-refuses (g .records .now) (g .literals .now) (g .j) (g .i) (c .before .before .before .before .before .before .if1 .left) (c .before .before .before .if2 .left)
+    (same-count-refuses (g .records .now) (g .literals .now) (g .j) (g .i)
+    (c .before .before .before .before .before .before .if1 .left) (c .before .before .before .if2 .left)
     (c .if3 .taken))
 
 mul-if4 : tie.Need-mul-if4
@@ -91,9 +101,13 @@ shared-slice-copy-out-if4-2 c = search needs
 
 returns-4 : tie.Need-returns-4
 returns-4 c =
-    let g = c .before .before .before .before .before .before .before .before .before .before .before .before .before .args in
+    let g =
+    c .before .before .before .before .before .before .before .before .before .before .before
+    .before .before .args in
     sym
-    (same-literal-refuses (g .records .now) (g .literals .now) (g .j) (g .i) (c .before .before .before .before .before .before .before .before .before .if1 .left) (c .before .before .before .before .before .before .if2 .left)
+    (same-literal-refuses (g .records .now) (g .literals .now) (g .j) (g .i)
+    (c .before .before .before .before .before .before .before .before .before .if1 .left)
+    (c .before .before .before .before .before .before .if2 .left)
     (c .before .before .before .if3 .left)
     (bits-apart (getD (g .literals .now) (g .j) (pos 0)) (getD (g .literals .now) (g .i) (pos 0)) (c .if4 .taken)))
 
@@ -138,12 +152,17 @@ are-equal-requires c κs = search needs
 
 returns-5 : tie.Need-returns-5
 returns-5 c =
-    let g = c .before .before .before .before .before .before .before .before .before .before .before .before .before .before .before .before .args in
+    let g =
+    c .before .before .before .before .before .before .before .before .before .before .before .before .before
+    .before .before .before .args in
     let e =
     bits-same (getD (g .literals .now) (g .j) (pos 0)) (getD (g .literals .now) (g .i) (pos 0))
-    (record { sfits = c .before .before .before .before .before .if42 .given }) (record { sfits = c .before .before .before .before .if43 .given }) (c .before .before .before .if4 .left) in
+    (record { sfits = c .before .before .before .before .before .if42 .given })
+    (record { sfits = c .before .before .before .before .if43 .given }) (c .before .before .before .if4 .left) in
     c .are-equal .ensures
-    ∙ same-rest (g .records .now) (g .literals .now) (g .j) (g .i) (c .before .before .before .before .before .before .before .before .before .before .before .before .if1 .left) (c .before .before .before .before .before .before .before .before .before .if2 .left)
+    ∙ same-rest (g .records .now) (g .literals .now) (g .j) (g .i)
+    (c .before .before .before .before .before .before .before .before .before .before .before .before .if1 .left)
+    (c .before .before .before .before .before .before .before .before .before .if2 .left)
     (c .before .before .before .before .before .before .if3 .left) e
 
 pub is-same-record-spec : {M : Type 1} → statement M

@@ -4,7 +4,13 @@ use lib.ListN.{getD}
 use lib.IntN.{pos}
 use borrow.Author.Tests.{not-true, not-false}
 use Rattle.store.proofs.SignLaws.{bits-zero, bits-apart}
-use Rattle.records.proofs.CheckLaws.{application-symbol-refuses, application-count-refuses, application-literal-refuses, application-child-refuses, application-rest}
+use Rattle.records.proofs.CheckLaws.{
+  application-symbol-refuses,
+  application-count-refuses,
+  application-literal-refuses,
+  application-child-refuses,
+  application-rest,
+}
 use borrow.Author.Needs.{needs}
 use Rattle.records.proofs.is_sound_application.Statement.{statement}
 use Rattle.records.proofs.is_sound_application.Tie as tie
@@ -52,7 +58,8 @@ returns-3 : tie.Need-returns-3
 returns-3 c =
     let g = c .before .before .before .before .before .before .before .args in
     sym
-    (application-literal-refuses (g .records .now) (g .literals .now) (g .i) (g .symbols) (c .before .before .before .before .if1 .left)
+    (application-literal-refuses (g .records .now) (g .literals .now) (g .i) (g .symbols)
+    (c .before .before .before .before .if1 .left)
     (c .before .before .if2 .left) (bits-apart (getD (g .literals .now) (g .i) (pos 0)) (pos 0) (c .if3 .taken)))
 
 add-a : tie.Need-add-a
@@ -79,10 +86,14 @@ all-below-requires c κs = search needs
 returns-4 : tie.Need-returns-4
 returns-4 c =
     let g = c .before .before .before .before .before .before .before .before .before .before .args in
-    let z = bits-zero (getD (g .literals .now) (g .i) (pos 0)) (record { sfits = c .before .before .before .before .if32 .given }) (c .before .before .before .if3 .left) in
+    let z =
+    bits-zero (getD (g .literals .now) (g .i) (pos 0))
+    (record { sfits = c .before .before .before .before .if32 .given }) (c .before .before .before .if3 .left) in
     sym
-    (application-child-refuses (g .records .now) (g .literals .now) (g .i) (g .symbols) (c .before .before .before .before .before .before .before .if1 .left)
-    (c .before .before .before .before .before .if2 .left) z (sym (c .before .all-below .ensures) ∙ not-true _ (c .if4 .taken)))
+    (application-child-refuses (g .records .now) (g .literals .now) (g .i) (g .symbols)
+    (c .before .before .before .before .before .before .before .if1 .left)
+    (c .before .before .before .before .before .if2 .left) z
+    (sym (c .before .all-below .ensures) ∙ not-true _ (c .if4 .taken)))
 
 add-e : tie.Need-add-e
 add-e c = search needs
@@ -105,9 +116,14 @@ all-zero-requires c κs = search needs
 returns-5 : tie.Need-returns-5
 returns-5 c =
     let g = c .before .before .before .before .before .before .before .before .before .before .before .before .args in
-    let z = bits-zero (getD (g .literals .now) (g .i) (pos 0)) (record { sfits = c .before .before .before .before .before .before .if32 .given }) (c .before .before .before .before .before .if3 .left) in
+    let z =
+    bits-zero (getD (g .literals .now) (g .i) (pos 0))
+    (record { sfits = c .before .before .before .before .before .before .if32 .given })
+    (c .before .before .before .before .before .if3 .left) in
     c .all-zero .ensures
-    ∙ application-rest (g .records .now) (g .literals .now) (g .i) (g .symbols) (c .before .before .before .before .before .before .before .before .before .if1 .left) (c .before .before .before .before .before .before .before .if2 .left) z
+    ∙ application-rest (g .records .now) (g .literals .now) (g .i) (g .symbols)
+    (c .before .before .before .before .before .before .before .before .before .if1 .left)
+    (c .before .before .before .before .before .before .before .if2 .left) z
     (sym (c .before .before .before .all-below .ensures) ∙ not-false _ (c .before .before .if4 .left))
 
 pub is-sound-application-spec : {M : Type 1} → statement M

@@ -34,7 +34,8 @@ shared-slice-read-if2 c = search needs
 returns-2 : tie.Need-returns-2
 returns-2 c =
     let g = c .before .before .before .before .before .args in
-    sym (literal-count-refuses (g .records .now) (g .literals .now) (g .i) (c .before .before .if1 .left) (c .if2 .taken))
+    sym (literal-count-refuses (g .records .now) (g .literals .now) (g .i)
+    (c .before .before .if1 .left) (c .if2 .taken))
 
 add-a : tie.Need-add-a
 add-a c = search needs
@@ -61,7 +62,8 @@ returns-3 : tie.Need-returns-3
 returns-3 c =
     let g = c .before .before .before .before .before .before .before .args in
     c .all-zero .ensures
-    ∙ literal-rest (g .records .now) (g .literals .now) (g .i) (c .before .before .before .before .if1 .left) (c .before .before .if2 .left)
+    ∙ literal-rest (g .records .now) (g .literals .now) (g .i) (c .before .before .before .before .if1 .left)
+    (c .before .before .if2 .left)
 
 pub is-sound-literal-spec : {M : Type 1} → statement M
 is-sound-literal-spec =

@@ -20,7 +20,8 @@ is-sound-literal-requires c κs = search needs
 returns : tie.Need-returns
 returns c =
     let g = c .before .before .before .before .args in
-    c .is-sound-literal .ensures ∙ record-literal (g .records .now) (g .literals .now) (g .i) (g .symbols) (c .before .if1 .taken)
+    c .is-sound-literal .ensures
+    ∙ record-literal (g .records .now) (g .literals .now) (g .i) (g .symbols) (c .before .if1 .taken)
 
 is-sound-variable-requires : tie.Need-is-sound-variable-requires
 is-sound-variable-requires c κs = search needs
@@ -28,7 +29,8 @@ is-sound-variable-requires c κs = search needs
 returns-2 : tie.Need-returns-2
 returns-2 c =
     let g = c .before .before .before .before .before .args in
-    c .is-sound-variable .ensures ∙ record-variable (g .records .now) (g .literals .now) (g .i) (g .symbols) (c .before .if2 .taken)
+    c .is-sound-variable .ensures
+    ∙ record-variable (g .records .now) (g .literals .now) (g .i) (g .symbols) (c .before .if2 .taken)
 
 is-sound-application-requires : tie.Need-is-sound-application-requires
 is-sound-application-requires c κs = search needs
@@ -36,12 +38,14 @@ is-sound-application-requires c κs = search needs
 returns-3 : tie.Need-returns-3
 returns-3 c =
     let g = c .before .before .before .before .before .before .args in
-    c .is-sound-application .ensures ∙ record-application (g .records .now) (g .literals .now) (g .i) (g .symbols) (c .before .if3 .taken)
+    c .is-sound-application .ensures
+    ∙ record-application (g .records .now) (g .literals .now) (g .i) (g .symbols) (c .before .if3 .taken)
 
 returns-4 : tie.Need-returns-4
 returns-4 c =
     let g = c .before .before .before .before .before .args in
-    sym (record-other-refuses (g .records .now) (g .literals .now) (g .i) (g .symbols) (c .before .before .if1 .left) (c .before .if2 .left) (c .if3 .left))
+    sym (record-other-refuses (g .records .now) (g .literals .now) (g .i) (g .symbols) (c .before .before .if1 .left)
+    (c .before .if2 .left) (c .if3 .left))
 
 pub is-sound-record-spec : {M : Type 1} → statement M
 is-sound-record-spec =

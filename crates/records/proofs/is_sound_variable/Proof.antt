@@ -3,7 +3,12 @@ use mathlib.Core.Path.{sym, _∙_}
 use lib.ListN.{getD}
 use lib.IntN.{pos}
 use Rattle.store.proofs.SignLaws.{bits-zero, bits-apart}
-use Rattle.records.proofs.CheckLaws.{variable-symbol-refuses, variable-count-refuses, variable-literal-refuses, variable-rest}
+use Rattle.records.proofs.CheckLaws.{
+  variable-symbol-refuses,
+  variable-count-refuses,
+  variable-literal-refuses,
+  variable-rest,
+}
 use borrow.Author.Needs.{needs}
 use Rattle.records.proofs.is_sound_variable.Statement.{statement}
 use Rattle.records.proofs.is_sound_variable.Tie as tie
@@ -51,7 +56,8 @@ returns-3 : tie.Need-returns-3
 returns-3 c =
     let g = c .before .before .before .before .before .before .before .args in
     sym
-    (variable-literal-refuses (g .records .now) (g .literals .now) (g .i) (g .symbols) (c .before .before .before .before .if1 .left)
+    (variable-literal-refuses (g .records .now) (g .literals .now) (g .i) (g .symbols)
+    (c .before .before .before .before .if1 .left)
     (c .before .before .if2 .left) (bits-apart (getD (g .literals .now) (g .i) (pos 0)) (pos 0) (c .if3 .taken)))
 
 add-a : tie.Need-add-a
@@ -78,9 +84,12 @@ all-zero-requires c κs = search needs
 returns-4 : tie.Need-returns-4
 returns-4 c =
     let g = c .before .before .before .before .before .before .before .before .before .args in
-    let z = bits-zero (getD (g .literals .now) (g .i) (pos 0)) (record { sfits = c .before .before .before .if32 .given }) (c .before .before .if3 .left) in
+    let z =
+    bits-zero (getD (g .literals .now) (g .i) (pos 0)) (record { sfits = c .before .before .before .if32 .given })
+    (c .before .before .if3 .left) in
     c .all-zero .ensures
-    ∙ variable-rest (g .records .now) (g .literals .now) (g .i) (g .symbols) (c .before .before .before .before .before .before .if1 .left) (c .before .before .before .before .if2 .left) z
+    ∙ variable-rest (g .records .now) (g .literals .now) (g .i) (g .symbols)
+    (c .before .before .before .before .before .before .if1 .left) (c .before .before .before .before .if2 .left) z
 
 pub is-sound-variable-spec : {M : Type 1} → statement M
 is-sound-variable-spec =

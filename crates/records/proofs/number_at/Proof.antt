@@ -13,7 +13,9 @@ returns-2 : tie.Need-returns-2
 returns-2 c = search needs
 
 returns-3 : tie.Need-returns-3
-returns-3 c = let g = c .before .before .before .args in sym (number-count (g .kind) (g .symbol) (pos 0) (g .children .now) (g .j) (c .if3 .taken))
+returns-3 c =
+    let g = c .before .before .before .args in
+    sym (number-count (g .kind) (g .symbol) (pos 0) (g .children .now) (g .j) (c .if3 .taken))
 
 sub-if4 : tie.Need-sub-if4
 sub-if4 c = search needs
@@ -31,14 +33,16 @@ returns-4 : tie.Need-returns-4
 returns-4 c =
     let g = c .before .before .before .before .before .args in
     sym
-    (number-child (g .kind) (g .symbol) (pos 0) (g .children .now) (g .j) (c .before .before .before .before .if1 .left) (c .before .before .before .if2 .left)
+    (number-child (g .kind) (g .symbol) (pos 0) (g .children .now) (g .j)
+    (c .before .before .before .before .if1 .left) (c .before .before .before .if2 .left)
     (c .before .before .if3 .left) (c .before .if4 .taken))
 
 returns-5 : tie.Need-returns-5
 returns-5 c =
     let g = c .before .before .before .before .args in
     sym
-    (number-past (g .kind) (g .symbol) (pos 0) (g .children .now) (g .j) (c .before .before .before .if1 .left) (c .before .before .if2 .left)
+    (number-past (g .kind) (g .symbol) (pos 0) (g .children .now) (g .j) (c .before .before .before .if1 .left)
+    (c .before .before .if2 .left)
     (c .before .if3 .left) (c .if4 .left))
 
 pub number-at-spec : {M : Type 1} → statement M

@@ -36,8 +36,17 @@ mul-at c = search needs
 
 loop-holds : tie.Need-loop-holds Inv-loop μ-loop
 loop-holds c =
-    let g = c .before .before .args in
-    (refl, (omega arith, (paste-zero (g .records .now) (g .i * 11) (numbers (filled (g .kind) (g .symbol) (pos 0) (g .children .now))), refl)))
+    let g = c .before .before .args in (
+      refl,
+      (
+        omega arith,
+        (
+          paste-zero (g .records .now) (g .i * 11)
+              (numbers (filled (g .kind) (g .symbol) (pos 0) (g .children .now))),
+          refl,
+        ),
+      ),
+    )
 
 number-at-requires : tie.Need-number-at-requires Inv-loop μ-loop
 number-at-requires c κs = search needs
@@ -69,7 +78,8 @@ loop-again c =
         omega arith,
         (
           rw (l .inv .1 .1 .0, c .number-at .ensures)
-              (rw add-one (paste-suc (g .records .now) (g .i * 11) n (l .j) 0 (omega (arith, pre .0 .numbers)) (omega (arith, e)))),
+              (rw add-one (paste-suc (g .records .now) (g .i * 11) n (l .j) 0 (omega (arith, pre .0 .numbers))
+              (omega (arith, e)))),
           length-set (l .records) (g .i * 11 + l .j) (c .number-at .result) ∙ l .inv .1 .1 .1,
         ),
       ),

@@ -104,7 +104,8 @@ returns c =
     let copied : Copied (g .records .now) (g .i * 11 + 3) (l .children) 8 = λ m h. l .inv .1 .1 .1 m (omega arith) in
     term-same _ _ refl refl refl
     (toZ-ofZ w64 (getD (g .literals .now) (g .i) (pos 0)) (record { sfits = c .t29 .given }))
-    (copied-whole (g .records .now) (g .i * 11 + 3) (l .children) 8 (l .inv .1 .1 .0) (omega (arith, pre .numbers)) copied)
+    (copied-whole (g .records .now) (g .i * 11 + 3) (l .children) 8 (l .inv .1 .1 .0)
+    (omega (arith, pre .numbers)) copied)
 
 pub record-at-spec : {M : Type 1} → statement M
 record-at-spec =

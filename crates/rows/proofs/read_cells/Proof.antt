@@ -1,4 +1,5 @@
--- `rows::read_cells` meets its contract: the cells read so far stand in their places, and the rest of the reading is that of the whole. Assumes nothing.
+-- `rows::read_cells` meets its contract: the cells read so far stand in their places, and the rest of the reading is
+-- that of the whole. Assumes nothing.
 use Prim.Native.Nat.{_-_}
 use mathlib.Core.Path.{ap, _∙_}
 use native.Mathlib.Omega.{arith}
@@ -6,7 +7,16 @@ use borrow.Author.Needs.{needs}
 use Rattle.fields.proofs.FieldLaws.{field-value, field-short}
 use Rattle.rows.specs.In.{rangeIn}
 use Rattle.format.proofs.ReadingLaws.{reads-got, reads-refused}
-use Rattle.rows.proofs.CellLaws.{column-small, cell-short, cell-over, Cells-read, cells-start, cells-more, cells-refuse, cells-end}
+use Rattle.rows.proofs.CellLaws.{
+  column-small,
+  cell-short,
+  cell-over,
+  Cells-read,
+  cells-start,
+  cells-more,
+  cells-refuse,
+  cells-end,
+}
 use Rattle.rows.proofs.read_cells.Statement.{statement}
 use Rattle.rows.proofs.read_cells.Tie as tie
 
@@ -41,8 +51,15 @@ bound-of-requires c κs =
 read-requires : tie.Need-read-requires Inv-loop μ-loop
 read-requires c κs =
     let l = c .before .before .before .loop .inv in
-    let p = c .before .before .before .before .before .before .pre in
-    (omega (arith, l .near, p .0, p .1 .1 .1 .arities-small .below (c .before .before .before .before .before .before .args .f)), omega arith)
+    let p = c .before .before .before .before .before .before .pre in (
+      omega (
+        arith,
+        l .near,
+        p .0,
+        p .1 .1 .1 .arities-small .below (c .before .before .before .before .before .before .args .f),
+      ),
+      omega arith,
+    )
 
 enum-known-x : tie.Need-enum-known-x Inv-loop μ-loop
 enum-known-x c = search needs
@@ -68,16 +85,47 @@ returns-2 c =
     (cell-over _ _ _ (field-value (r .read .ensures) (x .x .given .1)) (c .if1 .taken)))
 
 add-place : tie.Need-add-place Inv-loop μ-loop
-add-place c = omega (arith, c .before .before .before .before .before .before .before .loop-test .taken, c .before .before .before .before .before .before .before .before .before .before .before .pre .1 .1 .0, c .before .before .before .before .before .before .before .before .before .before .before .pre .1 .1 .1 .arities-small .below (c .before .before .before .before .before .before .before .before .before .before .before .args .f))
+add-place c =
+    omega (
+      arith,
+      c .before .before .before .before .before .before .before .loop-test .taken,
+      c .before .before .before .before .before .before .before .before .before .before .before .pre .1 .1 .0,
+      c .before .before .before .before .before .before .before .before .before .before .before .pre .1 .1 .1
+          .arities-small .below
+          (c .before .before .before .before .before .before .before .before .before .before .before .args .f),
+    )
 
 mul-cells : tie.Need-mul-cells Inv-loop μ-loop
-mul-cells c = omega (arith, c .before .before .before .before .before .before .before .loop-test .taken, c .before .before .before .before .before .before .before .before .before .before .before .pre .1 .1 .0, c .before .before .before .before .before .before .before .before .before .before .before .pre .1 .1 .1 .arities-small .below (c .before .before .before .before .before .before .before .before .before .before .before .args .f))
+mul-cells c =
+    omega (
+      arith,
+      c .before .before .before .before .before .before .before .loop-test .taken,
+      c .before .before .before .before .before .before .before .before .before .before .before .pre .1 .1 .0,
+      c .before .before .before .before .before .before .before .before .before .before .before .pre .1 .1 .1
+          .arities-small .below
+          (c .before .before .before .before .before .before .before .before .before .before .before .args .f),
+    )
 
 element-write-cells : tie.Need-element-write-cells Inv-loop μ-loop
-element-write-cells c = omega (arith, c .before .before .before .before .before .before .before .loop-test .taken, c .before .before .before .before .before .before .before .before .before .before .before .pre .1 .1 .0, c .before .before .before .before .before .before .before .before .before .before .before .pre .1 .1 .1 .arities-small .below (c .before .before .before .before .before .before .before .before .before .before .before .args .f))
+element-write-cells c =
+    omega (
+      arith,
+      c .before .before .before .before .before .before .before .loop-test .taken,
+      c .before .before .before .before .before .before .before .before .before .before .before .pre .1 .1 .0,
+      c .before .before .before .before .before .before .before .before .before .before .before .pre .1 .1 .1
+          .arities-small .below
+          (c .before .before .before .before .before .before .before .before .before .before .before .args .f),
+    )
 
 add-j : tie.Need-add-j Inv-loop μ-loop
-add-j c = omega (arith, c .before .before .before .before .before .before .before .loop-test .taken, c .before .before .before .before .before .before .before .before .before .before .before .pre .1 .1 .1 .arities-small .below (c .before .before .before .before .before .before .before .before .before .before .before .args .f))
+add-j c =
+    omega (
+      arith,
+      c .before .before .before .before .before .before .before .loop-test .taken,
+      c .before .before .before .before .before .before .before .before .before .before .before .pre .1 .1 .1
+          .arities-small .below
+          (c .before .before .before .before .before .before .before .before .before .before .before .args .f),
+    )
 
 loop-less : tie.Need-loop-less Inv-loop μ-loop
 loop-less c = search needs
@@ -88,7 +136,8 @@ loop-again c =
     let r = x .before .before in
     let t = r .before .before .before in
     let b = r .before .bound-of .ensures ∙ ap (rangeIn _ _ _) (r .before .before .column-of .ensures) in
-    cells-more (t .before .loop .inv) (t .loop-test .taken) b (field-value (r .read .ensures) (x .x .given .1)) (c .if1 .left)
+    cells-more (t .before .loop .inv) (t .loop-test .taken) b
+    (field-value (r .read .ensures) (x .x .given .1)) (c .if1 .left)
 
 returns-3 : tie.Need-returns-3 Inv-loop μ-loop
 returns-3 c =

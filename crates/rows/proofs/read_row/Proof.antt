@@ -20,12 +20,15 @@ enum-told : tie.Need-enum-told
 enum-told c = search needs
 
 returns : tie.Need-returns
-returns c = reads-refused (row-short _ _ _ _ _ _ _ _ _ (field-short (c .before .before .read .ensures) (c .enum-told .given .1)))
+returns c =
+    reads-refused (row-short _ _ _ _ _ _ _ _ _
+    (field-short (c .before .before .read .ensures) (c .enum-told .given .1)))
 
 returns-2 : tie.Need-returns-2
 returns-2 c =
     let x = c .before .before in
-    reads-refused (row-none _ _ _ _ _ _ _ _ _ (field-value (x .before .before .read .ensures) (x .x .given .1)) (c .if1 .taken))
+    reads-refused (row-none _ _ _ _ _ _ _ _ _
+    (field-value (x .before .before .read .ensures) (x .x .given .1)) (c .if1 .taken))
 
 read-requires-2 : tie.Need-read-requires-2
 read-requires-2 c κs =
@@ -42,7 +45,8 @@ enum-told-2 c = search needs
 returns-3 : tie.Need-returns-3
 returns-3 c =
     let x = c .before .before .before .before .before in
-    reads-refused (row-cut _ _ _ _ _ _ _ _ _ (field-value (x .before .before .read .ensures) (x .x .given .1)) (c .before .before .before .if1 .left)
+    reads-refused (row-cut _ _ _ _ _ _ _ _ _ (field-value (x .before .before .read .ensures) (x .x .given .1))
+    (c .before .before .before .if1 .left)
     (field-short (c .before .before .read2 .ensures) (c .enum-told2 .given .1)))
 
 mul-functions : tie.Need-mul-functions
@@ -74,7 +78,8 @@ returns-4 c =
     let y = c .before .before .before in
     let x = y .before .before .before .before .before in
     reads-via (λ (cells : List ℕ). record { function = _; subsumed = _; cells = cells })
-    (row-from _ _ _ _ _ _ _ _ _ (field-value (x .before .before .read .ensures) (x .x .given .1)) (y .before .before .before .if1 .left)
+    (row-from _ _ _ _ _ _ _ _ _ (field-value (x .before .before .read .ensures) (x .x .given .1))
+    (y .before .before .before .if1 .left)
     (field-value (y .before .before .read2 .ensures) (y .y .given .1)))
     (c .read-cells .ensures)
     (λ cells k e g. record { functions-put = refl; subsumed-put = refl; cells-put = g .put })

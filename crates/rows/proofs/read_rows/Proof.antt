@@ -1,4 +1,5 @@
--- `rows::read_rows` meets its contract: the rows read so far stand in the arrays, and the rest of the reading is that of the whole. Assumes nothing.
+-- `rows::read_rows` meets its contract: the rows read so far stand in the arrays, and the rest of the reading is that
+-- of the whole. Assumes nothing.
 use Prim.Native.Nat.{_-_}
 use native.Mathlib.Omega.{arith}
 use borrow.Author.Needs.{needs}
@@ -8,11 +9,13 @@ use Rattle.rows.proofs.read_rows.Statement.{statement}
 use Rattle.rows.proofs.read_rows.Tie as tie
 
 abbrev Inv-loop : tie.InvT-loop
-Inv-loop s at n kinds classes literals count outputs arities arguments functions₀ subsumed₀ cells₀ p₀ i₀ functions subsumed cells p i =
+Inv-loop s at n kinds classes literals count outputs arities arguments functions₀ subsumed₀ cells₀ p₀ i₀
+    functions subsumed cells p i =
     Rows-read s kinds classes literals count outputs arities arguments at n functions subsumed cells p i
 
 abbrev μ-loop : tie.MeasureT-loop
-μ-loop s at n kinds classes literals count outputs arities arguments functions₀ subsumed₀ cells₀ p₀ i₀ functions subsumed cells p i = n - i
+μ-loop s at n kinds classes literals count outputs arities arguments functions₀ subsumed₀ cells₀ p₀ i₀ functions
+    subsumed cells p i = n - i
 
 loop-holds : tie.Need-loop-holds Inv-loop μ-loop
 loop-holds c = rows-start (c .before .pre .1 .1 .1)
@@ -21,8 +24,10 @@ read-row-requires : tie.Need-read-row-requires Inv-loop μ-loop
 read-row-requires c κs =
     let t = c .before .before .before in
     let l = t .before .loop .inv in
-    let p = t .before .before .before .pre in
-    (omega (arith, l .near, p .0, p .1 .0, t .loop-test .taken), (omega (arith, p .1 .0, t .loop-test .taken), p .1 .1 .0))
+    let p = t .before .before .before .pre in (
+      omega (arith, l .near, p .0, p .1 .0, t .loop-test .taken),
+      (omega (arith, p .1 .0, t .loop-test .taken), p .1 .1 .0),
+    )
 
 enum-known-x : tie.Need-enum-known-x Inv-loop μ-loop
 enum-known-x c = search needs

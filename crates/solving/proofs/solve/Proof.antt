@@ -12,7 +12,9 @@ repeat-requires c κs = search needs
 
 fill-requires : tie.Need-fill-requires
 fill-requires c κs =
-    let a = c .before .before .before .before .before .before .before .before .before .before .before .before .before .before .before .before .before .before .before .before .before .pre in
+    let a =
+    c .before .before .before .before .before .before .before .before .before .before .before .before .before
+    .before .before .before .before .before .before .before .before .pre in
     let k = c .before .before .before .before .before .before .before .repeat .kept in (
       a .1 .edges-length ∙ sym (k .1 .0),
       (k .0 ∙ a .1 .fresh .long ∙ sym (k .1 .0), rw (k .1 .0) (a .0 .flat)),
@@ -20,13 +22,25 @@ fill-requires c κs =
 
 fill-requires-2 : tie.Need-fill-requires-2
 fill-requires-2 c κs =
-    let g = c .before .before .before .before .before .before .before .before .before .before .before .before .before .before .before .before .before .before .before .before .before .before .before .before .before .before .before .before .before .args in
-    let a = c .before .before .before .before .before .before .before .before .before .before .before .before .before .before .before .before .before .before .before .before .before .before .before .before .before .before .before .before .before .pre in
-    let r = c .before .before .before .before .before .before .before .before .before .before .before .before .before .before .before .repeat in
+    let g =
+    c .before .before .before .before .before .before .before .before .before .before .before .before .before
+    .before .before .before .before .before .before .before .before .before .before .before .before .before .before
+    .before .before .args in
+    let a =
+    c .before .before .before .before .before .before .before .before .before .before .before .before .before
+    .before .before .before .before .before .before .before .before .before .before .before .before .before .before
+    .before .before .pre in
+    let r =
+    c .before .before .before .before .before .before .before .before .before .before .before .before .before
+    .before .before .repeat in
     let k = r .kept in (
-      plan-ready (length (g .ranks .now)) (g .outputs .now) (g .heads .now) (g .starts .now) (g .children .now) (g .order .now)
-          (g .functions .now) (a .0) (r .last .0) (r .last .1 .0) (c .before .before .before .before .before .before .before .fill .last .0) (r .result .last) (r .result .passes)
-          (r .ensures) (c .before .before .before .before .before .before .before .fill .ensures) (k .1 .0) (k .0 ∙ a .1 .fresh .long ∙ sym (k .1 .0)),
+      plan-ready (length (g .ranks .now)) (g .outputs .now) (g .heads .now) (g .starts .now)
+          (g .children .now) (g .order .now)
+          (g .functions .now) (a .0) (r .last .0) (r .last .1 .0)
+          (c .before .before .before .before .before .before .before .fill .last .0)
+          (r .result .last) (r .result .passes)
+          (r .ensures) (c .before .before .before .before .before .before .before .fill .ensures) (k .1 .0)
+          (k .0 ∙ a .1 .fresh .long ∙ sym (k .1 .0)),
       (rw (k .1 .0) (a .1 .plan-long), rw (k .1 .0) (a .1 .known-zero)),
     )
 
@@ -47,11 +61,18 @@ same-length-5 c = search needs
 
 returns : tie.Need-returns
 returns c =
-    let g = c .before .before .before .before .before .before .before .before .before .before .before .before .before .before .before .before .before .before .before .before .before .before .before .before .before .before .before .before .before .before .before .before .before .before .args in
-    let r = c .before .before .before .before .before .before .before .before .before .before .before .before .before .before .before .before .before .before .before .before .repeat in
+    let g =
+    c .before .before .before .before .before .before .before .before .before .before .before .before .before
+    .before .before .before .before .before .before .before .before .before .before .before .before .before .before
+    .before .before .before .before .before .before .before .args in
+    let r =
+    c .before .before .before .before .before .before .before .before .before .before .before .before .before
+    .before .before .before .before .before .before .before .repeat in
     record {
       ran = r .ensures;
-      edges-are = c .before .before .before .before .before .before .before .before .before .before .before .before .fill .ensures;
+      edges-are =
+          c .before .before .before .before .before .before .before .before .before .before .before
+          .before .fill .ensures;
       planned = rw (r .kept .1 .0) at (c .before .before .before .before .fill2 .ensures);
     }
 

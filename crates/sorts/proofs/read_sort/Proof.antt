@@ -54,14 +54,16 @@ returns-4 : tie.Need-returns-4
 returns-4 c =
     let g = c .before .before in
     let f = g .before .before .before .before .before in
-    sym (sort-large _ _ _ (field-value (f .before .before .read .ensures) (f .f .given .1)) (g .before .before .before .if1 .left)
+    sym (sort-large _ _ _ (field-value (f .before .before .read .ensures) (f .f .given .1))
+    (g .before .before .before .if1 .left)
     (field-value (g .before .before .read2 .ensures) (g .g .given .1)) (c .if2 .taken))
 
 returns-5 : tie.Need-returns-5
 returns-5 c =
     let g = c .before .before in
     let f = g .before .before .before .before .before in
-    sym (sort-eq _ _ _ (field-value (f .before .before .read .ensures) (f .f .given .1)) (g .before .before .before .if1 .left)
+    sym (sort-eq _ _ _ (field-value (f .before .before .read .ensures) (f .f .given .1))
+    (g .before .before .before .if1 .left)
     (field-value (g .before .before .read2 .ensures) (g .g .given .1)) (c .if2 .left))
 
 pub read-sort-spec : {M : Type 1} → statement M

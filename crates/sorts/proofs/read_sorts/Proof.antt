@@ -1,4 +1,5 @@
--- `sorts::read_sorts` meets its contract: the sorts read so far stand in the arrays, and the rest of the reading is that of the whole. Assumes nothing.
+-- `sorts::read_sorts` meets its contract: the sorts read so far stand in the arrays, and the rest of the reading is
+-- that of the whole. Assumes nothing.
 use Prim.Native.Nat.{_-_}
 use mathlib.Core.Path.{sym, ap, _∙_}
 use native.Mathlib.Omega.{arith}
@@ -30,7 +31,8 @@ returns c =
     let x = c .before in
     let r = x .before .before in
     let l = r .before .before .loop .inv in
-    reads-refused (sorts-refuse l (r .before .loop-test .taken) (sym (r .read-sort .ensures) ∙ ap gotSort (x .x .given .1)))
+    reads-refused (sorts-refuse l (r .before .loop-test .taken)
+    (sym (r .read-sort .ensures) ∙ ap gotSort (x .x .given .1)))
 
 enum-known-x-2 : tie.Need-enum-known-x-2 Inv-loop μ-loop
 enum-known-x-2 c = search needs
@@ -65,7 +67,8 @@ loop-again c =
     let x = c .before in
     let r = x .before .before in
     let l = r .before .before .loop .inv in
-    sorts-more l (r .before .before .before .before .pre .1 .0) (r .before .loop-test .taken) (sym (r .read-sort .ensures) ∙ ap gotSort (x .x2 .given .1))
+    sorts-more l (r .before .before .before .before .pre .1 .0) (r .before .loop-test .taken)
+    (sym (r .read-sort .ensures) ∙ ap gotSort (x .x2 .given .1))
 
 returns-2 : tie.Need-returns-2 Inv-loop μ-loop
 returns-2 c =

@@ -1,4 +1,5 @@
--- `table::read` meets its contract: on the call's own arrays the reader is exact; they are handed over only when all has been read. Assumes nothing.
+-- `table::read` meets its contract: on the call's own arrays the reader is exact; they are handed over only when all
+-- has been read. Assumes nothing.
 use mathlib.Core.Path.{refl}
 use borrow.Author.Needs.{needs}
 use Rattle.table.proofs.ReadLaws.{read-refuses, read-accepts}

@@ -1,4 +1,5 @@
--- `table_runs::verdicts` meets its contract: each verdict has its place, and the files are passed in order. Assumes nothing.
+-- `table_runs::verdicts` meets its contract: each verdict has its place, and the files are passed in order. Assumes
+-- nothing.
 use Prim.Native.Nat.{_≤_, _<_, _-_}
 use mathlib.Core.Path.{_≡_, sym}
 use lib.ListN.{length, length-set}
@@ -39,7 +40,8 @@ same-length-2 : tie.Need-same-length-2 Inv-loop μ-loop
 same-length-2 c = search needs
 
 returns-2 : tie.Need-returns-2 Inv-loop μ-loop
-returns-2 c = let l = c .before .before .before .before .loop in (l .inv .0, sym (length-take-le (l .k) (l .out) (l .inv .0)))
+returns-2 c =
+    let l = c .before .before .before .before .loop in (l .inv .0, sym (length-take-le (l .k) (l .out) (l .inv .0)))
 
 add-e : tie.Need-add-e Inv-loop μ-loop
 add-e c = search needs

@@ -30,12 +30,22 @@ mul-counts c =
 slice-read-counts : tie.Need-slice-read-counts Inv-loop μ-loop
 slice-read-counts c =
     let s = c .before .before .before .before in
-    omega (arith, s .pre .0 (c .before .before .before .loop .j) (omega arith), c .before .before .before .loop .inv .long)
+    omega (
+      arith,
+      s .pre .0 (c .before .before .before .loop .j) (omega arith),
+      c .before .before .before .loop .inv .long,
+    )
 
 add-counts : tie.Need-add-counts Inv-loop μ-loop
 add-counts c =
     let s = c .before .before .before .before in
-    omega (arith, c .before .before .before .loop .inv .low (getD (s .args .ks .now) (c .before .before .before .loop .j) 0), s .pre .1 .0, c .before .before .loop-test .taken)
+    omega (
+      arith,
+      c .before .before .before .loop .inv .low (getD (s .args .ks .now)
+          (c .before .before .before .loop .j) 0),
+      s .pre .1 .0,
+      c .before .before .loop-test .taken,
+    )
 
 slice-write-counts : tie.Need-slice-write-counts Inv-loop μ-loop
 slice-write-counts c = slice-read-counts c

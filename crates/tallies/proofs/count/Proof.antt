@@ -43,7 +43,8 @@ loop-holds c =
     let s = c .before .before in (
       omega arith,
       λ w k.
-          counting-none (s .args .records .now) (s .args .n) w k (s .args .counts .now) (s .pre .1 .1 .0) (s .pre .1 .1 .1),
+          counting-none (s .args .records .now) (s .args .n) w k (s .args .counts .now)
+          (s .pre .1 .1 .0) (s .pre .1 .1 .1),
     )
 
 sub-t : tie.Need-sub-t Inv-loop μ-loop
@@ -68,7 +69,10 @@ shared-slice-read-e : tie.Need-shared-slice-read-e Inv-loop μ-loop
 shared-slice-read-e c = search needs
 
 add-e-2 : tie.Need-add-e-2 Inv-loop μ-loop
-add-e-2 c = let s = c .before .before .before .before .before in let t = inv s (c .before .before .loop .counts) (c .before .before .loop .t) (c .before .before .loop .inv .1) in omega (arith, s .pre .0 .arity (c .before .before .loop .t - 1) (omega (arith, t .at)), s .pre .0 .few, t .at)
+add-e-2 c =
+    let s = c .before .before .before .before .before in
+    let t = inv s (c .before .before .loop .counts) (c .before .before .loop .t) (c .before .before .loop .inv .1) in
+    omega (arith, s .pre .0 .arity (c .before .before .loop .t - 1) (omega (arith, t .at)), s .pre .0 .few, t .at)
 
 mul-give-on : tie.Need-mul-give-on Inv-loop μ-loop
 mul-give-on c = search needs
@@ -80,7 +84,17 @@ part-give-on-start : tie.Need-part-give-on-start Inv-loop μ-loop
 part-give-on-start c = search needs
 
 part-give-on-end : tie.Need-part-give-on-end Inv-loop μ-loop
-part-give-on-end c = let s = c .before .before .before .before .before .before in let t = inv s (c .before .before .before .loop .counts) (c .before .before .before .loop .t) (c .before .before .before .loop .inv .1) in omega (arith, s .pre .0 .arity (c .before .before .before .loop .t - 1) (omega (arith, t .at)), s .pre .0 .inRecords, t .at)
+part-give-on-end c =
+    let s = c .before .before .before .before .before .before in
+    let t =
+    inv s (c .before .before .before .loop .counts) (c .before .before .before .loop .t)
+    (c .before .before .before .loop .inv .1) in
+    omega (
+      arith,
+      s .pre .0 .arity (c .before .before .before .loop .t - 1) (omega (arith, t .at)),
+      s .pre .0 .inRecords,
+      t .at,
+    )
 
 give-on-requires : tie.Need-give-on-requires Inv-loop μ-loop
 give-on-requires c κs =
@@ -88,7 +102,8 @@ give-on-requires c κs =
     let l = c .before .before .before .before .loop in
     let v = inv s (l .counts) (l .t) (l .inv .1) in
     let k : l .t - 1 < s .args .n = omega (arith, v .at) in
-    let r : s .args .n ≤ length (l .counts) = omega (arith, v .long, length-set (s .args .counts .now) (s .args .n - 1) 1, s .pre .1 .1 .0) in (
+    let r : s .args .n ≤ length (l .counts) =
+    omega (arith, v .long, length-set (s .args .counts .now) (s .args .n - 1) 1, s .pre .1 .1 .0) in (
       omega arith,
       (
         (λ i h. omega (arith, s .pre .0 .lower (l .t - 1) k i h)),
@@ -109,21 +124,26 @@ loop-again c =
       omega arith,
       λ w k.
           let v = inv s (l .counts) (l .t) (l .inv .1) in
-          let r : s .args .n ≤ length (l .counts) = omega (arith, v .long, length-set (s .args .counts .now) (s .args .n - 1) 1, s .pre .1 .1 .0) in
-          counting-again (s .args .records .now) (s .args .n) w k (set (s .args .counts .now) (s .args .n - 1) 1) (l .counts)
-          (c .before .before .give-on .last .0) (l .t) (l .inv .1 w k) (omega arith) r (c .before .before .give-on .kept .0) (c .before .before .give-on .ensures),
+          let r : s .args .n ≤ length (l .counts) =
+          omega (arith, v .long, length-set (s .args .counts .now) (s .args .n - 1) 1, s .pre .1 .1 .0) in
+          counting-again (s .args .records .now) (s .args .n) w k
+          (set (s .args .counts .now) (s .args .n - 1) 1) (l .counts)
+          (c .before .before .give-on .last .0) (l .t) (l .inv .1 w k) (omega arith) r
+          (c .before .before .give-on .kept .0) (c .before .before .give-on .ensures),
     )
 
 same-length : tie.Need-same-length Inv-loop μ-loop
 same-length c =
     let s = c .before .before .before .before in
-    inv s (c .before .loop .counts) (c .before .loop .t) (c .before .loop .inv .1) .long ∙ length-set (s .args .counts .now) (s .args .n - 1) 1
+    inv s (c .before .loop .counts) (c .before .loop .t) (c .before .loop .inv .1) .long
+    ∙ length-set (s .args .counts .now) (s .args .n - 1) 1
 
 returns : tie.Need-returns Inv-loop μ-loop
 returns c =
     let s = c .before .before .before .before in
     let k : s .args .n - 1 < s .args .n = omega (arith, s .pre .1 .0) in
-    counting-end (s .args .records .now) (s .args .n) (s .pre .0) k (set (s .args .counts .now) (s .args .n - 1) 1) (c .before .loop .counts) (c .before .loop .t) (omega arith) (c .before .loop .inv .1 (s .pre .0) k)
+    counting-end (s .args .records .now) (s .args .n) (s .pre .0) k (set (s .args .counts .now) (s .args .n - 1) 1)
+    (c .before .loop .counts) (c .before .loop .t) (omega arith) (c .before .loop .inv .1 (s .pre .0) k)
 
 pub count-spec : {M : Type 1} → statement M
 count-spec =

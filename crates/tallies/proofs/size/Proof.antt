@@ -13,7 +13,8 @@ abbrev μ-loop : tie.MeasureT-loop
 μ-loop sizes₀ records n t₀ sizes t = n - t
 
 loop-holds : tie.Need-loop-holds Inv-loop μ-loop
-loop-holds c = let s = c .before .before in sizing-none (s .args .records .now) (s .args .n) (s .args .sizes .now) (s .pre .1 .1)
+loop-holds c =
+    let s = c .before .before in sizing-none (s .args .records .now) (s .args .n) (s .args .sizes .now) (s .pre .1 .1)
 
 mul-a : tie.Need-mul-a Inv-loop μ-loop
 mul-a c = search needs
@@ -34,7 +35,14 @@ shared-slice-read-e : tie.Need-shared-slice-read-e Inv-loop μ-loop
 shared-slice-read-e c = search needs
 
 add-e-2 : tie.Need-add-e-2 Inv-loop μ-loop
-add-e-2 c = let s = c .before .before .before .before .before in omega (arith, s .pre .0 .arity (c .before .before .loop .t) (c .before .loop-test .taken), s .pre .0 .few, c .before .loop-test .taken)
+add-e-2 c =
+    let s = c .before .before .before .before .before in
+    omega (
+      arith,
+      s .pre .0 .arity (c .before .before .loop .t) (c .before .loop-test .taken),
+      s .pre .0 .few,
+      c .before .loop-test .taken,
+    )
 
 mul-size-of : tie.Need-mul-size-of Inv-loop μ-loop
 mul-size-of c = search needs
@@ -46,22 +54,48 @@ part-size-of-start : tie.Need-part-size-of-start Inv-loop μ-loop
 part-size-of-start c = search needs
 
 part-size-of-end : tie.Need-part-size-of-end Inv-loop μ-loop
-part-size-of-end c = let s = c .before .before .before .before .before .before in omega (arith, s .pre .0 .arity (c .before .before .before .loop .t) (c .before .before .loop-test .taken), s .pre .0 .inRecords, c .before .before .loop-test .taken)
+part-size-of-end c =
+    let s = c .before .before .before .before .before .before in
+    omega (
+      arith,
+      s .pre .0 .arity (c .before .before .before .loop .t) (c .before .before .loop-test .taken),
+      s .pre .0 .inRecords,
+      c .before .before .loop-test .taken,
+    )
 
 size-of-requires : tie.Need-size-of-requires Inv-loop μ-loop
 size-of-requires c κs =
     let s = c .before .before .before .before .before .before .before in
-    let l = c .before .before .before .before .loop in
-    ((λ i h. omega (arith, s .pre .0 .lower (l .t) (c .before .before .before .loop-test .taken) i h, s .pre .1 .0, l .inv .long, c .before .before .before .loop-test .taken)), l .inv .low)
+    let l = c .before .before .before .before .loop in (
+      (λ i h. omega (
+        arith,
+        s .pre .0 .lower (l .t) (c .before .before .before .loop-test .taken) i h,
+        s .pre .1 .0,
+        l .inv .long,
+        c .before .before .before .loop-test .taken,
+      )),
+      l .inv .low,
+    )
 
 mul-sizes : tie.Need-mul-sizes Inv-loop μ-loop
-mul-sizes c = let s = c .before .before .before .before .before .before .before .before in omega (arith, s .pre .0 .few, c .before .before .before .before .loop-test .taken)
+mul-sizes c =
+    let s = c .before .before .before .before .before .before .before .before in
+    omega (arith, s .pre .0 .few, c .before .before .before .before .loop-test .taken)
 
 slice-write-sizes : tie.Need-slice-write-sizes Inv-loop μ-loop
-slice-write-sizes c = let s = c .before .before .before .before .before .before .before .before in omega (arith, c .before .before .before .before .before .loop .inv .long, s .pre .1 .0, c .before .before .before .before .loop-test .taken)
+slice-write-sizes c =
+    let s = c .before .before .before .before .before .before .before .before in
+    omega (
+      arith,
+      c .before .before .before .before .before .loop .inv .long,
+      s .pre .1 .0,
+      c .before .before .before .before .loop-test .taken,
+    )
 
 add-t : tie.Need-add-t Inv-loop μ-loop
-add-t c = let s = c .before .before .before .before .before .before .before .before in omega (arith, s .pre .0 .few, c .before .before .before .before .loop-test .taken)
+add-t c =
+    let s = c .before .before .before .before .before .before .before .before in
+    omega (arith, s .pre .0 .few, c .before .before .before .before .loop-test .taken)
 
 loop-less : tie.Need-loop-less Inv-loop μ-loop
 loop-less c = search needs
@@ -70,7 +104,8 @@ loop-again : tie.Need-loop-again Inv-loop μ-loop
 loop-again c =
     let s = c .before .before .before .before .before .before .before .before in
     let l = c .before .before .before .before .before .loop in
-    sizing-again (s .args .records .now) (s .args .n) (s .args .sizes .now) (l .sizes) (l .t) (c .size-of .result) (s .pre .0) (c .before .before .before .before .loop-test .taken)
+    sizing-again (s .args .records .now) (s .args .n) (s .args .sizes .now) (l .sizes) (l .t) (c .size-of .result)
+    (s .pre .0) (c .before .before .before .before .loop-test .taken)
     (s .pre .1 .0) (c .size-of .ensures) (l .inv)
 
 same-length : tie.Need-same-length Inv-loop μ-loop

@@ -23,15 +23,21 @@ shared-slice-read-k : tie.Need-shared-slice-read-k Inv-loop μ-loop
 shared-slice-read-k c = search needs
 
 mul-add-size : tie.Need-mul-add-size Inv-loop μ-loop
-mul-add-size c = let s = c .before .before .before .before .before in omega (arith, s .pre .0 (c .before .before .loop .j) (omega arith), s .good)
+mul-add-size c =
+    let s = c .before .before .before .before .before in
+    omega (arith, s .pre .0 (c .before .before .loop .j) (omega arith), s .good)
 
 shared-slice-read-add-size : tie.Need-shared-slice-read-add-size Inv-loop μ-loop
-shared-slice-read-add-size c = let s = c .before .before .before .before .before .before in s .pre .0 (c .before .before .before .loop .j) (omega arith)
+shared-slice-read-add-size c =
+    let s = c .before .before .before .before .before .before in
+    s .pre .0 (c .before .before .before .loop .j) (omega arith)
 
 add-size-requires : tie.Need-add-size-requires Inv-loop μ-loop
 add-size-requires c κs =
-    let s = c .before .before .before .before .before .before in
-    (c .before .before .before .loop .inv .low, s .pre .1 (getD (s .args .ks .now) (c .before .before .before .loop .j) 0))
+    let s = c .before .before .before .before .before .before in (
+      c .before .before .before .loop .inv .low,
+      s .pre .1 (getD (s .args .ks .now) (c .before .before .before .loop .j) 0),
+    )
 
 add-j : tie.Need-add-j Inv-loop μ-loop
 add-j c = search needs

@@ -1,11 +1,21 @@
--- `terms::add_application` meets its contract. The store, the name and the children are checked, then the application is interned. Assumes nothing.
+-- `terms::add_application` meets its contract. The store, the name and the children are checked, then the application
+-- is interned. Assumes nothing.
 use mathlib.Core.Path.{sym, _∙_}
 use borrow.Author.Tests.{not-true, not-false}
 use Rattle.refusals.specs.declared.Refusal.the-variants.{BadStore, BadName, BadSize, BadTerm}
 use Rattle.store.specs.Lent.{store}
 use Rattle.store.specs.Nodes.{application}
 use Rattle.terms.specs.Calls.{applicationFaults, addApplication}
-use Rattle.terms.proofs.CallLaws.{application-store, application-name, application-size, application-term, application-fine, adding-refuses, adding-room, adding-given}
+use Rattle.terms.proofs.CallLaws.{
+  application-store,
+  application-name,
+  application-size,
+  application-term,
+  application-fine,
+  adding-refuses,
+  adding-room,
+  adding-given,
+}
 use borrow.Author.Needs.{needs}
 use Rattle.terms.proofs.add_application.Statement.{statement}
 use Rattle.terms.proofs.add_application.Tie as tie
@@ -27,7 +37,10 @@ unfolding addApplication
 returns c =
     let g = c .before .before .before .before .before .before .before .before .before .args in
     let s = store (g .records .now) (g .literals .now) (g .names .now) (g .terms) (g .symbols) in
-    adding-refuses s (application (g .name .now) (g .children .now)) (applicationFaults s (g .name .now) (g .children .now)) BadStore (application-store s (g .name .now) (g .children .now) (sym (c .before .check .ensures) ∙ not-true _ (c .if1 .taken)))
+    adding-refuses s (application (g .name .now) (g .children .now))
+    (applicationFaults s (g .name .now) (g .children .now)) BadStore
+    (application-store s (g .name .now) (g .children .now)
+    (sym (c .before .check .ensures) ∙ not-true _ (c .if1 .taken)))
 
 is-valid-requires : tie.Need-is-valid-requires
 is-valid-requires c κs = search needs
@@ -46,7 +59,11 @@ unfolding addApplication
 returns-2 c =
     let g = c .before .before .before .before .before .before .before .before .before .before .before .args in
     let s = store (g .records .now) (g .literals .now) (g .names .now) (g .terms) (g .symbols) in
-    adding-refuses s (application (g .name .now) (g .children .now)) (applicationFaults s (g .name .now) (g .children .now)) BadName (application-name s (g .name .now) (g .children .now) (sym (c .before .before .before .check .ensures) ∙ not-false _ (c .before .before .if1 .left)) (sym (c .before .is-valid .ensures) ∙ not-true _ (c .if2 .taken)))
+    adding-refuses s (application (g .name .now) (g .children .now))
+    (applicationFaults s (g .name .now) (g .children .now)) BadName
+    (application-name s (g .name .now) (g .children .now)
+    (sym (c .before .before .before .check .ensures) ∙ not-false _ (c .before .before .if1 .left))
+    (sym (c .before .is-valid .ensures) ∙ not-true _ (c .if2 .taken)))
 
 same-length-7 : tie.Need-same-length-7
 same-length-7 c = search needs
@@ -62,7 +79,11 @@ unfolding addApplication
 returns-3 c =
     let g = c .before .before .before .before .before .before .before .before .before .before .before .before .args in
     let s = store (g .records .now) (g .literals .now) (g .names .now) (g .terms) (g .symbols) in
-    adding-refuses s (application (g .name .now) (g .children .now)) (applicationFaults s (g .name .now) (g .children .now)) BadSize (application-size s (g .name .now) (g .children .now) (sym (c .before .before .before .before .check .ensures) ∙ not-false _ (c .before .before .before .if1 .left)) (sym (c .before .before .is-valid .ensures) ∙ not-false _ (c .before .if2 .left)) (c .if3 .taken))
+    adding-refuses s (application (g .name .now) (g .children .now))
+    (applicationFaults s (g .name .now) (g .children .now)) BadSize
+    (application-size s (g .name .now) (g .children .now)
+    (sym (c .before .before .before .before .check .ensures) ∙ not-false _ (c .before .before .before .if1 .left))
+    (sym (c .before .before .is-valid .ensures) ∙ not-false _ (c .before .if2 .left)) (c .if3 .taken))
 
 all-below-requires : tie.Need-all-below-requires
 all-below-requires c κs = search needs
@@ -79,13 +100,29 @@ same-length-12 c = search needs
 returns-4 : tie.Need-returns-4
 unfolding addApplication
 returns-4 c =
-    let g = c .before .before .before .before .before .before .before .before .before .before .before .before .before .before .args in
+    let g =
+    c .before .before .before .before .before .before .before .before .before .before .before .before
+    .before .before .args in
     let s = store (g .records .now) (g .literals .now) (g .names .now) (g .terms) (g .symbols) in
-    adding-refuses s (application (g .name .now) (g .children .now)) (applicationFaults s (g .name .now) (g .children .now)) BadTerm
-    (application-term s (g .name .now) (g .children .now) (sym (c .before .before .before .before .before .before .check .ensures) ∙ not-false _ (c .before .before .before .before .before .if1 .left)) (sym (c .before .before .before .before .is-valid .ensures) ∙ not-false _ (c .before .before .before .if2 .left)) (c .before .before .if3 .left) (sym (c .before .all-below .ensures) ∙ not-true _ (c .if4 .taken)))
+    adding-refuses s (application (g .name .now) (g .children .now))
+    (applicationFaults s (g .name .now) (g .children .now)) BadTerm
+    (application-term s (g .name .now) (g .children .now)
+    (sym (c .before .before .before .before .before .before .check .ensures) ∙ not-false _
+    (c .before .before .before .before .before .if1 .left))
+    (sym (c .before .before .before .before .is-valid .ensures) ∙ not-false _
+    (c .before .before .before .if2 .left)) (c .before .before .if3 .left) (sym (c .before .all-below .ensures)
+    ∙ not-true _ (c .if4 .taken)))
 
 intern-application-requires : tie.Need-intern-application-requires
-intern-application-requires c κs = ((sym (c .before .before .before .before .before .before .before .before .before .check .ensures) ∙ not-false _ (c .before .before .before .before .before .before .before .before .if1 .left)), ((sym (c .before .before .before .before .before .before .before .is-valid .ensures) ∙ not-false _ (c .before .before .before .before .before .before .if2 .left)), c .before .before .before .before .before .if3 .left))
+intern-application-requires c κs = (
+  (sym (c .before .before .before .before .before .before .before .before .before .check .ensures) ∙ not-false _
+      (c .before .before .before .before .before .before .before .before .if1 .left)),
+  (
+    (sym (c .before .before .before .before .before .before .before .is-valid .ensures) ∙ not-false _
+        (c .before .before .before .before .before .before .if2 .left)),
+    c .before .before .before .before .before .if3 .left,
+  ),
+)
 
 enum-known-i : tie.Need-enum-known-i
 enum-known-i c = search needs
@@ -105,10 +142,27 @@ same-length-15 c = search needs
 returns-5 : tie.Need-returns-5
 unfolding addApplication
 returns-5 c =
-    let g = c .before .before .before .before .before .before .before .before .before .before .before .before .before .before .before .before .before .before .before .before .before .before .before .before .before .args in
+    let g =
+    c .before .before .before .before .before .before .before .before .before .before .before .before .before
+    .before .before .before .before .before .before .before .before .before .before .before .before .args in
     let s = store (g .records .now) (g .literals .now) (g .names .now) (g .terms) (g .symbols) in
-    adding-room s (application (g .name .now) (g .children .now)) (applicationFaults s (g .name .now) (g .children .now))
-    (application-fine s (g .name .now) (g .children .now) (sym (c .before .before .before .before .before .before .before .before .before .before .before .before .before .before .before .before .before .check .ensures) ∙ not-false _ (c .before .before .before .before .before .before .before .before .before .before .before .before .before .before .before .before .if1 .left)) (sym (c .before .before .before .before .before .before .before .before .before .before .before .before .before .before .before .is-valid .ensures) ∙ not-false _ (c .before .before .before .before .before .before .before .before .before .before .before .before .before .before .if2 .left)) (c .before .before .before .before .before .before .before .before .before .before .before .before .before .if3 .left) (sym (c .before .before .before .before .before .before .before .before .before .before .before .before .all-below .ensures) ∙ not-false _ (c .before .before .before .before .before .before .before .before .before .before .before .if4 .left))) _ _ _ _
+    adding-room s (application (g .name .now) (g .children .now))
+    (applicationFaults s (g .name .now) (g .children .now))
+    (application-fine s (g .name .now) (g .children .now)
+    (sym (c .before .before .before .before .before .before .before .before .before .before .before .before .before
+    .before .before .before .before .check .ensures) ∙ not-false _
+    (c .before .before .before .before .before .before .before .before .before .before .before .before .before
+    .before .before .before .if1 .left))
+    (sym (c .before .before .before .before .before .before .before .before .before .before .before .before .before
+    .before .before .is-valid .ensures) ∙ not-false _
+    (c .before .before .before .before .before .before .before .before .before .before .before .before .before
+    .before .if2 .left))
+    (c .before .before .before .before .before .before .before .before .before .before .before .before .before .if3
+    .left)
+    (sym (c .before .before .before .before .before .before .before .before .before .before .before .before
+    .all-below .ensures) ∙ not-false _
+    (c .before .before .before .before .before .before .before .before .before .before .before .if4 .left))) _ _ _
+    _
     (c .before .before .before .before .before .before .before .intern-application .ensures) (c .enum-told .given .1)
 
 same-length-16 : tie.Need-same-length-16
@@ -123,11 +177,30 @@ same-length-18 c = search needs
 returns-6 : tie.Need-returns-6
 unfolding addApplication
 returns-6 c =
-    let g = c .before .before .before .before .before .before .before .before .before .before .before .before .before .before .before .before .before .before .before .before .before .before .before .before .before .before .args in
+    let g =
+    c .before .before .before .before .before .before .before .before .before .before .before .before .before
+    .before .before .before .before .before .before .before .before .before .before .before
+    .before .before .args in
     let s = store (g .records .now) (g .literals .now) (g .names .now) (g .terms) (g .symbols) in
-    adding-given s (application (g .name .now) (g .children .now)) (applicationFaults s (g .name .now) (g .children .now))
-    (application-fine s (g .name .now) (g .children .now) (sym (c .before .before .before .before .before .before .before .before .before .before .before .before .before .before .before .before .before .before .check .ensures) ∙ not-false _ (c .before .before .before .before .before .before .before .before .before .before .before .before .before .before .before .before .before .if1 .left)) (sym (c .before .before .before .before .before .before .before .before .before .before .before .before .before .before .before .before .is-valid .ensures) ∙ not-false _ (c .before .before .before .before .before .before .before .before .before .before .before .before .before .before .before .if2 .left)) (c .before .before .before .before .before .before .before .before .before .before .before .before .before .before .if3 .left) (sym (c .before .before .before .before .before .before .before .before .before .before .before .before .before .all-below .ensures) ∙ not-false _ (c .before .before .before .before .before .before .before .before .before .before .before .before .if4 .left))) _ _ _ _ _ _ _
-    (c .before .before .before .before .before .before .before .before .intern-application .ensures) (c .before .i .given .1)
+    adding-given s (application (g .name .now) (g .children .now))
+    (applicationFaults s (g .name .now) (g .children .now))
+    (application-fine s (g .name .now) (g .children .now)
+    (sym (c .before .before .before .before .before .before .before .before .before .before .before .before .before
+    .before .before .before .before .before .check .ensures) ∙ not-false _
+    (c .before .before .before .before .before .before .before .before .before .before .before .before .before
+    .before .before .before .before .if1 .left))
+    (sym (c .before .before .before .before .before .before .before .before .before .before .before .before .before
+    .before .before .before .is-valid .ensures) ∙ not-false _
+    (c .before .before .before .before .before .before .before .before .before .before .before .before .before
+    .before .before .if2 .left))
+    (c .before .before .before .before .before .before .before .before .before .before .before .before .before
+    .before .if3 .left)
+    (sym (c .before .before .before .before .before .before .before .before .before .before .before .before .before
+    .all-below .ensures) ∙ not-false _
+    (c .before .before .before .before .before .before .before .before .before .before .before .before .if4
+    .left))) _ _ _ _ _ _ _
+    (c .before .before .before .before .before .before .before .before .intern-application .ensures)
+    (c .before .i .given .1)
 
 pub add-application-spec : {M : Type 1} → statement M
 add-application-spec =

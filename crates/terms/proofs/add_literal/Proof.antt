@@ -26,10 +26,12 @@ unfolding addLiteral
 returns c =
     let g = c .before .before .before .before .before .before .args in
     let s = store (g .records .now) (g .literals .now) (g .names .now) (g .terms) (g .symbols) in
-    adding-refuses s (literal (g .literal)) (literalFaults s) BadStore (literal-store s (sym (c .before .check .ensures) ∙ not-true _ (c .if1 .taken)))
+    adding-refuses s (literal (g .literal)) (literalFaults s) BadStore
+    (literal-store s (sym (c .before .check .ensures) ∙ not-true _ (c .if1 .taken)))
 
 intern-literal-requires : tie.Need-intern-literal-requires
-intern-literal-requires c κs = (sym (c .before .before .before .check .ensures) ∙ not-false _ (c .before .before .if1 .left))
+intern-literal-requires c κs =
+    (sym (c .before .before .before .check .ensures) ∙ not-false _ (c .before .before .if1 .left))
 
 enum-known-i : tie.Need-enum-known-i
 enum-known-i c = search needs
@@ -46,10 +48,18 @@ same-length-4 c = search needs
 returns-2 : tie.Need-returns-2
 unfolding addLiteral
 returns-2 c =
-    let g = c .before .before .before .before .before .before .before .before .before .before .before .before .before .before .args in
+    let g =
+    c .before .before .before .before .before .before .before .before .before .before .before .before
+    .before .before .args in
     let s = store (g .records .now) (g .literals .now) (g .names .now) (g .terms) (g .symbols) in
-    adding-room s (literal (g .literal)) (literalFaults s) (literal-fine s (sym (c .before .before .before .before .before .before .before .before .before .check .ensures) ∙ not-false _ (c .before .before .before .before .before .before .before .before .if1 .left))) _ _ _ _
-    (rw (toZ-ofZ w64 (g .literal) (c .before .before .before .before .before .before .before .before .before .before .before .before .before .before .fits .literal)) at (c .before .before .before .before .before .intern-literal .ensures)) (c .enum-told .given .1)
+    adding-room s (literal (g .literal)) (literalFaults s)
+    (literal-fine s
+    (sym (c .before .before .before .before .before .before .before .before .before .check .ensures) ∙ not-false _
+    (c .before .before .before .before .before .before .before .before .if1 .left))) _ _ _ _
+    (rw (toZ-ofZ w64 (g .literal)
+    (c .before .before .before .before .before .before .before .before .before .before .before .before .before
+    .before .fits .literal)) at (c .before .before .before .before .before .intern-literal .ensures))
+    (c .enum-told .given .1)
 
 same-length-5 : tie.Need-same-length-5
 same-length-5 c = search needs
@@ -60,10 +70,19 @@ same-length-6 c = search needs
 returns-3 : tie.Need-returns-3
 unfolding addLiteral
 returns-3 c =
-    let g = c .before .before .before .before .before .before .before .before .before .before .before .before .before .before .before .args in
+    let g =
+    c .before .before .before .before .before .before .before .before .before .before .before .before .before
+    .before .before .args in
     let s = store (g .records .now) (g .literals .now) (g .names .now) (g .terms) (g .symbols) in
-    adding-given s (literal (g .literal)) (literalFaults s) (literal-fine s (sym (c .before .before .before .before .before .before .before .before .before .before .check .ensures) ∙ not-false _ (c .before .before .before .before .before .before .before .before .before .if1 .left))) _ _ _ _ _ _ _
-    (rw (toZ-ofZ w64 (g .literal) (c .before .before .before .before .before .before .before .before .before .before .before .before .before .before .before .fits .literal)) at (c .before .before .before .before .before .before .intern-literal .ensures)) (c .before .i .given .1)
+    adding-given s (literal (g .literal)) (literalFaults s)
+    (literal-fine s
+    (sym (c .before .before .before .before .before .before .before .before .before .before .check .ensures) ∙
+    not-false _ (c .before .before .before .before .before .before .before .before .before .if1 .left))) _ _ _ _ _
+    _ _
+    (rw (toZ-ofZ w64 (g .literal)
+    (c .before .before .before .before .before .before .before .before .before .before .before .before .before
+    .before .before .fits .literal)) at (c .before .before .before .before .before .before .intern-literal
+    .ensures)) (c .before .i .given .1)
 
 pub add-literal-spec : {M : Type 1} → statement M
 add-literal-spec =

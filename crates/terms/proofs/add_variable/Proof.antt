@@ -1,11 +1,19 @@
--- `terms::add_variable` meets its contract. The store and the name are checked, then the variable is interned. Assumes nothing.
+-- `terms::add_variable` meets its contract. The store and the name are checked, then the variable is interned. Assumes
+-- nothing.
 use mathlib.Core.Path.{sym, _∙_}
 use borrow.Author.Tests.{not-true, not-false}
 use Rattle.refusals.specs.declared.Refusal.the-variants.{BadStore, BadName}
 use Rattle.store.specs.Lent.{store}
 use Rattle.store.specs.Nodes.{variable}
 use Rattle.terms.specs.Calls.{variableFaults, addVariable}
-use Rattle.terms.proofs.CallLaws.{variable-store, variable-name, variable-fine, adding-refuses, adding-room, adding-given}
+use Rattle.terms.proofs.CallLaws.{
+  variable-store,
+  variable-name,
+  variable-fine,
+  adding-refuses,
+  adding-room,
+  adding-given,
+}
 use borrow.Author.Needs.{needs}
 use Rattle.terms.proofs.add_variable.Statement.{statement}
 use Rattle.terms.proofs.add_variable.Tie as tie
@@ -27,7 +35,8 @@ unfolding addVariable
 returns c =
     let g = c .before .before .before .before .before .before .before .before .args in
     let s = store (g .records .now) (g .literals .now) (g .names .now) (g .terms) (g .symbols) in
-    adding-refuses s (variable (g .name .now)) (variableFaults s (g .name .now)) BadStore (variable-store s (g .name .now) (sym (c .before .check .ensures) ∙ not-true _ (c .if1 .taken)))
+    adding-refuses s (variable (g .name .now)) (variableFaults s (g .name .now)) BadStore
+    (variable-store s (g .name .now) (sym (c .before .check .ensures) ∙ not-true _ (c .if1 .taken)))
 
 is-valid-requires : tie.Need-is-valid-requires
 is-valid-requires c κs = search needs
@@ -46,10 +55,17 @@ unfolding addVariable
 returns-2 c =
     let g = c .before .before .before .before .before .before .before .before .before .before .args in
     let s = store (g .records .now) (g .literals .now) (g .names .now) (g .terms) (g .symbols) in
-    adding-refuses s (variable (g .name .now)) (variableFaults s (g .name .now)) BadName (variable-name s (g .name .now) (sym (c .before .before .before .check .ensures) ∙ not-false _ (c .before .before .if1 .left)) (sym (c .before .is-valid .ensures) ∙ not-true _ (c .if2 .taken)))
+    adding-refuses s (variable (g .name .now)) (variableFaults s (g .name .now)) BadName
+    (variable-name s (g .name .now)
+    (sym (c .before .before .before .check .ensures) ∙ not-false _ (c .before .before .if1 .left))
+    (sym (c .before .is-valid .ensures) ∙ not-true _ (c .if2 .taken)))
 
 intern-variable-requires : tie.Need-intern-variable-requires
-intern-variable-requires c κs = ((sym (c .before .before .before .before .before .before .check .ensures) ∙ not-false _ (c .before .before .before .before .before .if1 .left)), (sym (c .before .before .before .before .is-valid .ensures) ∙ not-false _ (c .before .before .before .if2 .left)))
+intern-variable-requires c κs = (
+  (sym (c .before .before .before .before .before .before .check .ensures) ∙ not-false _
+      (c .before .before .before .before .before .if1 .left)),
+  (sym (c .before .before .before .before .is-valid .ensures) ∙ not-false _ (c .before .before .before .if2 .left)),
+)
 
 enum-known-i : tie.Need-enum-known-i
 enum-known-i c = search needs
@@ -69,9 +85,20 @@ same-length-9 c = search needs
 returns-3 : tie.Need-returns-3
 unfolding addVariable
 returns-3 c =
-    let g = c .before .before .before .before .before .before .before .before .before .before .before .before .before .before .before .before .before .before .before .before .before .args in
+    let g =
+    c .before .before .before .before .before .before .before .before .before .before .before .before .before
+    .before .before .before .before .before .before .before .before .args in
     let s = store (g .records .now) (g .literals .now) (g .names .now) (g .terms) (g .symbols) in
-    adding-room s (variable (g .name .now)) (variableFaults s (g .name .now)) (variable-fine s (g .name .now) (sym (c .before .before .before .before .before .before .before .before .before .before .before .before .before .before .check .ensures) ∙ not-false _ (c .before .before .before .before .before .before .before .before .before .before .before .before .before .if1 .left)) (sym (c .before .before .before .before .before .before .before .before .before .before .before .before .is-valid .ensures) ∙ not-false _ (c .before .before .before .before .before .before .before .before .before .before .before .if2 .left))) _ _ _ _
+    adding-room s (variable (g .name .now)) (variableFaults s (g .name .now))
+    (variable-fine s (g .name .now)
+    (sym (c .before .before .before .before .before .before .before .before .before .before .before .before .before
+    .before .check .ensures) ∙ not-false _
+    (c .before .before .before .before .before .before .before .before .before .before .before .before .before .if1
+    .left))
+    (sym (c .before .before .before .before .before .before .before .before .before .before .before .before
+    .is-valid .ensures) ∙ not-false _
+    (c .before .before .before .before .before .before .before .before .before .before .before .if2 .left))) _ _ _
+    _
     (c .before .before .before .before .before .before .before .intern-variable .ensures) (c .enum-told .given .1)
 
 same-length-10 : tie.Need-same-length-10
@@ -86,10 +113,22 @@ same-length-12 c = search needs
 returns-4 : tie.Need-returns-4
 unfolding addVariable
 returns-4 c =
-    let g = c .before .before .before .before .before .before .before .before .before .before .before .before .before .before .before .before .before .before .before .before .before .before .args in
+    let g =
+    c .before .before .before .before .before .before .before .before .before .before .before .before .before
+    .before .before .before .before .before .before .before .before .before .args in
     let s = store (g .records .now) (g .literals .now) (g .names .now) (g .terms) (g .symbols) in
-    adding-given s (variable (g .name .now)) (variableFaults s (g .name .now)) (variable-fine s (g .name .now) (sym (c .before .before .before .before .before .before .before .before .before .before .before .before .before .before .before .check .ensures) ∙ not-false _ (c .before .before .before .before .before .before .before .before .before .before .before .before .before .before .if1 .left)) (sym (c .before .before .before .before .before .before .before .before .before .before .before .before .before .is-valid .ensures) ∙ not-false _ (c .before .before .before .before .before .before .before .before .before .before .before .before .if2 .left))) _ _ _ _ _ _ _
-    (c .before .before .before .before .before .before .before .before .intern-variable .ensures) (c .before .i .given .1)
+    adding-given s (variable (g .name .now)) (variableFaults s (g .name .now))
+    (variable-fine s (g .name .now)
+    (sym (c .before .before .before .before .before .before .before .before .before .before .before .before .before
+    .before .before .check .ensures) ∙ not-false _
+    (c .before .before .before .before .before .before .before .before .before .before .before .before .before
+    .before .if1 .left))
+    (sym (c .before .before .before .before .before .before .before .before .before .before .before .before .before
+    .is-valid .ensures) ∙ not-false _
+    (c .before .before .before .before .before .before .before .before .before .before .before .before .if2
+    .left))) _ _ _ _ _ _ _
+    (c .before .before .before .before .before .before .before .before .intern-variable .ensures)
+    (c .before .i .given .1)
 
 pub add-variable-spec : {M : Type 1} → statement M
 add-variable-spec =

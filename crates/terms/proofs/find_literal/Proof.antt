@@ -20,7 +20,8 @@ unfolding findLiteral
 returns c =
     let g = c .before .before .before .before .args in
     let s = store (g .records .now) (g .literals .now) (g .names .now) (g .terms) (g .symbols) in
-    finding-refuses s (literal (g .literal)) (literalFaults s) BadStore (literal-store s (sym (c .before .check .ensures) ∙ not-true _ (c .if1 .taken)))
+    finding-refuses s (literal (g .literal)) (literalFaults s) BadStore
+    (literal-store s (sym (c .before .check .ensures) ∙ not-true _ (c .if1 .taken)))
 
 find-literal-requires : tie.Need-find-literal-requires
 find-literal-requires c κs = (sym (c .before .check .ensures) ∙ not-false _ (c .if1 .left))
@@ -36,16 +37,24 @@ unfolding findLiteral
 returns-2 c =
     let g = c .before .before .before .before .before .before .before .args in
     let s = store (g .records .now) (g .literals .now) (g .names .now) (g .terms) (g .symbols) in
-    finding-absent s (literal (g .literal)) (literalFaults s) (literal-fine s (sym (c .before .before .before .before .check .ensures) ∙ not-false _ (c .before .before .before .if1 .left)))
-    (sym (rw (toZ-ofZ w64 (g .literal) (c .before .before .before .before .before .before .before .fits .literal)) at (c .before .before .find-literal .ensures)) ∙ c .enum-told .given .1)
+    finding-absent s (literal (g .literal)) (literalFaults s)
+    (literal-fine s (sym (c .before .before .before .before .check .ensures) ∙ not-false _
+    (c .before .before .before .if1 .left)))
+    (sym (rw (toZ-ofZ w64 (g .literal)
+    (c .before .before .before .before .before .before .before .fits .literal)) at (c .before .before .find-literal
+    .ensures)) ∙ c .enum-told .given .1)
 
 returns-3 : tie.Need-returns-3
 unfolding findLiteral
 returns-3 c =
     let g = c .before .before .before .before .before .before .before .before .args in
     let s = store (g .records .now) (g .literals .now) (g .names .now) (g .terms) (g .symbols) in
-    finding-given s (literal (g .literal)) (literalFaults s) _ (literal-fine s (sym (c .before .before .before .before .before .check .ensures) ∙ not-false _ (c .before .before .before .before .if1 .left)))
-    (sym (rw (toZ-ofZ w64 (g .literal) (c .before .before .before .before .before .before .before .before .fits .literal)) at (c .before .before .before .find-literal .ensures)) ∙ c .before .i .given .1)
+    finding-given s (literal (g .literal)) (literalFaults s) _
+    (literal-fine s (sym (c .before .before .before .before .before .check .ensures) ∙ not-false _
+    (c .before .before .before .before .if1 .left)))
+    (sym (rw (toZ-ofZ w64 (g .literal)
+    (c .before .before .before .before .before .before .before .before .fits .literal)) at (c .before .before
+    .before .find-literal .ensures)) ∙ c .before .i .given .1)
 
 pub find-literal-spec : {M : Type 1} → statement M
 find-literal-spec =

@@ -20,7 +20,8 @@ returns : tie.Need-returns
 returns c =
     let g = c .before .before .before .before .before .args in
     let s = store (g .records .now) (g .literals .now) (g .names .now) (g .terms) (g .symbols) in
-    c .no-term .ensures ∙ get-store s (g .i) (sym (c .before .before .check .ensures) ∙ not-true _ (c .before .if1 .taken))
+    c .no-term .ensures
+    ∙ get-store s (g .i) (sym (c .before .before .check .ensures) ∙ not-true _ (c .before .if1 .taken))
 
 no-term-requires-2 : tie.Need-no-term-requires-2
 no-term-requires-2 c κs = search needs
@@ -29,7 +30,9 @@ returns-2 : tie.Need-returns-2
 returns-2 c =
     let g = c .before .before .before .before .before .before .args in
     let s = store (g .records .now) (g .literals .now) (g .names .now) (g .terms) (g .symbols) in
-    c .no-term2 .ensures ∙ get-term s (g .i) (sym (c .before .before .before .check .ensures) ∙ not-false _ (c .before .before .if1 .left)) (c .before .if2 .taken)
+    c .no-term2 .ensures
+    ∙ get-term s (g .i) (sym (c .before .before .before .check .ensures) ∙ not-false _
+    (c .before .before .if1 .left)) (c .before .if2 .taken)
 
 record-at-requires : tie.Need-record-at-requires
 record-at-requires c κs =
@@ -43,7 +46,8 @@ returns-3 c =
     let g = c .before .before .before .before .before .before .args in
     let s = store (g .records .now) (g .literals .now) (g .names .now) (g .terms) (g .symbols) in
     ap (λ (t : Term). record { verdict = Done; term = t }) (c .record-at .ensures)
-    ∙ get-given s (g .i) (sym (c .before .before .before .check .ensures) ∙ not-false _ (c .before .before .if1 .left)) (c .before .if2 .left)
+    ∙ get-given s (g .i) (sym (c .before .before .before .check .ensures) ∙ not-false _ (c .before .before .if1 .left))
+    (c .before .if2 .left)
 
 pub get-spec : {M : Type 1} → statement M
 get-spec =

@@ -13,7 +13,8 @@ check-requires c κs = search needs
 returns : tie.Need-returns
 returns c =
     let g = c .before .before .before .before .before .args in
-    sort-store (store (g .records .now) (g .literals .now) (g .names .now) (g .terms) (g .symbols)) (g .list .now) (sym (c .before .check .ensures) ∙ not-true _ (c .if1 .taken))
+    sort-store (store (g .records .now) (g .literals .now) (g .names .now) (g .terms) (g .symbols)) (g .list .now)
+    (sym (c .before .check .ensures) ∙ not-true _ (c .if1 .taken))
 
 all-below-requires : tie.Need-all-below-requires
 all-below-requires c κs = search needs
@@ -24,12 +25,20 @@ same-length c = search needs
 returns-2 : tie.Need-returns-2
 returns-2 c =
     let g = c .before .before .before .before .before .before .before .before .args in
-    sort-term (store (g .records .now) (g .literals .now) (g .names .now) (g .terms) (g .symbols)) (g .list .now) (sym (c .before .before .before .before .check .ensures) ∙ not-false _ (c .before .before .before .if1 .left)) (sym (c .before .all-below .ensures) ∙ not-true _ (c .if2 .taken))
+    sort-term (store (g .records .now) (g .literals .now) (g .names .now) (g .terms) (g .symbols)) (g .list .now)
+    (sym (c .before .before .before .before .check .ensures) ∙ not-false _ (c .before .before .before .if1 .left))
+    (sym (c .before .all-below .ensures) ∙ not-true _ (c .if2 .taken))
 
 sort-requires : tie.Need-sort-requires
 sort-requires c κs =
-    let g = c .before .before .before .before .before .before .before .before .before .args in
-    ((sym (c .before .before .before .before .before .check .ensures) ∙ not-false _ (c .before .before .before .before .if1 .left)), within-of-below (store (g .records .now) (g .literals .now) (g .names .now) (g .terms) (g .symbols)) (g .list .now) (sym (c .before .before .before .before .before .check .ensures) ∙ not-false _ (c .before .before .before .before .if1 .left)) (sym (c .before .before .all-below .ensures) ∙ not-false _ (c .before .if2 .left)))
+    let g = c .before .before .before .before .before .before .before .before .before .args in (
+      (sym (c .before .before .before .before .before .check .ensures) ∙ not-false _
+          (c .before .before .before .before .if1 .left)),
+      within-of-below (store (g .records .now) (g .literals .now) (g .names .now) (g .terms) (g .symbols))
+          (g .list .now) (sym (c .before .before .before .before .before .check .ensures) ∙ not-false _
+          (c .before .before .before .before .if1 .left)) (sym (c .before .before .all-below .ensures)
+          ∙ not-false _ (c .before .if2 .left)),
+    )
 
 same-length-2 : tie.Need-same-length-2
 same-length-2 c = search needs
@@ -37,7 +46,11 @@ same-length-2 c = search needs
 returns-3 : tie.Need-returns-3
 returns-3 c =
     let g = c .before .before .before .before .before .before .before .before .before .before .before .before .args in
-    sort-given (store (g .records .now) (g .literals .now) (g .names .now) (g .terms) (g .symbols)) (g .list .now) (sym (c .before .before .before .before .before .before .before .before .check .ensures) ∙ not-false _ (c .before .before .before .before .before .before .before .if1 .left)) (sym (c .before .before .before .before .before .all-below .ensures) ∙ not-false _ (c .before .before .before .before .if2 .left)) _ (c .before .before .sort .ensures)
+    sort-given (store (g .records .now) (g .literals .now) (g .names .now) (g .terms) (g .symbols)) (g .list .now)
+    (sym (c .before .before .before .before .before .before .before .before .check .ensures) ∙ not-false _
+    (c .before .before .before .before .before .before .before .if1 .left))
+    (sym (c .before .before .before .before .before .all-below .ensures) ∙ not-false _
+    (c .before .before .before .before .if2 .left)) _ (c .before .before .sort .ensures)
 
 pub sort-spec : {M : Type 1} → statement M
 sort-spec =

@@ -52,7 +52,8 @@ returns-2 c =
           ∙ ap (λ (x : List ℕ). capped (length x))
           (sym (shown-of-text text)
           ∙ ap (λ (x : Called). shown x text)
-          (sym (calledBy-text (a .places .now) (a .stem .now) (a .start) (a .bare) (a .k) (omega (arith, c .before .if1 .left)))));
+          (sym (calledBy-text (a .places .now) (a .stem .now) (a .start) (a .bare) (a .k)
+          (omega (arith, c .before .if1 .left)))));
     }
 
 pub shown-width-spec : {M : Type 1} → statement M

@@ -19,7 +19,8 @@ use Rattle.widths.proofs.width.Tie as tie
 abbrev Inv-loop : tie.InvT-loop
 Inv-loop records literals names places wides stem n start bare t acc₀ a e ks j₀ acc j =
     Measuring (headText (nodes records literals names t)) (32 ∷ [])
-    (childText (calledBy places stem start bare) (line (nodes records literals names) (calledBy places stem start bare)))
+    (childText (calledBy places stem start bare)
+    (line (nodes records literals names) (calledBy places stem start bare)))
     ks acc j
 
 abbrev μ-loop : tie.MeasureT-loop
@@ -139,17 +140,24 @@ part-ks-end c =
 loop-holds : tie.Need-loop-holds Inv-loop μ-loop
 loop-holds c =
     let s = c .before .before .before .before .before .before .before .before .before .before in
-    measuring-none (head s) (32 ∷ []) (child s) (kids s) (c .before .before .before .before .head-length .result) (c .before .before .before .before .head-length .ensures)
+    measuring-none (head s) (32 ∷ []) (child s) (kids s) (c .before .before .before .before .head-length .result)
+    (c .before .before .before .before .head-length .ensures)
 
 mul-shown-width : tie.Need-mul-shown-width Inv-loop μ-loop
-mul-shown-width c = omega (arith, few (c .before .before .before .before .before .before .before .before .before .before .before .before), c .loop-test .taken)
+mul-shown-width c =
+    omega (
+      arith,
+      few (c .before .before .before .before .before .before .before .before .before .before .before .before),
+      c .loop-test .taken,
+    )
 
 shared-slice-read-shown-width : tie.Need-shared-slice-read-shown-width Inv-loop μ-loop
 shared-slice-read-shown-width c = search needs
 
 shown-width-requires : tie.Need-shown-width-requires Inv-loop μ-loop
 shown-width-requires c κs =
-    let s = c .before .before .before .before .before .before .before .before .before .before .before .before .before in
+    let s =
+    c .before .before .before .before .before .before .before .before .before .before .before .before .before in
     let k = below s (c .before .before .loop .j) (c .before .loop-test .taken) in (
       omega (arith, k, s .pre .1 .0, s .pre .0 .inPlaces),
       (
@@ -165,21 +173,33 @@ add-requires-2 : tie.Need-add-requires-2 Inv-loop μ-loop
 add-requires-2 c κs = omega (arith, c .add .ensures)
 
 add-j : tie.Need-add-j Inv-loop μ-loop
-add-j c = omega (arith, few (c .before .before .before .before .before .before .before .before .before .before .before .before .before .before .before .before), c .before .before .before .before .loop-test .taken)
+add-j c =
+    omega (
+      arith,
+      few
+          (c .before .before .before .before .before .before .before .before .before .before .before
+          .before .before .before
+          .before .before),
+      c .before .before .before .before .loop-test .taken,
+    )
 
 loop-less : tie.Need-loop-less Inv-loop μ-loop
 loop-less c = search needs
 
 loop-again : tie.Need-loop-again Inv-loop μ-loop
 loop-again c =
-    let s = c .before .before .before .before .before .before .before .before .before .before .before .before .before .before .before .before in
+    let s =
+    c .before .before .before .before .before .before .before .before .before .before .before .before .before
+    .before .before .before in
     let l = c .before .before .before .before .before .loop in
     let k = below s (l .j) (c .before .before .before .before .loop-test .taken) in
-    measuring-again (head s) (32 ∷ []) (child s) (kids s) (l .acc) (l .j) (l .inv) (c .before .before .before .before .loop-test .taken) 1 (c .before .add .result)
+    measuring-again (head s) (32 ∷ []) (child s) (kids s) (l .acc) (l .j) (l .inv)
+    (c .before .before .before .before .loop-test .taken) 1 (c .before .add .result)
     (c .before .before .shown-width .result) _ refl (c .before .add .ensures)
     (c .before .before .shown-width .ensures .right (line (node s) (called s) (getD (kids s) (l .j) 0))
     (s .pre .1 .1 (getD (kids s) (l .j) 0) k)
-    ∙ ap (λ (x : List ℕ). capped (length x)) (sym (childText-is (called s) (line (node s) (called s)) (getD (kids s) (l .j) 0))))
+    ∙ ap (λ (x : List ℕ). capped (length x))
+    (sym (childText-is (called s) (line (node s) (called s)) (getD (kids s) (l .j) 0))))
     (c .add2 .ensures)
 
 add-requires-3 : tie.Need-add-requires-3 Inv-loop μ-loop
@@ -187,9 +207,11 @@ add-requires-3 c κs = omega (arith, c .before .loop .inv .same)
 
 returns-2 : tie.Need-returns-2 Inv-loop μ-loop
 returns-2 c =
-    let s = c .before .before .before .before .before .before .before .before .before .before .before .before .before in
+    let s =
+    c .before .before .before .before .before .before .before .before .before .before .before .before .before in
     let l = c .before .before .loop in
-    measuring-end (head s) (32 ∷ []) (child s) (kids s) (l .acc) (l .j) (l .inv) (c .before .loop-test .left) _ (c .add3 .ensures)
+    measuring-end (head s) (32 ∷ []) (child s) (kids s) (l .acc) (l .j) (l .inv)
+    (c .before .loop-test .left) _ (c .add3 .ensures)
     ∙ ap (λ (x : List ℕ). capped (length x)) (sym (by-app s (c .before .before .before .before .before .if1 .left)))
 
 pub width-spec : {M : Type 1} → statement M

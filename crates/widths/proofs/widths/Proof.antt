@@ -36,7 +36,9 @@ width-requires c κs =
     )
 
 mul-wides : tie.Need-mul-wides Inv-loop μ-loop
-mul-wides c = let s = c .before .before .before .before .before .before .before .before .before in omega (arith, s .pre .readable .few, c .before .before .loop-test .taken)
+mul-wides c =
+    let s = c .before .before .before .before .before .before .before .before .before in
+    omega (arith, s .pre .readable .few, c .before .before .loop-test .taken)
 
 slice-write-wides : tie.Need-slice-write-wides Inv-loop μ-loop
 slice-write-wides c =
@@ -44,7 +46,9 @@ slice-write-wides c =
     omega (arith, s .pre .inWides, c .before .before .before .loop .inv .1 .0, c .before .before .loop-test .taken)
 
 add-t : tie.Need-add-t Inv-loop μ-loop
-add-t c = let s = c .before .before .before .before .before .before .before .before .before in omega (arith, s .pre .readable .few, c .before .before .loop-test .taken)
+add-t c =
+    let s = c .before .before .before .before .before .before .before .before .before in
+    omega (arith, s .pre .readable .few, c .before .before .loop-test .taken)
 
 loop-less : tie.Need-loop-less Inv-loop μ-loop
 loop-less c = search needs
@@ -58,7 +62,12 @@ loop-again c =
         length-set (l .wides) (l .t) (c .width .result) ∙ l .inv .1 .0,
         widths-more (nodes (s .args .records .now) (s .args .literals .now) (s .args .names .now))
             (calledBy (s .args .places .now) (s .args .stem .now) (s .args .start) (s .args .bare)) (l .wides) (l .t)
-            (c .width .result) (omega (arith, s .pre .inWides, l .inv .1 .0, c .before .before .loop-test .taken)) (c .width .ensures)
+            (c .width .result) (omega (
+              arith,
+              s .pre .inWides,
+              l .inv .1 .0,
+              c .before .before .loop-test .taken,
+            )) (c .width .ensures)
             (l .inv .1 .1),
       ),
     )

@@ -9,8 +9,28 @@ use Rattle.text_rules.specs.Forms.{each, form}
 use Rattle.pieces.specs.Pieces.{nameText, gapText}
 use Rattle.heads.specs.Readable.{nodes, kindAt, arityAt, kidsAt, headText}
 use Rattle.writer.specs.Piece.{View, gapOf, piece, view}
-use Rattle.writer.proofs.PieceLaws.{body-step, piece-of-named, piece-of-unnamed, lower-of-readable, form-of-leaf, form-of-applied, head-in-form}
-use Rattle.writer.proofs.WritingLaws.{Writing, writing-none, writing-length, writing-place, gap-fits, half-length, half-place, child-fits, turn-place, writing-again, writing-end}
+use Rattle.writer.proofs.PieceLaws.{
+  body-step,
+  piece-of-named,
+  piece-of-unnamed,
+  lower-of-readable,
+  form-of-leaf,
+  form-of-applied,
+  head-in-form,
+}
+use Rattle.writer.proofs.WritingLaws.{
+  Writing,
+  writing-none,
+  writing-length,
+  writing-place,
+  gap-fits,
+  half-length,
+  half-place,
+  child-fits,
+  turn-place,
+  writing-again,
+  writing-end,
+}
 use borrow.Author.Needs.{needs}
 use native.Mathlib.Omega.{arith}
 use borrow.Fn.Kinds.{In}
@@ -91,7 +111,8 @@ by-name :
     text t s ≡ nameText (s .args .stem .now) (s .args .start) (s .args .bare) (placeOf t s - 1)
 by-name t s l = piece-of-named (seen t s) (s .args .lim) (s .args .m) (s .args .i) (s .args .t) l
 
-by-form : (t : ℕ) (s : Start t) → placeOf t s ≤ s .args .lim → text t s ≡ form (gap t s) (child t s) (seen t s .node (s .args .t))
+by-form : (t : ℕ) (s : Start t) → placeOf t s ≤ s .args .lim
+    → text t s ≡ form (gap t s) (child t s) (seen t s .node (s .args .t))
 by-form t s l =
     piece-of-unnamed (seen t s) (s .args .lim) (s .args .m) (s .args .i) (s .args .t) l
     ∙ body-step (seen t s) (s .args .n)
@@ -214,7 +235,10 @@ put-returns : (t : ℕ) → put-lts.Need-returns (
   put-below t,
   put.Post,
 ) (put-at t) put.Post put-Inv-loop put-μ-loop
-put-returns t c = let s = c .before .before .before .before .before .before .before .before .before .before .before .before in wrote-as t s _ _ (by-name t s (c .before .before .before .before .if1 .taken)) (c .before .before .put-name .ensures)
+put-returns t c =
+    let s = c .before .before .before .before .before .before .before .before .before .before .before .before in
+    wrote-as t s _ _ (by-name t s (c .before .before .before .before .if1 .taken))
+    (c .before .before .put-name .ensures)
 
 put-put-head-requires : (t : ℕ) → put-lts.Need-put-head-requires (
   put-name-reads.Asked,
@@ -289,8 +313,11 @@ put-returns-2 : (t : ℕ) → put-lts.Need-returns-2 (
   put.Post,
 ) (put-at t) put.Post put-Inv-loop put-μ-loop
 put-returns-2 t c =
-    let s = c .before .before .before .before .before .before .before .before .before .before .before .before .before .before in
-    wrote-as t s _ _ (by-leaf t s (c .before .before .before .before .before .before .if1 .left) (c .if2 .taken)) (c .before .before .before .before .put-head .ensures)
+    let s =
+    c .before .before .before .before .before .before .before .before .before .before .before
+    .before .before .before in
+    wrote-as t s _ _ (by-leaf t s (c .before .before .before .before .before .before .if1 .left) (c .if2 .taken))
+    (c .before .before .before .before .put-head .ensures)
 
 put-mul-width : (t : ℕ) → put-lts.Need-mul-width (
   put-name-reads.Asked,
@@ -326,7 +353,10 @@ put-add-width : (t : ℕ) → put-lts.Need-add-width (
   put-below t,
   put.Post,
 ) (put-at t) put.Post put-Inv-loop put-μ-loop
-put-add-width t c = let s = c .before .before .before .before .before .before .before .before .before .before .before .before .before .before .before in omega (arith, s .pre .1 .0 .wideLow (s .args .t) (s .pre .1 .1 .0), s .pre .1 .1 .1 .0)
+put-add-width t c =
+    let s =
+    c .before .before .before .before .before .before .before .before .before .before .before .before .before .before
+    .before in omega (arith, s .pre .1 .0 .wideLow (s .args .t) (s .pre .1 .1 .0), s .pre .1 .1 .1 .0)
 
 put-mul-a : (t : ℕ) → put-lts.Need-mul-a (
   put-name-reads.Asked,
@@ -411,8 +441,16 @@ put-add-e-2 : (t : ℕ) → put-lts.Need-add-e-2 (
   put.Post,
 ) (put-at t) put.Post put-Inv-loop put-μ-loop
 put-add-e-2 t c =
-    let s = c .before .before .before .before .before .before .before .before .before .before .before .before .before .before .before .before in
-    omega (arith, s .pre .1 .0 .readable .arity (s .args .t) (s .pre .1 .1 .0), s .pre .1 .0 .readable .inRecords, s .pre .1 .1 .0, s .pre .1 .0 .readable .few)
+    let s =
+    c .before .before .before .before .before .before .before .before .before .before .before .before .before
+    .before .before .before in
+    omega (
+      arith,
+      s .pre .1 .0 .readable .arity (s .args .t) (s .pre .1 .1 .0),
+      s .pre .1 .0 .readable .inRecords,
+      s .pre .1 .1 .0,
+      s .pre .1 .0 .readable .few,
+    )
 
 put-mul-ks : (t : ℕ) → put-lts.Need-mul-ks (
   put-name-reads.Asked,
@@ -461,8 +499,15 @@ put-part-ks-end : (t : ℕ) → put-lts.Need-part-ks-end (
   put.Post,
 ) (put-at t) put.Post put-Inv-loop put-μ-loop
 put-part-ks-end t c =
-    let s = c .before .before .before .before .before .before .before .before .before .before .before .before .before .before .before .before in
-    omega (arith, s .pre .1 .0 .readable .arity (s .args .t) (s .pre .1 .1 .0), s .pre .1 .0 .readable .inRecords, s .pre .1 .1 .0)
+    let s =
+    c .before .before .before .before .before .before .before .before .before .before .before .before .before
+    .before .before .before in
+    omega (
+      arith,
+      s .pre .1 .0 .readable .arity (s .args .t) (s .pre .1 .1 .0),
+      s .pre .1 .0 .readable .inRecords,
+      s .pre .1 .1 .0,
+    )
 
 put-loop-holds : (t : ℕ) → put-lts.Need-loop-holds (
   put-name-reads.Asked,
@@ -475,9 +520,16 @@ put-loop-holds : (t : ℕ) → put-lts.Need-loop-holds (
   put.Post,
 ) (put-at t) put.Post put-Inv-loop put-μ-loop
 put-loop-holds t c =
-    let s = c .before .before .before .before .before .before .before .before .before .before .before .before .before .before .before .before .before in
-    writing-none (head t s) (gap t s) (child t s) (kids t s) (s .args .out .now) (c .before .before .before .before .before .before .before .put-head .last .0) (c .before .before .before .before .before .before .before .put-head .result)
-    (c .before .before .before .before .before .before .before .put-head .ensures) (c .before .before .before .before .before .before .before .put-head .kept .0) (room-as t s (by-app t s (c .before .before .before .before .before .before .before .before .before .if1 .left) (c .before .before .before .if2 .left)))
+    let s =
+    c .before .before .before .before .before .before .before .before .before .before .before .before .before
+    .before .before .before .before in
+    writing-none (head t s) (gap t s) (child t s) (kids t s) (s .args .out .now)
+    (c .before .before .before .before .before .before .before .put-head .last .0)
+    (c .before .before .before .before .before .before .before .put-head .result)
+    (c .before .before .before .before .before .before .before .put-head .ensures)
+    (c .before .before .before .before .before .before .before .put-head .kept .0)
+    (room-as t s (by-app t s (c .before .before .before .before .before .before .before .before .before .if1 .left)
+    (c .before .before .before .if2 .left)))
 
 put-sub-put-gap : (t : ℕ) → put-lts.Need-sub-put-gap (
   put-name-reads.Asked,
@@ -490,9 +542,16 @@ put-sub-put-gap : (t : ℕ) → put-lts.Need-sub-put-gap (
   put.Post,
 ) (put-at t) put.Post put-Inv-loop put-μ-loop
 put-sub-put-gap t c =
-    let s = c .before .before .before .before .before .before .before .before .before .before .before .before .before .before .before .before .before .before .before in
+    let s =
+    c .before .before .before .before .before .before .before .before .before .before .before .before .before
+    .before .before .before .before .before .before in
     let l = c .before .loop in
-    omega (arith, writing-place (head t s) (gap t s) (child t s) (kids t s) (c .before .before .before .before .before .before .before .before .before .put-head .last .0) (l .out) (l .p) (l .j) (l .inv))
+    omega (
+      arith,
+      writing-place (head t s) (gap t s) (child t s) (kids t
+          s) (c .before .before .before .before .before .before .before .before .before .put-head .last .0) (l .out)
+          (l .p) (l .j) (l .inv),
+    )
 
 put-part-put-gap-start : (t : ℕ) → put-lts.Need-part-put-gap-start (
   put-name-reads.Asked,
@@ -528,7 +587,10 @@ put-add-put-gap : (t : ℕ) → put-lts.Need-add-put-gap (
   put-below t,
   put.Post,
 ) (put-at t) put.Post put-Inv-loop put-μ-loop
-put-add-put-gap t c = let s = c .before .before .before .before .before .before .before .before .before .before .before .before .before .before .before .before .before .before .before .before in omega (arith, s .pre .1 .1 .1 .0)
+put-add-put-gap t c =
+    let s =
+    c .before .before .before .before .before .before .before .before .before .before .before .before .before .before
+    .before .before .before .before .before .before in omega (arith, s .pre .1 .1 .1 .0)
 
 put-add-put-gap-2 : (t : ℕ) → put-lts.Need-add-put-gap-2 (
   put-name-reads.Asked,
@@ -540,7 +602,10 @@ put-add-put-gap-2 : (t : ℕ) → put-lts.Need-add-put-gap-2 (
   put-below t,
   put.Post,
 ) (put-at t) put.Post put-Inv-loop put-μ-loop
-put-add-put-gap-2 t c = let s = c .before .before .before .before .before .before .before .before .before .before .before .before .before .before .before .before .before .before .before .before in omega (arith, s .pre .1 .1 .1 .0)
+put-add-put-gap-2 t c =
+    let s =
+    c .before .before .before .before .before .before .before .before .before .before .before .before .before .before
+    .before .before .before .before .before .before in omega (arith, s .pre .1 .1 .1 .0)
 
 put-put-gap-requires : (t : ℕ) → put-lts.Need-put-gap-requires (
   put-name-reads.Asked,
@@ -553,9 +618,13 @@ put-put-gap-requires : (t : ℕ) → put-lts.Need-put-gap-requires (
   put.Post,
 ) (put-at t) put.Post put-Inv-loop put-μ-loop
 put-put-gap-requires t c κs =
-    let s = c .before .before .before .before .before .before .before .before .before .before .before .before .before .before .before .before .before .before .before .before in
+    let s =
+    c .before .before .before .before .before .before .before .before .before .before .before .before .before
+    .before .before .before .before .before .before .before in
     let l = c .before .before .loop in
-    gap-fits (head t s) (gap t s) (child t s) (kids t s) (c .before .before .before .before .before .before .before .before .before .before .put-head .last .0) (l .out) (l .p) (l .j) (l .inv) (omega arith)
+    gap-fits (head t s) (gap t s) (child t s) (kids t s)
+    (c .before .before .before .before .before .before .before .before .before .before .put-head .last .0) (l .out)
+    (l .p) (l .j) (l .inv) (omega arith)
 
 put-add-p : (t : ℕ) → put-lts.Need-add-p (
   put-name-reads.Asked,
@@ -568,11 +637,30 @@ put-add-p : (t : ℕ) → put-lts.Need-add-p (
   put.Post,
 ) (put-at t) put.Post put-Inv-loop put-μ-loop
 put-add-p t c =
-    let s = c .before .before .before .before .before .before .before .before .before .before .before .before .before .before .before .before .before .before .before .before .before .before .before in
+    let s =
+    c .before .before .before .before .before .before .before .before .before .before .before .before .before
+    .before .before .before .before .before .before .before .before .before .before in
     let l = c .before .before .before .before .before .loop in
-    let h = half-place (head t s) (gap t s) (child t s) (kids t s) (c .before .before .before .before .before .before .before .before .before .before .before .before .before .put-head .last .0) (l .out) (l .p) (l .j) (l .inv) (c .before .before .before .before .loop-test .taken) (c .before .before .put-gap .last .0) (c .before .before .put-gap .result) (c .before .before .put-gap .ensures) in
-    let e = half-length (head t s) (gap t s) (child t s) (kids t s) (c .before .before .before .before .before .before .before .before .before .before .before .before .before .put-head .last .0) (l .out) (l .p) (l .j) (l .inv) (c .before .before .before .before .loop-test .taken) (c .before .before .put-gap .last .0) (c .before .before .put-gap .result) (c .before .before .put-gap .ensures) in
-    omega (arith, h, e, c .before .before .before .before .before .before .before .before .before .before .before .before .before .put-head .kept .0, s .good)
+    let h =
+    half-place (head t s) (gap t s) (child t s) (kids t s)
+    (c .before .before .before .before .before .before .before .before .before .before .before .before .before
+    .put-head .last .0) (l .out) (l .p) (l .j) (l .inv) (c .before .before .before .before .loop-test .taken)
+    (c .before .before .put-gap .last .0) (c .before .before .put-gap .result)
+    (c .before .before .put-gap .ensures) in
+    let e =
+    half-length (head t s) (gap t s) (child t s) (kids t s)
+    (c .before .before .before .before .before .before .before .before .before .before .before .before .before
+    .put-head .last .0) (l .out) (l .p) (l .j) (l .inv) (c .before .before .before .before .loop-test .taken)
+    (c .before .before .put-gap .last .0) (c .before .before .put-gap .result)
+    (c .before .before .put-gap .ensures) in
+    omega (
+      arith,
+      h,
+      e,
+      c .before .before .before .before .before .before .before .before .before .before .before .before .before
+          .put-head .kept .0,
+      s .good,
+    )
 
 put-sub-put : (t : ℕ) → put-lts.Need-sub-put (
   put-name-reads.Asked,
@@ -585,9 +673,15 @@ put-sub-put : (t : ℕ) → put-lts.Need-sub-put (
   put.Post,
 ) (put-at t) put.Post put-Inv-loop put-μ-loop
 put-sub-put t c =
-    let s = c .before .before .before .before .before .before .before .before .before .before .before .before .before .before .before .before .before .before .before .before .before .before .before in
+    let s =
+    c .before .before .before .before .before .before .before .before .before .before .before .before .before
+    .before .before .before .before .before .before .before .before .before .before in
     let l = c .before .before .before .before .before .loop in
-    half-place (head t s) (gap t s) (child t s) (kids t s) (c .before .before .before .before .before .before .before .before .before .before .before .before .before .put-head .last .0) (l .out) (l .p) (l .j) (l .inv) (c .before .before .before .before .loop-test .taken) (c .before .before .put-gap .last .0) (c .before .before .put-gap .result) (c .before .before .put-gap .ensures)
+    half-place (head t s) (gap t s) (child t s) (kids t s)
+    (c .before .before .before .before .before .before .before .before .before .before .before .before .before
+    .put-head .last .0) (l .out) (l .p) (l .j) (l .inv) (c .before .before .before .before .loop-test .taken)
+    (c .before .before .put-gap .last .0) (c .before .before .put-gap .result)
+    (c .before .before .put-gap .ensures)
 
 put-part-put-start : (t : ℕ) → put-lts.Need-part-put-start (
   put-name-reads.Asked,
@@ -623,7 +717,11 @@ put-add-put : (t : ℕ) → put-lts.Need-add-put (
   put-below t,
   put.Post,
 ) (put-at t) put.Post put-Inv-loop put-μ-loop
-put-add-put t c = let s = c .before .before .before .before .before .before .before .before .before .before .before .before .before .before .before .before .before .before .before .before .before .before .before .before in omega (arith, s .pre .1 .1 .1 .0)
+put-add-put t c =
+    let s =
+    c .before .before .before .before .before .before .before .before .before .before .before .before .before .before
+    .before .before .before .before .before .before .before .before .before .before in
+    omega (arith, s .pre .1 .1 .1 .0)
 
 put-mul-put : (t : ℕ) → put-lts.Need-mul-put (
   put-name-reads.Asked,
@@ -635,7 +733,15 @@ put-mul-put : (t : ℕ) → put-lts.Need-mul-put (
   put-below t,
   put.Post,
 ) (put-at t) put.Post put-Inv-loop put-μ-loop
-put-mul-put t c = omega (arith, few t (c .before .before .before .before .before .before .before .before .before .before .before .before .before .before .before .before .before .before .before .before .before .before .before .before), c .before .before .before .before .before .loop-test .taken)
+put-mul-put t c =
+    omega (
+      arith,
+      few t
+          (c .before .before .before .before .before .before .before .before .before .before .before
+          .before .before .before
+          .before .before .before .before .before .before .before .before .before .before),
+      c .before .before .before .before .before .loop-test .taken,
+    )
 
 put-shared-slice-read-put : (t : ℕ) → put-lts.Need-shared-slice-read-put (
   put-name-reads.Asked,
@@ -660,9 +766,13 @@ put-put-requires : (t : ℕ) → put-lts.Need-put-requires (
   put.Post,
 ) (put-at t) put.Post put-Inv-loop put-μ-loop
 put-put-requires t c κs =
-    let s = c .before .before .before .before .before .before .before .before .before .before .before .before .before .before .before .before .before .before .before .before .before .before .before .before .before in
+    let s =
+    c .before .before .before .before .before .before .before .before .before .before .before .before .before
+    .before .before .before .before .before .before .before .before .before .before .before .before in
     let l = c .before .before .before .before .before .before .before .loop in
-    let k : getD (kids t s) (l .j) 0 < s .args .t = s .pre .1 .0 .readable .lower (s .args .t) (s .pre .1 .1 .0) (l .j) (c .before .before .before .before .before .before .loop-test .taken) in (
+    let k : getD (kids t s) (l .j) 0 < s .args .t =
+    s .pre .1 .0 .readable .lower (s .args .t) (s .pre .1 .1 .0) (l .j)
+    (c .before .before .before .before .before .before .loop-test .taken) in (
       omega (arith, k, s .pre .0),
       (
         s .pre .1 .0,
@@ -670,7 +780,13 @@ put-put-requires t c κs =
           omega (arith, k, s .pre .1 .1 .0),
           (
             omega (arith, k, s .pre .1 .1 .1 .0),
-            child-fits (head t s) (gap t s) (child t s) (kids t s) (c .before .before .before .before .before .before .before .before .before .before .before .before .before .before .before .put-head .last .0) (l .out) (l .p) (l .j) (l .inv) (c .before .before .before .before .before .before .loop-test .taken) (c .before .before .before .before .put-gap .last .0) (c .before .before .before .before .put-gap .result) (c .before .before .before .before .put-gap .ensures),
+            child-fits (head t s) (gap t s) (child t s) (kids t s)
+                (c .before .before .before .before .before .before .before .before .before .before .before .before
+                .before .before .before .put-head .last .0) (l .out) (l .p) (l .j) (l .inv)
+                (c .before .before .before .before .before .before .loop-test .taken)
+                (c .before .before .before .before .put-gap .last .0)
+                (c .before .before .before .before .put-gap .result)
+                (c .before .before .before .before .put-gap .ensures),
           ),
         ),
       ),
@@ -687,10 +803,27 @@ put-add-p-2 : (t : ℕ) → put-lts.Need-add-p-2 (
   put.Post,
 ) (put-at t) put.Post put-Inv-loop put-μ-loop
 put-add-p-2 t c =
-    let s = c .before .before .before .before .before .before .before .before .before .before .before .before .before .before .before .before .before .before .before .before .before .before .before .before .before .before .before .before in
+    let s =
+    c .before .before .before .before .before .before .before .before .before .before .before .before .before
+    .before .before .before .before .before .before .before .before .before .before .before .before
+    .before .before .before in
     let l = c .before .before .before .before .before .before .before .before .before .before .loop in
-    let h = turn-place (head t s) (gap t s) (child t s) (kids t s) (c .before .before .before .before .before .before .before .before .before .before .before .before .before .before .before .before .before .before .put-head .last .0) (l .out) (l .p) (l .j) (l .inv) (c .before .before .before .before .before .before .before .before .before .loop-test .taken) (c .before .before .before .before .before .before .before .put-gap .last .0) (c .before .before .before .before .before .before .before .put-gap .result) (c .before .before .before .before .before .before .before .put-gap .ensures) (c .before .before .put .last .0) (c .before .before .put .result) (c .before .before .put .ensures) in
-    omega (arith, h, c .before .before .before .before .before .before .before .before .before .before .before .before .before .before .before .before .before .before .put-head .kept .0, s .good)
+    let h =
+    turn-place (head t s) (gap t s) (child t s) (kids t s)
+    (c .before .before .before .before .before .before .before .before .before .before .before .before .before
+    .before .before .before .before .before .put-head .last .0) (l .out) (l .p) (l .j) (l .inv)
+    (c .before .before .before .before .before .before .before .before .before .loop-test .taken)
+    (c .before .before .before .before .before .before .before .put-gap .last .0)
+    (c .before .before .before .before .before .before .before .put-gap .result)
+    (c .before .before .before .before .before .before .before .put-gap .ensures) (c .before .before .put .last .0)
+    (c .before .before .put .result) (c .before .before .put .ensures) in
+    omega (
+      arith,
+      h,
+      c .before .before .before .before .before .before .before .before .before .before .before .before .before
+          .before .before .before .before .before .put-head .kept .0,
+      s .good,
+    )
 
 put-add-j : (t : ℕ) → put-lts.Need-add-j (
   put-name-reads.Asked,
@@ -702,7 +835,16 @@ put-add-j : (t : ℕ) → put-lts.Need-add-j (
   put-below t,
   put.Post,
 ) (put-at t) put.Post put-Inv-loop put-μ-loop
-put-add-j t c = omega (arith, few t (c .before .before .before .before .before .before .before .before .before .before .before .before .before .before .before .before .before .before .before .before .before .before .before .before .before .before .before .before), c .before .before .before .before .before .before .before .before .before .loop-test .taken)
+put-add-j t c =
+    omega (
+      arith,
+      few t
+          (c .before .before .before .before .before .before .before .before .before .before .before
+          .before .before .before
+          .before .before .before .before .before .before .before .before .before .before .before
+          .before .before .before),
+      c .before .before .before .before .before .before .before .before .before .loop-test .taken,
+    )
 
 put-loop-less : (t : ℕ) → put-lts.Need-loop-less (
   put-name-reads.Asked,
@@ -727,9 +869,19 @@ put-loop-again : (t : ℕ) → put-lts.Need-loop-again (
   put.Post,
 ) (put-at t) put.Post put-Inv-loop put-μ-loop
 put-loop-again t c =
-    let s = c .before .before .before .before .before .before .before .before .before .before .before .before .before .before .before .before .before .before .before .before .before .before .before .before .before .before .before .before in
+    let s =
+    c .before .before .before .before .before .before .before .before .before .before .before .before .before
+    .before .before .before .before .before .before .before .before .before .before .before .before
+    .before .before .before in
     let l = c .before .before .before .before .before .before .before .before .before .before .loop in
-    writing-again (head t s) (gap t s) (child t s) (kids t s) (c .before .before .before .before .before .before .before .before .before .before .before .before .before .before .before .before .before .before .put-head .last .0) (l .out) (l .p) (l .j) (l .inv) (c .before .before .before .before .before .before .before .before .before .loop-test .taken) (c .before .before .before .before .before .before .before .put-gap .last .0) (c .before .before .before .before .before .before .before .put-gap .result) (c .before .before .before .before .before .before .before .put-gap .ensures) (c .before .before .put .last .0) (c .before .before .put .result) (c .before .before .put .ensures)
+    writing-again (head t s) (gap t s) (child t s) (kids t s)
+    (c .before .before .before .before .before .before .before .before .before .before .before .before .before
+    .before .before .before .before .before .put-head .last .0) (l .out) (l .p) (l .j) (l .inv)
+    (c .before .before .before .before .before .before .before .before .before .loop-test .taken)
+    (c .before .before .before .before .before .before .before .put-gap .last .0)
+    (c .before .before .before .before .before .before .before .put-gap .result)
+    (c .before .before .before .before .before .before .before .put-gap .ensures) (c .before .before .put .last .0)
+    (c .before .before .put .result) (c .before .before .put .ensures)
 
 put-slice-write-out : (t : ℕ) → put-lts.Need-slice-write-out (
   put-name-reads.Asked,
@@ -742,9 +894,13 @@ put-slice-write-out : (t : ℕ) → put-lts.Need-slice-write-out (
   put.Post,
 ) (put-at t) put.Post put-Inv-loop put-μ-loop
 put-slice-write-out t c =
-    let s = c .before .before .before .before .before .before .before .before .before .before .before .before .before .before .before .before .before .before .before in
+    let s =
+    c .before .before .before .before .before .before .before .before .before .before .before .before .before
+    .before .before .before .before .before .before in
     let l = c .before .loop in
-    writing-place (head t s) (gap t s) (child t s) (kids t s) (c .before .before .before .before .before .before .before .before .before .put-head .last .0) (l .out) (l .p) (l .j) (l .inv)
+    writing-place (head t s) (gap t s) (child t s) (kids t s)
+    (c .before .before .before .before .before .before .before .before .before .put-head .last .0) (l .out)
+    (l .p) (l .j) (l .inv)
 
 put-add-result : (t : ℕ) → put-lts.Need-add-result (
   put-name-reads.Asked,
@@ -757,11 +913,25 @@ put-add-result : (t : ℕ) → put-lts.Need-add-result (
   put.Post,
 ) (put-at t) put.Post put-Inv-loop put-μ-loop
 put-add-result t c =
-    let s = c .before .before .before .before .before .before .before .before .before .before .before .before .before .before .before .before .before .before .before in
+    let s =
+    c .before .before .before .before .before .before .before .before .before .before .before .before .before
+    .before .before .before .before .before .before in
     let l = c .before .loop in
-    let h = writing-place (head t s) (gap t s) (child t s) (kids t s) (c .before .before .before .before .before .before .before .before .before .put-head .last .0) (l .out) (l .p) (l .j) (l .inv) in
-    let e = writing-length (head t s) (gap t s) (child t s) (kids t s) (c .before .before .before .before .before .before .before .before .before .put-head .last .0) (l .out) (l .p) (l .j) (l .inv) in
-    omega (arith, h, e, c .before .before .before .before .before .before .before .before .before .put-head .kept .0, s .good)
+    let h =
+    writing-place (head t s) (gap t s) (child t s) (kids t s)
+    (c .before .before .before .before .before .before .before .before .before .put-head .last .0) (l .out)
+    (l .p) (l .j) (l .inv) in
+    let e =
+    writing-length (head t s) (gap t s) (child t s) (kids t s)
+    (c .before .before .before .before .before .before .before .before .before .put-head .last .0) (l .out)
+    (l .p) (l .j) (l .inv) in
+    omega (
+      arith,
+      h,
+      e,
+      c .before .before .before .before .before .before .before .before .before .put-head .kept .0,
+      s .good,
+    )
 
 put-same-length-3 : (t : ℕ) → put-lts.Need-same-length-3 (
   put-name-reads.Asked,
@@ -774,10 +944,14 @@ put-same-length-3 : (t : ℕ) → put-lts.Need-same-length-3 (
   put.Post,
 ) (put-at t) put.Post put-Inv-loop put-μ-loop
 put-same-length-3 t c =
-    let s = c .before .before .before .before .before .before .before .before .before .before .before .before .before .before .before .before .before .before .before in
+    let s =
+    c .before .before .before .before .before .before .before .before .before .before .before .before .before
+    .before .before .before .before .before .before in
     let l = c .before .loop in
     length-set (l .out) (l .p) 41
-    ∙ (writing-length (head t s) (gap t s) (child t s) (kids t s) (c .before .before .before .before .before .before .before .before .before .put-head .last .0) (l .out) (l .p) (l .j) (l .inv)
+    ∙ (writing-length (head t s) (gap t s) (child t s) (kids t s)
+    (c .before .before .before .before .before .before .before .before .before .put-head .last .0) (l .out)
+    (l .p) (l .j) (l .inv)
     ∙ c .before .before .before .before .before .before .before .before .before .put-head .kept .0)
 
 put-returns-3 : (t : ℕ) → put-lts.Need-returns-3 (
@@ -791,10 +965,18 @@ put-returns-3 : (t : ℕ) → put-lts.Need-returns-3 (
   put.Post,
 ) (put-at t) put.Post put-Inv-loop put-μ-loop
 put-returns-3 t c =
-    let s = c .before .before .before .before .before .before .before .before .before .before .before .before .before .before .before .before .before .before .before in
+    let s =
+    c .before .before .before .before .before .before .before .before .before .before .before .before .before
+    .before .before .before .before .before .before in
     let l = c .before .loop in
-    wrote-as t s _ _ (by-app t s (c .before .before .before .before .before .before .before .before .before .before .before .if1 .left) (c .before .before .before .before .before .if2 .left))
-    (writing-end (head t s) (gap t s) (child t s) (kids t s) (s .args .out .now) (c .before .before .before .before .before .before .before .before .before .put-head .last .0) (l .out) (c .before .before .before .before .before .before .before .before .before .put-head .result) (l .p) (l .j) (c .before .before .before .before .before .before .before .before .before .put-head .ensures) (c .loop-test .left) (l .inv))
+    wrote-as t s _ _ (by-app t s
+    (c .before .before .before .before .before .before .before .before .before .before .before .if1 .left)
+    (c .before .before .before .before .before .if2 .left))
+    (writing-end (head t s) (gap t s) (child t s) (kids t s) (s .args .out .now)
+    (c .before .before .before .before .before .before .before .before .before .put-head .last .0) (l .out)
+    (c .before .before .before .before .before .before .before .before .before .put-head .result) (l .p) (l .j)
+    (c .before .before .before .before .before .before .before .before .before .put-head .ensures)
+    (c .loop-test .left) (l .inv))
 
 pub +put-spec : {M : Type 1} → statement M
 +put-spec = close μ-put λ t. put-lts.spec (

@@ -1,4 +1,5 @@
--- `flatrows::rows::lay_cells` meets its contract. What is laid and the cells from `j` on give what is wanted. Assumes nothing.
+-- `flatrows::rows::lay_cells` meets its contract. What is laid and the cells from `j` on give what is wanted. Assumes
+-- nothing.
 use Prim.Native.Nat.{_-_, _+_}
 use mathlib.Core.Path.{_≡_, refl, _∙_}
 use mathlib.Core.List.{_++_}

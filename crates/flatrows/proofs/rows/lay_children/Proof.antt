@@ -1,4 +1,5 @@
--- `flatrows::rows::lay_children` meets its contract. The children of the rows below place `k` are laid. Assumes nothing.
+-- `flatrows::rows::lay_children` meets its contract. The children of the rows below place `k` are laid. Assumes
+-- nothing.
 use Prim.Native.Nat.{_-_}
 use mathlib.Core.Path.{_≡_, _∙_}
 use lib.ListN.{length}
