@@ -1,0 +1,2 @@
+-- The definitions of the crate `codes`.
+pub mod Below

@@ -1,0 +1,2 @@
+-- The laws of the crate `needlevale_c`.
+pub mod CodedLaws

@@ -1,0 +1,2 @@
+-- The definitions of the crate `needlevale_c`.
+pub mod Coded

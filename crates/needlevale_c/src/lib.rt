@@ -1,0 +1,46 @@
+// Needlevale for programs in C and other languages: the program's answer and one call on a lent term store, each under
+// its plain name. A refusal comes back as its number below zero, and then nothing lent is changed.
+// Assumed of the caller, as include/needlevale.h says: each pointer stands for as many elements as its length says, and
+// no two overlap.
+ghost use mathlib.Core.Path.{_≡_};
+ghost use Rattle.store.specs.Lent.{store};
+ghost use Rattle.terms.specs.Calls.{addLiteral};
+ghost use Rattle.replies.specs.Reply.{replied};
+ghost use Rattle.needlevale_c.specs.Coded.{Replies, Adds};
+use replies::Answered;
+use terms::Added;
+
+// The answer to a query and a table file: its text at the start of `output`, and its length.
+#[no_mangle]
+pub extern "C" fn needlevale_answer(input: &[u8], output: &mut [u8]) -> i64
+    ensures { λ z. ⌜
+        Replies (replied (now (input .entry)) (now (output .entry))) z (now (output .exit))
+        ⌝ }
+{
+    let answered = answering::answer(input, output);
+    match answered {
+        Answered::Written(n) => n as i64,
+        Answered::Refused(r) => codes::below_zero(r),
+    }
+}
+
+// The number of a literal's term in a lent store, added if it is not there.
+#[no_mangle]
+pub extern "C" fn needlevale_add_literal(
+    records: &mut [u64],
+    literals: &mut [i64],
+    names: &[u8],
+    terms: usize,
+    symbols: usize,
+    value: i64,
+) -> i64
+    ensures { λ z. ⌜ Adds
+        (addLiteral (store (now (records .entry)) (now (literals .entry)) (now (names .entry)) terms symbols) value)
+        z (now (records .exit)) (now (literals .exit)) ⌝ }
+{
+    let added = terms::add_literal(records, literals, names, terms, symbols, value);
+    match added {
+        Added::Term(i, _, _) => i as i64,
+        Added::Refused(r) => codes::below_zero(r),
+    }
+}
