@@ -3,7 +3,7 @@
 use standin::modes::{self, End};
 use std::process::ExitCode;
 
-const USAGE: &str = "oracle needs one of these modes: run, answer, gen SEED N, gen short, stats SEED N, terms, \
+const USAGE: &str = "oracle needs one of these modes: run, answer, gen SEED N, gen short, gen flips, stats SEED N, terms, \
 answer-terms, gen-terms SEED N, edges, record FOLDER, smallest, diff CASES EXPECTED GOT";
 
 fn number<T: std::str::FromStr>(word: &str, what: &str) -> Result<T, End> {
@@ -15,6 +15,7 @@ fn mode(words: &[&str]) -> Result<(), End> {
         ["run"] => modes::run(),
         ["answer"] => modes::answer(),
         ["gen", "short"] => modes::generate_short(),
+        ["gen", "flips"] => modes::generate_flips(),
         ["gen", seed, n] => modes::generate(number(seed, "SEED")?, number(n, "N")?),
         ["stats", seed, n] => modes::stats(number(seed, "SEED")?, number(n, "N")?),
         ["terms"] => modes::terms(),

@@ -99,6 +99,10 @@ pub fn generate_short() -> Result<(), End> {
     write_all(generate::every_short(&generate::worked_example()).into_iter())
 }
 
+pub fn generate_flips() -> Result<(), End> {
+    write_all(generate::every_flip(&generate::worked_example()))
+}
+
 pub fn generate_terms(seed: u64, n: usize) -> Result<(), End> {
     write_all((0..n).map(|index| generate::script(seed, index).write().into_bytes()))
 }

@@ -194,12 +194,23 @@ pub fn every_short(good: &[u8]) -> Vec<Vec<u8>> {
         all.extend((0..UP_TO_TWO).map(|k| [vec![mode, 0, 0], listed(k)].concat()));
     }
     all.extend((0..good.len()).map(|end| good[..end].to_vec()));
-    for bit in 0..good.len() * 8 {
-        let mut case = good.to_vec();
-        case[bit / 8] ^= 0x80 >> (bit % 8);
-        all.push(case);
-    }
+    all.extend((0..good.len() * 8).map(|bit| flipped(good, &[bit])));
     all
+}
+
+/// Every input that differs from a good one in one bit or in two.
+pub fn every_flip(good: &[u8]) -> impl Iterator<Item = Vec<u8>> + '_ {
+    let bits = good.len() * 8;
+    let pairs = (0..bits).flat_map(move |first| (first + 1..bits).map(move |second| flipped(good, &[first, second])));
+    (0..bits).map(|bit| flipped(good, &[bit])).chain(pairs)
+}
+
+fn flipped(good: &[u8], bits: &[usize]) -> Vec<u8> {
+    let mut case = good.to_vec();
+    for bit in bits {
+        case[bit / 8] ^= 0x80 >> (bit % 8);
+    }
+    case
 }
 
 /// The worked example of document 01 with its query.

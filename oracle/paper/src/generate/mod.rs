@@ -9,7 +9,7 @@ mod scripts;
 mod shapes;
 mod width;
 
-pub use faulty::{every_short, worked_example};
+pub use faulty::{every_flip, every_short, worked_example};
 pub use limits::KINDS as LIMIT_KINDS;
 pub use scripts::script;
 pub use width::OneTerm;
