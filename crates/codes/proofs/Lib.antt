@@ -1,2 +1,4 @@
 -- The laws of the crate `codes`.
 pub mod BelowLaws
+pub mod CodeLaws
+pub mod Promises

@@ -1,2 +1,4 @@
 -- The laws of the crate `needlevale_c`.
 pub mod CodedLaws
+pub mod PromiseLaws
+pub mod Promises

@@ -1,2 +1,3 @@
 -- The definitions of the crate `needlevale_c`.
 pub mod Coded
+pub mod Promises
