@@ -1,5 +1,5 @@
--- Two plans that agree on the first classes: a row that is built by itself, as a variant is, takes the place of a class past
--- all others. Assumes nothing: these are definitions.
+-- Two plans that agree on the first classes: a row that is built by itself, as a variant is, takes the place of a class
+-- past all others. Assumes nothing: these are definitions.
 use Prim.Native.Nat.{ℕ, _<_}
 use mathlib.Core.Path.{_≡_}
 use mathlib.Core.List.{List, [], _∷_}

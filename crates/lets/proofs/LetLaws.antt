@@ -135,7 +135,8 @@ module _
             (called-is nm bs k
             ∙ (ap (calledAt nm) e ∙ (calledAt-place nm q ∙ ap byName (letName-is nm q)))))
 
-shownAbove-name : (v : View) (lim t : ℕ) (text : List ℕ) → lim < v .place t → shownAbove v lim t text ≡ v .name (v .place t - 1)
+shownAbove-name :
+    (v : View) (lim t : ℕ) (text : List ℕ) → lim < v .place t → shownAbove v lim t text ≡ v .name (v .place t - 1)
 unfolding shownAbove
 shownAbove-name v lim t text l = rw (lt-ltb lim (v .place t) l, shownAbove)
 
@@ -189,7 +190,9 @@ shownAbove-called rs ls ns ps ws stem start bare k text = by (decLt 0 (getD ps k
         ∙ ap (λ (x : Called). shown x text) (sym (calledBy-text ps stem start bare k (omega arith))))
 
 -- ---- a binding's line
-letLine-is : (name gap body : List ℕ) → bodyGap (several body) ≡ gap → letLine name body ≡ ((openText name ++ gap) ++ body) ++ (41 ∷ 10 ∷ [])
+letLine-is :
+    (name gap body : List ℕ) → bodyGap (several body) ≡ gap → letLine name body ≡ ((openText name ++ gap) ++ body)
+    ++ (41 ∷ 10 ∷ [])
 unfolding letLine
 letLine-is name gap body e = rw (e, append-assoc, append-assoc, append-assoc)
 
@@ -351,7 +354,8 @@ module _
         ∙ ap (linesTo v rs ws terms indents) (sym s))))))
 
     -- what is written is the definition's text
-    pub wholeText-right : 0 < n → textWith (nodes rs ls ns) nm (n - 1) (bounds terms indents m) ≡ wholeText v rs ws terms indents n m
+    pub wholeText-right : 0 < n → textWith (nodes rs ls ns) nm (n - 1) (bounds terms indents m) ≡ wholeText v rs ws
+        terms indents n m
     unfolding textWith
     wholeText-right pos =
         ap (λ (x : List ℕ). x ++ (10 ∷ own (nodes rs ls ns) (called nm bs) 0 0 (n - 1))) (lines-are m (omega arith))
