@@ -3,11 +3,11 @@ use Prim.Native.Nat.{ℕ, suc, _+_, _-_, _≤_, _<_}
 use mathlib.Core.Path.{_≡_, refl, sym, ap, subst, _∙_}
 use mathlib.Core.List.{List, _++_}
 use native.Mathlib.Omega.{arith}
-use lib.ListN.{length, getD, take, replicate, length-take, length-append, length-replicate, List·getD-append}
-use lib.Seq.{getD-take, take-append-seam, getD-append-add}
+use lib.ListN.{length, getD, take, replicate, length-append, length-replicate, List·getD-append}
+use lib.Seq.{take-append-seam, getD-append-add}
 use lib.IntN.{ℤ}
 use Rattle.store.specs.declared.Term.{Term}
-use Rattle.store.specs.Lent.{Store, recordAt, symbolAt}
+use Rattle.store.specs.Lent.{Store, symbolAt}
 use Rattle.store.specs.Nodes.{
   Node,
   literal,
@@ -27,22 +27,9 @@ use Rattle.store.specs.Nodes.{
   isMore,
 }
 use Rattle.store.specs.Facts.{SoundRecord, aLiteral, aVariable, anApplication, Sound}
-use Rattle.store.proofs.KindLaws.{byKind-literal, byKind-variable, byKind-application}
+use Rattle.meaning.proofs.NodeLaws.{nodeOf-literal, nodeOf-variable, nodeOf-application, node-lower}
 use Rattle.adding.specs.Growing.{Fit}
 use Rattle.adding.proofs.PasteLaws.{getD-zeros}
-
-module _ (s : Store) (t : Term) where
-  nodeOf-literal : t .kind ≡ 0 → nodeOf s t ≡ literal (t .literal)
-  unfolding nodeOf
-  nodeOf-literal e = byKind-literal _ _ _ _ (t .kind) e
-
-  nodeOf-variable : t .kind ≡ 1 → nodeOf s t ≡ variable (symbolAt s (t .symbol))
-  unfolding nodeOf
-  nodeOf-variable e = byKind-variable _ _ _ _ (t .kind) e
-
-  nodeOf-application : t .kind ≡ 2 → nodeOf s t ≡ application (symbolAt s (t .symbol)) (take (t .count) (t .children))
-  unfolding nodeOf
-  nodeOf-application e = byKind-application _ _ _ _ (t .kind) e
 
 -- a sound record means the same where its symbols are the same
 pub nodeOf-same :
@@ -112,39 +99,6 @@ recordOf-wide s k (variable n) f = refl
 recordOf-wide s k (application n ks) f = simp (length-append, length-replicate) (omega (arith, f .1))
 
 module _ (s : Store) (sound : Sound s) where
-  lower-by :
-      (i : ℕ) (t : Term) (n ks : List ℕ) →
-      SoundRecord (s .symbols) i t →
-      nodeOf s t ≡ application n ks →
-      (j : ℕ) →
-      j < length ks →
-      getD ks j 0 < i
-  lower-by i t n ks (aLiteral f) e j l =
-      let q = nodeOf-literal s t (f .kind) in
-      let z : _≡_ {A = ℕ} 0 1 = cc in
-      absurd (omega arith)
-  lower-by i t n ks (aVariable f) e j l =
-      let q = nodeOf-variable s t (f .kind) in
-      let z : _≡_ {A = ℕ} 0 1 = cc in
-      absurd (omega arith)
-  lower-by i t n ks (anApplication f) e j l =
-      let q = nodeOf-application s t (f .kind) in
-      let z : take (t .count) (t .children) ≡ ks = cc in
-      let b : j < t .count = omega (arith, ap length z, length-take (t .count) (t .children)) in
-      subst (λ (x : ℕ). x < i)
-      (sym (getD-take (t .count) (t .children) j 0 b) ∙ ap (λ (r : List ℕ). getD r j 0) z) (f .lower j b)
-
-  -- the children of a term are below it
-  pub children-lower :
-      (i : ℕ) (n ks : List ℕ) →
-      i < s .terms →
-      nodeAt s i ≡ application n ks →
-      (j : ℕ) →
-      j < length ks →
-      getD ks j 0 < i
-  unfolding nodeAt
-  children-lower i n ks l e = lower-by i (recordAt s i) n ks (sound .term i l) e
-
   -- what a term means stays where the nodes stay
   module _ (s′ : Store) (nodes : (i : ℕ) → i < s .terms → nodeAt s′ i ≡ nodeAt s i) where
     mutual
@@ -152,7 +106,7 @@ module _ (s : Store) (sound : Sound s) where
       means-kept {i = i} l (isNumber z e) = isNumber z (nodes i l ∙ e)
       means-kept {i = i} l (isNamed n e) = isNamed n (nodes i l ∙ e)
       means-kept {i = i} l (isApplied n ks ts e h) =
-          isApplied n ks ts (nodes i l ∙ e) (meansAll-kept (λ j b. omega (arith, children-lower i n ks l e j b)) h)
+          isApplied n ks ts (nodes i l ∙ e) (meansAll-kept (λ j b. omega (arith, node-lower s sound i l n ks e j b)) h)
 
       meansAll-kept :
           {ks : List ℕ} {ts : Trees} →

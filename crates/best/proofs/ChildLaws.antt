@@ -46,19 +46,20 @@ module _ (t : Table) (k : Known t) (root : ℕ) (h : root < length (t .sorts)) w
 
 -- a child number as the builder's child
 module _
-    (t : Table) (values : List ℤ) (same : (i : ℕ) → i < length (t .literals) → getD values i (pos 0) ≡ literalOf t i) where
-  number-child : (x : ℕ) → InTable t (flatChild x) → planNumber values x ≡ planChild t (flatChild x)
-  unfolding planNumber flatChild planChild
-  number-child x i =
-      cases (ltb x 512) (λ e. rw (e, planNumber) refl)
-      (λ e. rw (e, planNumber) (ap value (same (x - 512) (rw e at i))))
+    (t : Table) (values : List ℤ) (same : (i : ℕ) → i < length (t .literals) → getD values i (pos 0) ≡ literalOf t i)
+  where
+    number-child : (x : ℕ) → InTable t (flatChild x) → planNumber values x ≡ planChild t (flatChild x)
+    unfolding planNumber flatChild planChild
+    number-child x i =
+        cases (ltb x 512) (λ e. rw (e, planNumber) refl)
+        (λ e. rw (e, planNumber) (ap value (same (x - 512) (rw e at i))))
 
-  pub number-children :
-      (xs : List ℕ) →
-      ((j : ℕ) → j < length xs → InTable t (flatChild (getD xs j 0))) →
-      map (planNumber values) xs ≡ map (planChild t) (map flatChild xs)
-  number-children [] i = refl
-  number-children (x ∷ xs) i =
-      let a = number-child x (i 0 (omega arith)) in
-      let b = number-children xs (λ j l. i (suc j) (omega arith)) in
-      rw (a, b) refl
+    pub number-children :
+        (xs : List ℕ) →
+        ((j : ℕ) → j < length xs → InTable t (flatChild (getD xs j 0))) →
+        map (planNumber values) xs ≡ map (planChild t) (map flatChild xs)
+    number-children [] i = refl
+    number-children (x ∷ xs) i =
+        let a = number-child x (i 0 (omega arith)) in
+        let b = number-children xs (λ j l. i (suc j) (omega arith)) in
+        rw (a, b) refl

@@ -52,7 +52,8 @@ module _
     (w : Solved (classCount t) passes last outputs heads starts children order functions costs ranks marks known plan)
     (c : ℕ) (s : Store) where
   ran : runOf t root ≡ ranTo costs ranks last passes
-  ran = run-is t root outputs heads starts children order functions labels values v costs ranks marks known plan passes last long same w
+  ran = run-is t root outputs heads starts children order functions labels values v costs ranks marks known plan passes
+      last long same w
 
   answer-is : answerFor t root c ≡ answerOf limit (stateOf costs ranks last) c
   unfolding answerFor
@@ -62,7 +63,8 @@ module _
   unfolding bestClass
   decide-unranked z = rw (answer-is ∙ answer-when-unranked limit (stateOf costs ranks last) c z) refl
 
-  pub decide-dear : 0 < getD ranks c 0 → limit ≤ getD costs c 0 → refused TooDear s ≡ bestClass t root c s (answerFor t root c)
+  pub decide-dear : 0 < getD ranks c 0 → limit ≤ getD costs c 0 → refused TooDear s ≡ bestClass t root c s
+      (answerFor t root c)
   unfolding bestClass
   decide-dear z d = rw (answer-is ∙ answer-when-saturated limit (stateOf costs ranks last) c z d) refl
 
@@ -77,7 +79,8 @@ module _
     class-is =
         rw (answer-is ∙ answer-when-below limit (stateOf costs ranks last) c z d)
         (rw
-        (whole-is t root outputs heads starts children order functions labels values v costs ranks marks known plan passes
+        (whole-is t root outputs heads starts children order functions labels values v costs ranks marks known plan
+        passes
         last long same w s c ranked)
         (ap
         (λ (p : ℕ). bestBuilt (getD costs c 0) p s (whole (planFor t root) (rankFor t root c) s c))

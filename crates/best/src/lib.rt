@@ -40,7 +40,8 @@ pub fn decide(
         (now values) (length (now ranks)) c (store (now records) (now literals) (now names) terms symbols) ⌝ }
     requires { ⌜ Blank (length (now ranks)) (now costs) (now ranks) (now marks) (now known) (now plan) ⌝ }
     ensures { λ r. ⌜ BestAnswers (now (outputs .entry)) (now (heads .entry)) (now (starts .entry)) (now (children .entry))
-        (now (order .entry)) (now (functions .entry)) (now (labels .entry)) (now (values .entry)) (length (now (ranks .entry))) c
+        (now (order .entry)) (now (functions .entry)) (now (labels .entry)) (now (values .entry))
+        (length (now (ranks .entry))) c
         (store (now (records .entry)) (now (literals .entry)) (now (names .entry)) terms symbols)
         (seen (store (now (records .entry)) (now (literals .entry)) (now (names .entry)) terms symbols) r
         (now (records .exit)) (now (literals .exit)) (now (names .exit))) ⌝ }

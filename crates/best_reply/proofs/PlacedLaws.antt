@@ -54,7 +54,8 @@ placed-written text out after n e = by (leb (length text) (length out)) refl e
         (b : Bool) →
         leb (length text) (length out) ≡ b →
         told (written n) after
-        ≡ elim b [ true ↦ told (written (length text)) (text ++ drop (length text) out) | false ↦ told (refusal 13) out ] →
+        ≡ elim b
+        [ true ↦ told (written (length text)) (text ++ drop (length text) out) | false ↦ told (refusal 13) out ] →
         (length text ≤ length out) × Wrote text n out after
     by true t h = (
       leb-true (length text) (length out) t,
@@ -77,7 +78,8 @@ placed-refused text out after k e = by (leb (length text) (length out)) refl e
         (b : Bool) →
         leb (length text) (length out) ≡ b →
         told (refusal k) after
-        ≡ elim b [ true ↦ told (written (length text)) (text ++ drop (length text) out) | false ↦ told (refusal 13) out ] →
+        ≡ elim b
+        [ true ↦ told (written (length text)) (text ++ drop (length text) out) | false ↦ told (refusal 13) out ] →
         (length out < length text) × (after ≡ out)
     by true t h =
         let z : _≡_ {A = ℕ} 0 1 = ap (λ (x : Told Answer). isWritten (x .answer)) h in

@@ -1,4 +1,5 @@
--- The whole text of an answer of best: the term's text in its place, the newline, then the line before it. Assumes nothing.
+-- The whole text of an answer of best: the term's text in its place, the newline, then the line before it.
+-- Assumes nothing.
 use mathlib.Core.Path.{_≡_, refl, sym, ap, subst, _∙_}
 use mathlib.Core.Bool.{Bool, true, false}
 use mathlib.Core.List.{List, [], _∷_, _++_}
@@ -104,7 +105,8 @@ module _ (plain : Bool) (s : Store) (cost term passes : ℕ) where
               ≡ putIn (inRoom (length out) (value (bestReply plain s (bestTerm cost term passes)))) out
           writes z o₂ u =
               let w = step-whole out (line ++ (bestText plain s term ++ (10 ∷ []))) o₂ (h + n + 1)
-              (step-front out (bestText plain s term ++ (10 ∷ [])) (set (putMid h (e - h) out after) (h + n) 10) line o₂ h
+              (step-front out (bestText plain s term ++ (10 ∷ [])) (set (putMid h (e - h) out after) (h + n) 10) line o₂
+              h
               (h + n + 1) z eh (rw length-append (omega (arith, fit, ee, l))) end-step u) in
               subst
               (λ (x : List ℕ). seen (Written (h + n + 1)) o₂ ≡ putIn (inRoom (length out) (value x)) out)

@@ -60,8 +60,8 @@ fn put_text(
     }
 }
 
-// Writes the line `best C N P`, the text of the term and a newline, if they fit. The text goes to its place first, which tells
-// whether it fits; the line goes before it then.
+// Writes the line `best C N P`, the text of the term and a newline, if they fit. The text goes to its place first,
+// which tells whether it fits; the line goes before it then.
 pub fn put(
     plain: bool,
     out: &mut [u8],

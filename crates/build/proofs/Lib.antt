@@ -3,5 +3,4 @@ pub mod StandingLaws
 pub mod BuildingLaws
 pub mod PlanLaws
 pub mod TurnLaws
-pub mod AgreeLaws
 pub mod OwnLaws

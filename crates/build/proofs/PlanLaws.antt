@@ -22,7 +22,7 @@ module _ (values : List ℤ) (x : ℕ) where
   unfolding childOf
   childOf-value h = rw (le-ltb x 512 h, childOf)
 
-map-drop : {A B : Type 0} (f : A → B) (j : ℕ) (l : List A) → drop j (map f l) ≡ map f (drop j l)
+pub map-drop : {A B : Type 0} (f : A → B) (j : ℕ) (l : List A) → drop j (map f l) ≡ map f (drop j l)
 map-drop f zero l = refl
 map-drop f (suc j) [] = refl
 map-drop f (suc j) (a ∷ l) = map-drop f j l

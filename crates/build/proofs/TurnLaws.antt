@@ -31,21 +31,21 @@ module _ (g : State → ℕ → Out ℕ) (s : State) where
   childIn-value z = refl
 
   module _ (ks : List ℕ) where
-    childrenIn-go :
+    pub childrenIn-go :
         (x : Child) (xs : List Child) (t : ℕ) (s′ : State) →
         childIn g s x ≡ done t s′ →
         childrenIn g s ks (x ∷ xs) ≡ childrenIn g s′ (ks ++ (t ∷ [])) xs
     unfolding childrenIn
     childrenIn-go x xs t s′ e = rw (e, childrenIn)
 
-    childrenIn-stop :
+    pub childrenIn-stop :
         (x : Child) (xs : List Child) (me rs : List ℕ) (ls : List ℤ) (ns : List ℕ) →
         childIn g s x ≡ full me rs ls ns →
         childrenIn g s ks (x ∷ xs) ≡ full me rs ls ns
     unfolding childrenIn
     childrenIn-stop x xs me rs ls ns e = rw (e, childrenIn)
 
-    childrenIn-end : childrenIn g s ks [] ≡ done ks s
+    pub childrenIn-end : childrenIn g s ks [] ≡ done ks s
     unfolding childrenIn
     childrenIn-end = refl
 

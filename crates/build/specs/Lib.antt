@@ -3,4 +3,3 @@ pub mod Plan
 pub mod Building
 pub mod Standing
 pub mod Ready
-pub mod Agree

@@ -1,5 +1,5 @@
--- What is to be built: for each class the row that its edge names. Document 01, 'Costs and choice'. Assumes nothing: these
--- are definitions.
+-- What is to be built: for each class the row that its edge names. Document 01, 'Costs and choice'. Assumes nothing:
+-- these are definitions.
 use Prim.Native.Nat.{ℕ, _+_, _*_, _-_}
 use mathlib.Core.Path.{_≡_}
 use mathlib.Core.Bool.{true, false}
@@ -43,8 +43,8 @@ planOf plan functions values = record {
   children = λ (c : ℕ). childrenOf plan values c;
 }
 
--- The tree of a class: its row's name over the trees of the row's children. (The name is a variable with an equation, so
--- that proofs can go by cases.)
+-- The tree of a class: its row's name over the trees of the row's children. (The name is a variable with an equation,
+-- so that proofs can go by cases.)
 mutual
   pub data TreeOf (p : Plan) : ℕ → Tree → Type 0 where
     ofRow :

@@ -1,4 +1,5 @@
-// The builder of best terms: a class's term is built into a lent store by a function that calls itself on each child class.
+// The builder of best terms: a class's term is built into a lent store by a function that calls itself on each child
+// class.
 ghost use mathlib.Core.Path.{_≡_};
 ghost use Prim.Native.Nat.{ℕ, _+_, _*_, _<_, _≤_};
 ghost use mathlib.Core.Bool.{true};

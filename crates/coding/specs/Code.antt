@@ -37,7 +37,8 @@ unfoldable pub codeFunction : Function → List ℕ
 codeFunction f =
     codeMany 5 (code 8) (f .name)
     ++ (codeCost (f .hasCost) (f .cost)
-    ++ ((code 1 (f .unextractable) ++ code 1 (f .hidden)) ++ (code 5 (f .output) ++ codeMany 4 (code 5) (f .arguments))))
+    ++ ((code 1 (f .unextractable) ++ code 1 (f .hidden)) ++ (code 5 (f .output) ++ codeMany 4 (code 5)
+    (f .arguments))))
 
 unfoldable pub codeRow : Row → List ℕ
 codeRow r = code 7 (r .function) ++ (code 1 (r .subsumed) ++ blocks (code 9) (r .cells))
@@ -46,7 +47,8 @@ unfoldable pub codeTable : Table → List ℕ
 codeTable t =
     code 4 1
     ++ (codeMany 5 codeSort (t .sorts)
-    ++ (codeMany 9 codeLiteral (t .literals) ++ (codeMany 7 codeFunction (t .functions) ++ codeMany 11 codeRow (t .rows))))
+    ++ (codeMany 9 codeLiteral (t .literals)
+    ++ (codeMany 7 codeFunction (t .functions) ++ codeMany 11 codeRow (t .rows))))
 
 -- The bits of the file: the table's, and zeros to the byte's end.
 unfoldable pub codeFile : Table → List ℕ

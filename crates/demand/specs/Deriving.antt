@@ -17,21 +17,22 @@ unfoldable mutual
   AllUsableIn usable none = Unit {0}
   AllUsableIn usable (more t f) = AllUsable usable t × AllUsableIn usable f
 
--- "call a term deriving if it is finite and built from rows neither subsumed nor of barred functions": it derives class c.
+-- "call a term deriving if it is finite and built from rows neither subsumed nor of barred functions":
+-- it derives class c.
 pub record Deriving (rows : List Row) (usable : ℕ → Bool) (c : ℕ) (t : Tree) : Type 0 where
   pub derives : Derives rows t (class c)
   pub all-usable : AllUsable usable t
 
--- "a deriving term ..; its exact cost is the number reported; none is cheaper; and down its chosen rows no class is met twice
--- on a path."
+-- "a deriving term ..; its exact cost is the number reported; none is cheaper; and down its chosen rows no class is met
+-- twice on a path."
 pub record Cheapest (rows : List Row) (usable : ℕ → Bool) (c v : ℕ) (t : Tree) : Type 0 where
   pub is-deriving : Deriving rows usable c t
   pub exact : treeCost rows t ≡ v
   pub least : (u : Tree) → Deriving rows usable c u → v ≤ treeCost rows u
   pub once : Once rows [] t
 
--- "If none derives the root, and only then, the answer is NoTerm. If some do but each costs 2^64-1 or more in exact whole
--- numbers, and only then, TooDear. Otherwise .. a deriving term comes back". M is 2^64-1.
+-- "If none derives the root, and only then, the answer is NoTerm. If some do but each costs 2^64-1 or more in exact
+-- whole numbers, and only then, TooDear. Otherwise .. a deriving term comes back". M is 2^64-1.
 abbrev pub Answered : ℕ → List Row → (ℕ → Bool) → ℕ → Answer → Type 0
 Answered M rows usable c noTerm = (t : Tree) → Deriving rows usable c t → ⊥
 Answered M rows usable c tooDear =

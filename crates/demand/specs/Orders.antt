@@ -21,8 +21,8 @@ unfoldable mutual
   renumberIn order none = none
   renumberIn order (more t f) = more (renumber order t) (renumberIn order f)
 
--- The order has usable rows alone, and each usable row whose output is in a set of classes that is closed under the children
--- of such rows.
+-- The order has usable rows alone, and each usable row whose output is in a set of classes that is closed under the
+-- children of such rows.
 pub record Covers (rows : List Row) (usable : ℕ → Bool) (order : List ℕ) (In : ℕ → Type 0) : Type 0 where
   pub known : (i : ℕ) → i < length order → getD order i 0 < length rows
   pub usable-ones : (i : ℕ) → i < length order → usable (getD order i 0) ≡ true

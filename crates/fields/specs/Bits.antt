@@ -8,7 +8,8 @@ use lib.ListN.{take, drop}
 unfoldable pub bitsOf : List ℕ → List ℕ
 bitsOf [] = []
 bitsOf (b ∷ s) =
-    (b / 128 % 2) ∷ (b / 64 % 2) ∷ (b / 32 % 2) ∷ (b / 16 % 2) ∷ (b / 8 % 2) ∷ (b / 4 % 2) ∷ (b / 2 % 2) ∷ (b % 2) ∷ bitsOf s
+    (b / 128 % 2) ∷ (b / 64 % 2) ∷ (b / 32 % 2) ∷ (b / 16 % 2) ∷ (b / 8 % 2) ∷ (b / 4 % 2) ∷ (b / 2 % 2) ∷ (b % 2)
+    ∷ bitsOf s
 
 -- The number that the bits make after those of v.
 unfoldable pub value : ℕ → List ℕ → ℕ

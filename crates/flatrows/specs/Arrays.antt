@@ -100,12 +100,13 @@ pub record Room (order outputs heads starts children : List ℕ) : Type 0 where
   pub children-room : length order * 8 ≤ length children
 
 -- Each row in the order can be laid; there are at most 1,024.
-pub record RowsFit (kinds bases declared costs outputs arities arguments rowFunctions cells order : List ℕ) : Type 0 where
-  pub few : length order ≤ 1024
-  pub outputs-fit : Each (OutputFits bases arities outputs rowFunctions cells) order
-  pub heads-fit : Each (HeadFits declared costs rowFunctions) order
-  pub arities-fit : Each (ArityFits arities rowFunctions) order
-  pub children-fit : Each (ChildrenFit kinds bases arities arguments rowFunctions cells) order
+pub record RowsFit (kinds bases declared costs outputs arities arguments rowFunctions cells order : List ℕ) : Type 0
+  where
+    pub few : length order ≤ 1024
+    pub outputs-fit : Each (OutputFits bases arities outputs rowFunctions cells) order
+    pub heads-fit : Each (HeadFits declared costs rowFunctions) order
+    pub arities-fit : Each (ArityFits arities rowFunctions) order
+    pub children-fit : Each (ChildrenFit kinds bases arities arguments rowFunctions cells) order
 
 -- What stands in the four lists, m children in all, and that this is the rows in the order.
 pub record Laid (kinds bases declared costs outputs arities arguments rowFunctions cells order : List ℕ) (m : ℕ)
@@ -115,5 +116,6 @@ pub record Laid (kinds bases declared costs outputs arities arguments rowFunctio
   pub starts-are : Sums (arityIn arities rowFunctions) order starts
   pub children-are : Filled children m (inTurn (childrenIn kinds bases arities arguments rowFunctions cells) order)
   pub rows :
-      rowsOf (take (length order) classes) (take (length order) heads) (take (length order + 1) starts) (take m children)
+      rowsOf (take (length order) classes) (take (length order) heads) (take (length order + 1) starts)
+      (take m children)
       ≡ map (rowIn kinds bases declared costs outputs arities arguments rowFunctions cells) order

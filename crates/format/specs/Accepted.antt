@@ -16,8 +16,8 @@ pub record SortOk (x : Sort) : Type 0 where
   pub bit : x .kind < 2
   pub base : x .kind ≡ 0 → x .classes ≡ 0
 
--- A function over sorts of the kinds: its name is valid, its bits are bits, its cost is 0 where there is none, its output is an eq
--- sort, and it has at most 8 arguments, each a sort.
+-- A function over sorts of the kinds: its name is valid, its bits are bits, its cost is 0 where there is none, its
+-- output is an eq sort, and it has at most 8 arguments, each a sort.
 pub record FunctionOk (kinds : List ℕ) (f : Function) : Type 0 where
   pub named : valid (f .name) ≡ true
   pub flag : f .hasCost < 2
@@ -45,7 +45,8 @@ pub record RowOk (sorts : List Sort) (l : ℕ) (functions : List Function) (r : 
 abbrev pub Differ : List Function → Type 0
 Differ fs = (i j : ℕ) → i < j → j < length fs → functionNo fs i .name ≡ functionNo fs j .name → ⊥
 
--- An accepted table: each count is within its limit, each sort, function and row is as document 01 says, and names differ.
+-- An accepted table: each count is within its limit, each sort, function and row is as document 01 says,
+-- and names differ.
 pub record Accepted (t : Table) : Type 0 where
   pub sorts-few : length (t .sorts) ≤ 31
   pub sorts-ok : Every SortOk (t .sorts)

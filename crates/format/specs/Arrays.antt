@@ -31,7 +31,8 @@ blocks f [] = []
 blocks f (x ∷ xs) = f x ++ blocks f xs
 
 -- The functions in their eight arrays: 32 bytes for a name, 8 places for the argument sorts.
-pub record HoldsFunctions (names declared costs unextractable hidden outputs arities arguments : List ℕ) (fs : List Function) : Type 0 where
+pub record HoldsFunctions (names declared costs unextractable hidden outputs arities arguments : List ℕ)
+    (fs : List Function) : Type 0 where
   pub names-are : names ≡ pad 4096 (blocks (λ (f : Function). entry (f .name)) fs)
   pub declared-are : declared ≡ pad 128 (map (λ (f : Function). f .hasCost) fs)
   pub costs-are : costs ≡ pad 128 (map (λ (f : Function). f .cost) fs)
@@ -49,7 +50,8 @@ pub record HoldsRows (functions subsumed cells : List ℕ) (rows : List Row) : T
 
 -- A table in its fourteen arrays.
 pub record Holds (kinds classes : List ℕ) (literals : List ℤ)
-    (names declared costs unextractable hidden outputs arities arguments functions subsumed cells : List ℕ) (t : Table) : Type 0 where
+    (names declared costs unextractable hidden outputs arities arguments functions subsumed cells : List ℕ) (t : Table)
+    : Type 0 where
   pub sorts-held : HoldsSorts kinds classes (t .sorts)
   pub literals-held : HoldsLiterals literals (t .literals)
   pub functions-held : HoldsFunctions names declared costs unextractable hidden outputs arities arguments (t .functions)

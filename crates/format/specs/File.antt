@@ -31,7 +31,8 @@ functionsPart s kinds at = then (field s at 7) (λ n p. functionsAt s kinds n p)
 
 -- "row count 11 bits, 0 to 1,024", then the rows, over the sorts, l literals and the functions.
 unfoldable pub rowsPart : List ℕ → List Sort → ℕ → List Function → ℕ → Got (List Row)
-rowsPart s sorts l functions at = then (field s at 11) (λ n p. must (leb n 1024) BadSize (rowsAt s sorts l functions n p))
+rowsPart s sorts l functions at =
+    then (field s at 11) (λ n p. must (leb n 1024) BadSize (rowsAt s sorts l functions n p))
 
 -- The bits from position at to the byte's end.
 abbrev pub padBits : ℕ → ℕ

@@ -1,4 +1,5 @@
-// The fields of a function after its name: cost, flags, output sort and argument sorts, each into place `i` of its array.
+// The fields of a function after its name: cost, flags, output sort and argument sorts,
+// each into place `i` of its array.
 ghost use mathlib.Core.Path.{_≡_};
 ghost use Prim.Native.Nat.{_+_, _*_, _^_, _<_, _≤_};
 ghost use mathlib.Core.List.{[]};
@@ -53,7 +54,8 @@ pub fn read_flags(
     requires { ⌜ at < 2 ^ 40 ⌝ }
     requires { ⌜ i < 128 ⌝ }
     ensures { λ r. ⌜ Reads (flagsAt (now (s .entry)) at) r
-        (PutFlags i (now (unextractable .entry)) (now (hidden .entry)) (now (unextractable .exit)) (now (hidden .exit))) ⌝ }
+        (PutFlags i (now (unextractable .entry)) (now (hidden .entry)) (now (unextractable .exit)) (now (hidden .exit)))
+        ⌝ }
 {
     let f = fields::read(s, at, 1);
     let Field::Value(u, p) = f else {

@@ -52,7 +52,8 @@ pub variants-length : (k p : ℕ) → length (variantsLine k p) ≡ length (digi
 unfolding variantsLine
 variants-length k p = rw (length-append, length-append, number-length, number-length) (omega arith)
 
-pub variant-length : (i c n : ℕ) → length (variantLine i c n) ≡ length (digits i) + length (digits c) + length (digits n) + 11
+pub variant-length :
+    (i c n : ℕ) → length (variantLine i c n) ≡ length (digits i) + length (digits c) + length (digits n) + 11
 unfolding variantLine
 variant-length i c n =
     rw (length-append, length-append, length-append, number-length, number-length, number-length) (omega arith)

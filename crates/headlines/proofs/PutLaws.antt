@@ -35,8 +35,8 @@ number-step o x a p r q l w =
     step-of-tail o (digits x) q p r (omega (arith, room)) w in
     let same : length (putMid p (length o - p) o q) ≡ length o =
     step-length o (digits x) (putMid p (length o - p) o q) p (p + r) s (omega (arith, room)) in
-    step-then o (digits x) (putMid p (length o - p) o q) (a ∷ []) (set (putMid p (length o - p) o q) (p + r) a) p (p + r)
-    (p + r + 1) s
+    step-then o (digits x) (putMid p (length o - p) o q) (a ∷ []) (set (putMid p (length o - p) o q) (p + r) a) p
+    (p + r) (p + r + 1) s
     (step-byte (putMid p (length o - p) o q) a (p + r) (omega (arith, room, same, s .place)))
     (omega (arith, room))
 

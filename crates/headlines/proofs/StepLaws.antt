@@ -104,7 +104,8 @@ step-of-middle o e m p q r l h small w =
     ∙ (ap (drop (length e)) (take-append-drop (q - p) (drop p o)) ∙ drop-drop (length e) p o) in
     let all : m ++ drop (q - p) (drop p o) ≡ e ++ drop (p + length e) o =
     ap (λ (x : List ℕ). x ++ drop (q - p) (drop p o)) (w .bytes)
-    ∙ (append-assoc e (drop (length e) (take (q - p) (drop p o))) (drop (q - p) (drop p o)) ∙ ap (λ (x : List ℕ). e ++ x) rest) in
+    ∙ (append-assoc e (drop (length e) (take (q - p) (drop p o))) (drop (q - p) (drop p o))
+    ∙ ap (λ (x : List ℕ). e ++ x) rest) in
     record { place = ap (λ (k : ℕ). p + k) (w .long); bytes = ap (λ (x : List ℕ). take p o ++ x) all }
 
 -- A text in front of what was written from its end on.

@@ -18,7 +18,7 @@ record Reads (rs : List ℕ) (symbols t : ℕ) : Type 0 where
   lower : Inside t (kidsAt rs t)
   symbol : 0 < kindAt rs t → symbolNo rs t < symbols
 
-kids-length : (rs : List ℕ) (t : ℕ) → length (kidsAt rs t) ≤ arityAt rs t
+pub kids-length : (rs : List ℕ) (t : ℕ) → length (kidsAt rs t) ≤ arityAt rs t
 kids-length rs t =
     omega (arith, length-take (t * 11 + 3 + arityAt rs t - (t * 11 + 3)) (drop (t * 11 + 3) rs))
 

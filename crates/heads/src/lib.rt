@@ -11,7 +11,8 @@ ghost use Rattle.heads.specs.Readable.{nodes, headText, Readable};
 pub fn head_length(records: &[u64], literals: &[i64], names: &[u8], n: usize, t: usize) -> u64
     requires { ⌜ Readable (now records) (now literals) (now names) n ⌝ }
     requires { ⌜ t < n ⌝ }
-    ensures { λ r. ⌜ r ≡ capped (length (headText (nodes (now (records .entry)) (now (literals .entry)) (now (names .entry)) t))) ⌝ }
+    ensures { λ r. ⌜ r ≡ capped
+        (length (headText (nodes (now (records .entry)) (now (literals .entry)) (now (names .entry)) t))) ⌝ }
 {
     let kind = records[t * 11];
     if kind == 0 {

@@ -29,7 +29,8 @@ fn is_record(
 ) -> bool
     requires { ⌜ InRecords (now records) (now literals) i ⌝ }
     requires { ⌜ length (now children) ≤ 8 ⌝ }
-    ensures { λ r. ⌜ r ≡ hasAt (now (records .entry)) (now (literals .entry)) kind symbol literal (now (children .entry)) i ⌝ }
+    ensures { λ r.
+        ⌜ r ≡ hasAt (now (records .entry)) (now (literals .entry)) kind symbol literal (now (children .entry)) i ⌝ }
 {
     let at = i * 11;
     if records[at] != kind {
@@ -184,7 +185,8 @@ fn append_literal(
 ) -> Added
     ensures { λ r. ⌜
         Leaves (store (now (records .entry)) (now (literals .entry)) (now (names .entry)) terms symbols)
-        (appendLiteral (store (now (records .entry)) (now (literals .entry)) (now (names .entry)) terms symbols) literal)
+        (appendLiteral (store (now (records .entry)) (now (literals .entry)) (now (names .entry)) terms symbols)
+        literal)
         r (now (records .exit)) (now (literals .exit)) (now (names .entry))
         ⌝ }
 {

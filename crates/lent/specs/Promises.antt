@@ -1,5 +1,5 @@
--- What is promised of a lent list of records and a lent list of name entries: they mean the same store as the flat lists, and no
--- other. Assumes nothing: a record, with one field for each theorem.
+-- What is promised of a lent list of records and a lent list of name entries: they mean the same store as the flat
+-- lists, and no other. Assumes nothing: a record, with one field for each theorem.
 use Prim.Native.Nat.{ℕ, _*_, _≤_, _<_, min}
 use mathlib.Core.Path.{_≡_}
 use mathlib.Core.List.{List, []}
@@ -24,11 +24,14 @@ pub record Promises : Type 0 where
       (ts : List Term) (ns : List (List ℕ)) (n m k : ℕ) → Shaped ts ns → k < length (take 128 ns) →
       getD (getD ns k []) 0 0 ≤ 31 → symbolAt (lentStore ts ns n m) k ≡ nameOf (getD ns k [])
   -- "the store's room (its lent lengths, at most 1,024 and 128)"
-  pub room : (ts : List Term) (ns : List (List ℕ)) (n m : ℕ) → Shaped ts ns → termRoom (lentStore ts ns n m) ≡ min 1024 (length ts)
+  pub room : (ts : List Term) (ns : List (List ℕ)) (n m : ℕ) → Shaped ts ns → termRoom (lentStore ts ns n m) ≡ min 1024
+      (length ts)
   pub nameRoom :
-      (ts : List Term) (ns : List (List ℕ)) (n m : ℕ) → Shaped ts ns → symbolRoom (lentStore ts ns n m) ≡ min 128 (length ns)
+      (ts : List Term) (ns : List (List ℕ)) (n m : ℕ) → Shaped ts ns → symbolRoom (lentStore ts ns n m) ≡ min 128
+      (length ns)
   -- A store that is as it was leaves the lists as they were.
-  pub unchanged : (ts : List Term) (ns : List (List ℕ)) (n m : ℕ) → Shaped ts ns → recordsAfter ts (lentStore ts ns n m) ≡ ts
+  pub unchanged : (ts : List Term) (ns : List (List ℕ)) (n m : ℕ) → Shaped ts ns → recordsAfter ts (lentStore ts ns n m)
+      ≡ ts
   pub unchangedNames : (ns : List (List ℕ)) → AllWide (take 128 ns) → entriesAfter ns (entriesOf (take 128 ns)) ≡ ns
   -- The lists that a store leaves mean that store, where its lists are as long as those that were lent.
   pub after :

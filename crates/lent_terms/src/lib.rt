@@ -1,5 +1,6 @@
-// The store's calls on a lent slice of term records and a lent slice of name entries. Each copies the records and the entries once
-// into arrays of its own, hands them to the call of the same name in the crate `terms`, and, where it adds, puts them back.
+// The store's calls on a lent slice of term records and a lent slice of name entries. Each copies the records and the
+// entries once into arrays of its own, hands them to the call of the same name in the crate `terms`, and,
+// where it adds, puts them back.
 ghost use mathlib.Core.Path.{_≡_};
 ghost use Rattle.terms.specs.Answers.{seenFound, seenCount, seenOrder, seenSort};
 ghost use Rattle.terms.specs.Calls.{
@@ -173,7 +174,8 @@ fn add_application_in(
     requires { ⌜ Whole f ⌝ }
     ensures { λ r. ⌜
         AddedIn f (now (ns .entry)) terms symbols
-        (addApplication (storeIn f (now (ns .entry)) terms symbols) (now (name .entry)) (now (children .entry))) r (now (ns .exit))
+        (addApplication (storeIn f (now (ns .entry)) terms symbols) (now (name .entry)) (now (children .entry))) r
+        (now (ns .exit))
         ⌝ }
 {
     let mut records = f.records;
@@ -212,7 +214,8 @@ pub fn add_application(
 ) -> Added
     ensures { λ r. ⌜
         LentAdded (now (ts .entry)) (now (ns .entry)) terms symbols
-        (addApplication (lentStore (now (ts .entry)) (now (ns .entry)) terms symbols) (now (name .entry)) (now (children .entry))) r
+        (addApplication (lentStore (now (ts .entry)) (now (ns .entry)) terms symbols) (now (name .entry))
+        (now (children .entry))) r
         (now (ts .exit)) (now (ns .exit))
         ⌝ }
 {
@@ -295,7 +298,8 @@ fn find_application_in(
     children: &[u64],
 ) -> Looked
     requires { ⌜ Whole f ⌝ }
-    ensures { λ r. ⌜ seenFound r ≡ findApplication (storeIn f (now (ns .entry)) terms symbols) (now (name .entry)) (now (children .entry)) ⌝ }
+    ensures { λ r. ⌜ seenFound r ≡ findApplication (storeIn f (now (ns .entry)) terms symbols) (now (name .entry))
+        (now (children .entry)) ⌝ }
 {
     let records = f.records;
     let literals = f.literals;
@@ -326,7 +330,8 @@ pub fn find_application(
 ) -> Looked
     ensures { λ r. ⌜
         seenFound r
-        ≡ findApplication (lentStore (now (ts .entry)) (now (ns .entry)) terms symbols) (now (name .entry)) (now (children .entry))
+        ≡ findApplication (lentStore (now (ts .entry)) (now (ns .entry)) terms symbols) (now (name .entry))
+        (now (children .entry))
         ⌝ }
 {
     let f = lent::load(ts);

@@ -1,5 +1,5 @@
-// Plain text on a lent slice of term records and a lent slice of name entries. It copies the records and the entries once into
-// arrays of its own, and hands them to the call of the same name in the crate `texts`.
+// Plain text on a lent slice of term records and a lent slice of name entries. It copies the records and the entries
+// once into arrays of its own, and hands them to the call of the same name in the crate `texts`.
 ghost use mathlib.Core.Path.{_≡_};
 ghost use Rattle.texts.specs.Told.{answerOf, told, plainTold};
 ghost use Rattle.lent.specs.Records.{lentStore};

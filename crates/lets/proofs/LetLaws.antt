@@ -32,12 +32,14 @@ use Rattle.pieces.specs.Pieces.{capped, nameText, gapText}
 use Rattle.pieces.proofs.PieceLaws.{gapText-narrow, gapText-wide}
 use Rattle.heads.specs.Readable.{nodes, arityAt, kidsAt, headText, Inside, Readable}
 use Rattle.heads.proofs.NodeLaws.{children-of-nodes}
+use Rattle.heads.proofs.ReadableLaws.{kids-length}
 use Rattle.bindings.specs.Met.{bounds, placeNo, Met}
 use Rattle.bindings.proofs.TableLaws.{bounds-none, bounds-step, bounds-length}
 use Rattle.writer.specs.Piece.{View, shownAbove, body, view}
 use Rattle.writer.proofs.PieceLaws.{lower-of-readable}
 use Rattle.widths.specs.Widths.{calledBy, Widths}
 use Rattle.widths.proofs.WidthLaws.{calledBy-named, calledBy-text, shown-of-name, shown-of-text}
+use Rattle.widths.proofs.FlatLaws.{shownAbove-text}
 use Rattle.lines.specs.Lines.{bodyWidth, openText, lineText, linesTo}
 use Rattle.lines.proofs.CleanLaws.{several-append, several-of-count}
 use Rattle.lines.proofs.OwnLaws.{CleanCall, own-broken, own-leaf, own-body}
@@ -135,17 +137,10 @@ module _
             (called-is nm bs k
             ∙ (ap (calledAt nm) e ∙ (calledAt-place nm q ∙ ap byName (letName-is nm q)))))
 
-shownAbove-name : (v : View) (lim t : ℕ) (text : List ℕ) → lim < v .place t → shownAbove v lim t text ≡ v .name (v .place t - 1)
+shownAbove-name :
+    (v : View) (lim t : ℕ) (text : List ℕ) → lim < v .place t → shownAbove v lim t text ≡ v .name (v .place t - 1)
 unfolding shownAbove
 shownAbove-name v lim t text l = rw (lt-ltb lim (v .place t) l, shownAbove)
-
-shownAbove-own : (v : View) (lim t : ℕ) (text : List ℕ) → v .place t ≤ lim → shownAbove v lim t text ≡ text
-unfolding shownAbove
-shownAbove-own v lim t text l = rw (le-ltb lim (v .place t) l, shownAbove)
-
-kids-length : (rs : List ℕ) (t : ℕ) → length (kidsAt rs t) ≤ arityAt rs t
-kids-length rs t =
-    omega (arith, length-take (t * 11 + 3 + arityAt rs t - (t * 11 + 3)) (drop (t * 11 + 3) rs))
 
 kids-some :
     (rs : List ℕ) (ls : List ℤ) (ns : List ℕ) (n : ℕ) →
@@ -184,12 +179,14 @@ shownAbove-called rs ls ns ps ws stem start bare k text = by (decLt 0 (getD ps k
         ∙ (sym (shown-of-name (nameText stem start bare (getD ps k 0 - 1)) text)
         ∙ ap (λ (x : Called). shown x text) (sym (calledBy-named ps stem start bare k l)))
     by (no l) =
-        shownAbove-own (view rs ls ns ps ws stem start bare 80) 0 k text (omega arith)
+        shownAbove-text (view rs ls ns ps ws stem start bare 80) 0 k text (omega arith)
         ∙ (sym (shown-of-text text)
         ∙ ap (λ (x : Called). shown x text) (sym (calledBy-text ps stem start bare k (omega arith))))
 
 -- ---- a binding's line
-letLine-is : (name gap body : List ℕ) → bodyGap (several body) ≡ gap → letLine name body ≡ ((openText name ++ gap) ++ body) ++ (41 ∷ 10 ∷ [])
+letLine-is :
+    (name gap body : List ℕ) → bodyGap (several body) ≡ gap → letLine name body ≡ ((openText name ++ gap) ++ body)
+    ++ (41 ∷ 10 ∷ [])
 unfolding letLine
 letLine-is name gap body e = rw (e, append-assoc, append-assoc, append-assoc)
 
@@ -351,7 +348,8 @@ module _
         ∙ ap (linesTo v rs ws terms indents) (sym s))))))
 
     -- what is written is the definition's text
-    pub wholeText-right : 0 < n → textWith (nodes rs ls ns) nm (n - 1) (bounds terms indents m) ≡ wholeText v rs ws terms indents n m
+    pub wholeText-right : 0 < n → textWith (nodes rs ls ns) nm (n - 1) (bounds terms indents m) ≡ wholeText v rs ws
+        terms indents n m
     unfolding textWith
     wholeText-right pos =
         ap (λ (x : List ℕ). x ++ (10 ∷ own (nodes rs ls ns) (called nm bs) 0 0 (n - 1))) (lines-are m (omega arith))

@@ -14,6 +14,7 @@ use Rattle.decimal.specs.Decimal.{digits, literalText}
 use Rattle.decimal.proofs.DigitLaws.{digits-one, digits-more}
 use Rattle.names.specs.Name.{allowed, allAllowed}
 use Rattle.store.specs.Nodes.{Node, literal, variable, application}
+use Rattle.store.proofs.TestLaws.{and-first, and-second}
 use Rattle.text_rules.specs.Forms.{children, each, form}
 use Rattle.text_rules.specs.LetText.{several, anySeveral, newLine, countText}
 use Rattle.text_rules.proofs.FormLaws.{each-none, each-step, form-of-application}
@@ -69,18 +70,10 @@ several-left [] b e = let z : _≡_ {A = ℕ} 0 1 = cc in absurd (omega arith)
 several-left (x ∷ a) b e = or-keeps (eqb x 10) (several a) (several (a ++ b)) e (several-left a b)
 
 -- ---- names and numbers
-and-left : (a b : Bool) → (a && b) ≡ true → a ≡ true
-and-left true b e = refl
-and-left false b e = e
-
-and-right : (a b : Bool) → (a && b) ≡ true → b ≡ true
-and-right true b e = e
-and-right false b e = let z : _≡_ {A = ℕ} 0 1 = cc in absurd (omega arith)
-
 allowed-not-newline : (b : ℕ) → allowed b ≡ true → b ≡ 10 → ⊥
 unfolding allowed
 allowed-not-newline b e n =
-    let l : leb 33 b ≡ true = and-left (leb 33 b) _ e in
+    let l : leb 33 b ≡ true = and-first (leb 33 b) _ e in
     let f : leb 33 b ≡ false = lt-leb 33 b (omega arith) in
     let w : true ≡ false = sym l ∙ f in
     let z : _≡_ {A = ℕ} 0 1 = cc in omega arith
@@ -89,8 +82,8 @@ pub several-of-allowed : (name : List ℕ) → allAllowed name ≡ true → seve
 unfolding allAllowed
 several-of-allowed [] e = several-none
 several-of-allowed (b ∷ bs) e =
-    several-step b bs (allowed-not-newline b (and-left (allowed b) (allAllowed bs) e))
-    (several-of-allowed bs (and-right (allowed b) (allAllowed bs) e))
+    several-step b bs (allowed-not-newline b (and-first (allowed b) (allAllowed bs) e))
+    (several-of-allowed bs (and-second (allowed b) (allAllowed bs) e))
 
 several-digits-in : (f x : ℕ) → x < f → several (digits x) ≡ false
 several-digits-in zero x l = let z : ⊥ = omega arith in absurd z

@@ -96,7 +96,8 @@ module _ {kinds classes : List ℕ} {literals : List ℤ} {names declared costs 
 
   pub classes-length : 32 ≡ length classes
   classes-length =
-      padded 32 (λ (x : Sort). x .classes) (t .sorts) classes (h .sorts-held .classes-are) (omega (arith, ok .sorts-few))
+      padded 32 (λ (x : Sort). x .classes) (t .sorts) classes (h .sorts-held .classes-are)
+      (omega (arith, ok .sorts-few))
 
   pub declared-length : 128 ≡ length declared
   declared-length =
@@ -138,8 +139,10 @@ module _ {kinds classes : List ℕ} {literals : List ℤ} {names declared costs 
 
   -- The table stands in the arrays, with counts that are its own.
   pub stands-with :
-      {a b c d : ℕ} → length (t .sorts) ≡ a → length (t .literals) ≡ b → length (t .functions) ≡ c → length (t .rows) ≡ d →
-      StandsWhole a b c d kinds classes declared costs unextractable hidden outputs arities arguments rowFunctions subsumed
+      {a b c d : ℕ} → length (t .sorts) ≡ a → length (t .literals) ≡ b → length (t .functions) ≡ c → length (t .rows)
+      ≡ d →
+      StandsWhole a b c d kinds classes declared costs unextractable hidden outputs arities arguments rowFunctions
+      subsumed
       cells t
   stands-with e f i j = rw (e, f, i, j) at (stands-of-holds ok h)
 
@@ -152,7 +155,8 @@ module _ {kinds classes : List ℕ} {literals : List ℤ} {names declared costs 
     unfolding asked OnGot
     loads-of-opened g k e r q = record {
       answer = rw e (ap askedIn q ∙ asked-of-opened o ∙ ap askedOf (w .root-is));
-      filled = subst (λ (x : Got Table). OnGot x (λ t. Standing t s r literals names arities rowFunctions cells order flat heads
+      filled = subst (λ (x : Got Table). OnGot x
+          (λ t. Standing t s r literals names arities rowFunctions cells order flat heads
           starts children)) (sym e)
           (record {
             literals-held = h .literals-held;
@@ -161,7 +165,8 @@ module _ {kinds classes : List ℕ} {literals : List ℤ} {names declared costs 
             row-functions-are = h .rows-held .functions-are;
             cells-are = h .rows-held .cells-are;
             reached =
-                subst (λ (x : Loaded). OnClass x (λ n m w. Flattened t s n m w order flat heads starts children)) (sym q)
+                subst (λ (x : Loaded). OnClass x (λ n m w. Flattened t s n m w order flat heads starts children))
+                (sym q)
                 (reached-of-opened o (λ n m w. Flattened t s n m w order flat heads starts children) (w .reached));
           });
     }
@@ -178,6 +183,7 @@ loads-of-refused (got t k) {x = x} s v literals names arities rowFunctions cells
     sym (w .answer) ∙ e in
     let z : _≡_ {A = ℕ} 0 1 = cc in
     absurd (omega arith)
-loads-of-refused (refused y) {x = x} s v literals names arities rowFunctions cells order flat heads starts children w e =
+loads-of-refused (refused y) {x = x} s v literals names arities rowFunctions cells order flat heads starts children w e
+    =
     let q : NotRead y ≡ NotRead x = sym (w .answer) ∙ e in
     record { answer = cc; filled = tt }

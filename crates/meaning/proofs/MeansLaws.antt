@@ -58,24 +58,24 @@ tail-same : {j k : ℕ} {js ks : List ℕ} → _≡_ {A = List ℕ} (j ∷ js) (
 tail-same e = cc
 
 -- a tree says what the node is
-abbrev Says : Store → ℕ → Tree → Type 0
+abbrev pub Says : Store → ℕ → Tree → Type 0
 Says s i (number z) = nodeAt s i ≡ literal z
 Says s i (named n) = nodeAt s i ≡ variable n
 Says s i (applied n ts) = (ks : List ℕ) × (nodeAt s i ≡ application n ks) × MeansAll s ks ts
 
-abbrev SaysAll : Store → List ℕ → Trees → Type 0
+abbrev pub SaysAll : Store → List ℕ → Trees → Type 0
 SaysAll s [] none = Unit
 SaysAll s [] (more t ts) = ⊥
 SaysAll s (k ∷ ks) none = ⊥
 SaysAll s (k ∷ ks) (more t ts) = Means s k t × MeansAll s ks ts
 
 module _ (s : Store) where
-  says : {i : ℕ} {t : Tree} → Means s i t → Says s i t
+  pub says : {i : ℕ} {t : Tree} → Means s i t → Says s i t
   says (isNumber z e) = e
   says (isNamed n e) = e
   says (isApplied n ks ts e m) = (ks, e, m)
 
-  says-all : {ks : List ℕ} {ts : Trees} → MeansAll s ks ts → SaysAll s ks ts
+  pub says-all : {ks : List ℕ} {ts : Trees} → MeansAll s ks ts → SaysAll s ks ts
   says-all isNone = tt
   says-all (isMore m ms) = (m, ms)
 

@@ -62,7 +62,8 @@ fn put_new(entries: &mut [u8], i: usize, name: &[u8]) -> bool
     requires { ⌜ i * 32 + 32 ≤ length (now entries) ⌝ }
     requires { ⌜ length (now name) ≤ 31 ⌝ }
     ensures { λ r. ⌜ r ≡ isFree (now (entries .entry)) i (now (name .entry)) ⌝ }
-    ensures { λ r. ⌜ now (entries .exit) ≡ pick r (putName (now (entries .entry)) i (now (name .entry))) (now (entries .entry)) ⌝ }
+    ensures { λ r.
+        ⌜ now (entries .exit) ≡ pick r (putName (now (entries .entry)) i (now (name .entry))) (now (entries .entry)) ⌝ }
 {
     let found = names::find(entries, i, name);
     match found {

@@ -1,6 +1,6 @@
 // Document 01's program: a query and a table file on standard input, the answer on standard output.
-// The buffer has a place more than the longest valid input of 21,388 bytes, so that what is longer is seen to be so. An input
-// that is closed or cannot be read counts as empty.
+// The buffer has a place more than the longest valid input of 21,388 bytes, so that what is longer is seen to be so. An
+// input that is closed or cannot be read counts as empty.
 use libc::STDIN_FILENO;
 use libc::STDOUT_FILENO;
 

@@ -16,4 +16,5 @@ Any v = Unit {0}
 
 unfoldable pub rowsPartIn : List ℕ → List ℕ → List ℕ → ℕ → ℕ → List ℕ → List ℕ → List ℕ → ℕ → Got (List Row)
 rowsPartIn s kinds classes l count outputs arities arguments at =
-    then (field s at 11) (λ n p. must (leb n 1024) BadSize (rowsIn s kinds classes l count outputs arities arguments n p))
+    then (field s at 11)
+    (λ n p. must (leb n 1024) BadSize (rowsIn s kinds classes l count outputs arities arguments n p))

@@ -1,5 +1,5 @@
--- The plan of a run: of each class with a cost the row that its edge names, ten numbers a class (function, count of children,
--- eight children). Assumes nothing: definitions.
+-- The plan of a run: of each class with a cost the row that its edge names, ten numbers a class (function, count of
+-- children, eight children). Assumes nothing: definitions.
 use mathlib.Core.Path.{_≡_}
 use mathlib.Core.List.{List, _∷_}
 use Prim.Native.Nat.{ℕ, _+_, _*_, _<_, _≤_}
@@ -47,15 +47,17 @@ classNumbers f kids = f ∷ length kids ∷ kids
 
 -- Class c is put into the plan and into `known`, or nothing changes.
 pub record PutsOne
-    (costs ranks edges order functions starts children : List ℕ) (c : ℕ) (plan known plan′ known′ : List ℕ) : Type 0 where
-  pub plan-put :
-      Priced costs ranks c →
-      plan′
-      ≡ paste plan (c * 10) (classNumbers (edgeFunction edges order functions c) (edgeChildren edges starts children c))
-      (2 + length (edgeChildren edges starts children c))
-  pub known-put : Priced costs ranks c → known′ ≡ set known c (getD ranks c 0)
-  pub plan-left : (Priced costs ranks c → ⊥) → plan′ ≡ plan
-  pub known-left : (Priced costs ranks c → ⊥) → known′ ≡ known
+    (costs ranks edges order functions starts children : List ℕ) (c : ℕ) (plan known plan′ known′ : List ℕ) : Type 0
+  where
+    pub plan-put :
+        Priced costs ranks c →
+        plan′
+        ≡ paste plan (c * 10)
+        (classNumbers (edgeFunction edges order functions c) (edgeChildren edges starts children c))
+        (2 + length (edgeChildren edges starts children c))
+    pub known-put : Priced costs ranks c → known′ ≡ set known c (getD ranks c 0)
+    pub plan-left : (Priced costs ranks c → ⊥) → plan′ ≡ plan
+    pub known-left : (Priced costs ranks c → ⊥) → known′ ≡ known
 
 -- The first n classes are in the plan, and `known` has their ranks; it is 0 at all others.
 pub record Plans (costs ranks edges order functions starts children plan known : List ℕ) (n : ℕ) : Type 0 where

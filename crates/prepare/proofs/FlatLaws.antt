@@ -77,7 +77,8 @@ module _ (sorts functions rows : ℕ)
         rowFunctions subsumed cells (h .held) root order below (omega (arith, known .few-rows)))
 
     module _ (n : ℕ) (order : List ℕ)
-        (filled : Filled order n (rowsInOrder (viewIn sorts functions rows outputs arities arguments unextractable hidden
+        (filled : Filled order n
+        (rowsInOrder (viewIn sorts functions rows outputs arities arguments unextractable hidden
         rowFunctions subsumed) root)) where
       order-is : take n order ≡ scanOrder t root
       order-is =
@@ -109,7 +110,8 @@ module _ (sorts functions rows : ℕ)
         pub lay-ready :
             RowsFit kinds bases declared costs outputs arities arguments rowFunctions cells (take n order)
         lay-ready =
-            rows-fit-scanned t known kinds classes (h .names) declared costs unextractable hidden outputs arities arguments
+            rows-fit-scanned t known kinds classes (h .names) declared costs unextractable hidden outputs arities
+            arguments
             rowFunctions subsumed cells (h .held) bases bases-are root below (take n order) order-is bases-long
 
         pub lay-room :
@@ -127,7 +129,8 @@ module _ (sorts functions rows : ℕ)
         pub flattened :
             (m w : ℕ) (flat heads starts children : List ℕ) →
             w ≡ firstClass classes sorts →
-            Laid kinds bases declared costs outputs arities arguments rowFunctions cells (take n order) m flat heads starts
+            Laid kinds bases declared costs outputs arities arguments rowFunctions cells (take n order) m flat heads
+            starts
             children →
             Flattened t root n m w order flat heads starts children
         flattened m w flat heads starts children e v = record {
@@ -140,15 +143,19 @@ module _ (sorts functions rows : ℕ)
           children-room = v .children-are .room;
           order-is = order-is;
           rows-are = rw order-length at
-              (laid-scanned t known kinds classes (h .names) declared costs unextractable hidden outputs arities arguments
-              rowFunctions subsumed cells (h .held) bases bases-are root below (take n order) m flat heads starts children
+              (laid-scanned t known kinds classes (h .names) declared costs unextractable hidden outputs arities
+              arguments
+              rowFunctions subsumed cells (h .held) bases bases-are root below (take n order) m flat heads starts
+              children
               order-is v);
           flat-ok = rw order-length at
               (laid-flat-scanned t known kinds classes (h .names) declared costs unextractable hidden outputs arities
-              arguments rowFunctions subsumed cells (h .held) bases bases-are root below (take n order) m flat heads starts
+              arguments rowFunctions subsumed cells (h .held) bases bases-are root below (take n order) m flat heads
+              starts
               children order-is bases-long v);
           below = λ i d. rw order-is
-              (order-listed t known kinds classes (h .names) declared costs unextractable hidden outputs arities arguments
+              (order-listed t known kinds classes (h .names) declared costs unextractable hidden outputs arities
+              arguments
               rowFunctions subsumed cells (h .held) bases bases-are root below .below i
               (omega (arith, order-length, ap length order-is)));
           arity = λ i d. subst

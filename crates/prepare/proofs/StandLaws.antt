@@ -13,7 +13,8 @@ pub stands-of-holds :
     {kinds classes : List ℕ} {literals : List ℤ} {names declared costs unextractable hidden : List ℕ}
     {outputs arities arguments rowFunctions subsumed cells : List ℕ} {t : Table} →
     Accepted t →
-    Holds kinds classes literals names declared costs unextractable hidden outputs arities arguments rowFunctions subsumed
+    Holds kinds classes literals names declared costs unextractable hidden outputs arities arguments rowFunctions
+    subsumed
     cells t →
     StandsWhole (length (t .sorts)) (length (t .literals)) (length (t .functions)) (length (t .rows))
     kinds classes declared costs unextractable hidden outputs arities arguments rowFunctions subsumed cells t

@@ -17,8 +17,8 @@ pub record Space (order flat heads starts children : List ℕ) : Type 0 where
   pub starts-room : 1024 < length starts
   pub children-room : 8192 ≤ length children
 
--- n rows with m children in all, where the lists have so many: those that the root sort reaches, in scan order, over all w
--- classes of the table, each with at most eight children.
+-- n rows with m children in all, where the lists have so many: those that the root sort reaches, in scan order, over
+-- all w classes of the table, each with at most eight children.
 pub record Flattened (t : Table) (root n m w : ℕ) (order flat heads starts children : List ℕ) : Type 0 where
   pub few : n ≤ length (t .rows)
   pub classes-are : w ≡ classCount t
@@ -39,7 +39,8 @@ abbrev pub Flattens :
     List ℕ → List ℕ → List ℕ → List ℕ → List ℕ → List ℕ →
     List ℕ → List ℕ → List ℕ → List ℕ → List ℕ → List ℕ →
     ℕ → ℕ → ℕ → List ℕ → List ℕ → List ℕ → List ℕ → List ℕ → Type 0
-Flattens sorts functions rows root kinds classes declared costs unextractable hidden outputs arities arguments rowFunctions
+Flattens sorts functions rows root kinds classes declared costs unextractable hidden outputs arities arguments
+    rowFunctions
     subsumed cells n m w order flat heads starts children =
     (t : Table) →
     Stands sorts functions rows kinds classes declared costs unextractable hidden outputs arities arguments rowFunctions

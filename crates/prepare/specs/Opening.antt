@@ -38,6 +38,7 @@ abbrev pub Opens :
 Opens sorts literals functions rows s v kinds classes declared costs unextractable hidden outputs arities arguments
     rowFunctions subsumed cells r order flat heads starts children =
     (t : Table) →
-    StandsWhole sorts literals functions rows kinds classes declared costs unextractable hidden outputs arities arguments
+    StandsWhole sorts literals functions rows kinds classes declared costs unextractable hidden outputs arities
+    arguments
     rowFunctions subsumed cells t →
     OpenedOf t s v r order flat heads starts children

@@ -20,7 +20,8 @@ pub record SortsStand (sorts literals : ℕ) (kinds classes : List ℕ) (t : Tab
   pub literals-are : length (t .literals) ≡ literals
   pub held : HoldsSorts kinds classes (t .sorts)
 
--- An accepted table stands in the arrays, its functions' names in one of their own; how many sorts, functions and rows it has.
+-- An accepted table stands in the arrays, its functions' names in one of their own; how many sorts,
+-- functions and rows it has.
 pub record Stands (sorts functions rows : ℕ)
     (kinds classes declared costs unextractable hidden : List ℕ)
     (outputs arities arguments rowFunctions subsumed cells : List ℕ) (t : Table) : Type 0 where
@@ -30,7 +31,8 @@ pub record Stands (sorts functions rows : ℕ)
   pub rows-are : length (t .rows) ≡ rows
   pub names : List ℕ
   pub held :
-      Holds t kinds classes names declared costs unextractable hidden outputs arities arguments rowFunctions subsumed cells
+      Holds t kinds classes names declared costs unextractable hidden outputs arities arguments rowFunctions subsumed
+      cells
 
 -- The same of its sorts and the number of its literals.
 pub record StandsWhole (sorts literals functions rows : ℕ)
@@ -38,5 +40,6 @@ pub record StandsWhole (sorts literals functions rows : ℕ)
     (outputs arities arguments rowFunctions subsumed cells : List ℕ) (t : Table) : Type 0 where
   pub sorts-stand : SortsStand sorts literals kinds classes t
   pub stands :
-      Stands sorts functions rows kinds classes declared costs unextractable hidden outputs arities arguments rowFunctions
+      Stands sorts functions rows kinds classes declared costs unextractable hidden outputs arities arguments
+      rowFunctions
       subsumed cells t

@@ -24,4 +24,5 @@ pub record Answers (g : Got Table) (r : Outcome) (P : Table → Type 0) : Type 0
 -- The rows, read against the arrays, and then the end of the file.
 unfoldable pub tailIn : List ℕ → List ℕ → List ℕ → ℕ → ℕ → List ℕ → List ℕ → List ℕ → ℕ → Got (List Row)
 tailIn s kinds classes l count outputs arities arguments at =
-    then (rowsPartIn s kinds classes l count outputs arities arguments at) (λ rows p. then (endAt s p) (λ end q. got rows q))
+    then (rowsPartIn s kinds classes l count outputs arities arguments at)
+    (λ rows p. then (endAt s p) (λ end q. got rows q))

@@ -24,16 +24,54 @@ use Rattle.fields.specs.Field.{holds, field}
 use Rattle.fields.specs.Got.{then, must, pick, many}
 use Rattle.format.specs.Arrays.{padWith, blocks}
 use Rattle.format.specs.File.{versionAt, sortsPart, literalsPart, functionsPart, rowsPart, endAt, tableAt}
-use Rattle.format.specs.Functions.{bytesAt, nameAt as nameAt-format-Functions, taken, newNameAt, costAt, flagsAt, outputAt, argumentAt, argumentsAt, functionAt, functionsAt}
+use Rattle.format.specs.Functions.{
+  bytesAt,
+  nameAt as nameAt-format-Functions,
+  taken,
+  newNameAt,
+  costAt,
+  flagsAt,
+  outputAt,
+  argumentAt,
+  argumentsAt,
+  functionAt,
+  functionsAt,
+}
 use Rattle.format.specs.Literals.{signed, literalAt, literalsAt}
 use Rattle.format.specs.Rows.{range, cellAt, cellsAt, rowAt, rowsAt}
 use Rattle.format.specs.Sorts.{classesOf, sortAt, sortsAt}
 use Rattle.store.specs.Adding.{firstFrom, findTerm, symbolFor, withName, withRecord, append, roomForName, roomFor, add}
 use Rattle.store.specs.Lent.{recordIn, termRoom, symbolRoom, byKind}
 use Rattle.store.specs.Nodes.{nodeOf, nodeAt, sameNode, recordOf}
-use Rattle.store.specs.WellFormed.{every, allZero, allBelow, sameInt, soundName, soundLiteral, soundVariable, soundApplication, soundRecord, sameTerm, newName, newTerm, wellFormed}
+use Rattle.store.specs.WellFormed.{
+  every,
+  allZero,
+  allBelow,
+  sameInt,
+  soundName,
+  soundLiteral,
+  soundVariable,
+  soundApplication,
+  soundRecord,
+  sameTerm,
+  newName,
+  newTerm,
+  wellFormed,
+}
 use Rattle.scan.specs.Arrays.{heldBy, argumentsIn, broughtIn, viewIn}
-use Rattle.scan.specs.Order.{has, picked, inTurn, functionsOf, rowsOf, join, brought, visits, sortsReached, functionsInOrder, rowsInOrder}
+use Rattle.scan.specs.Order.{
+  has,
+  picked,
+  inTurn,
+  functionsOf,
+  rowsOf,
+  join,
+  brought,
+  visits,
+  sortsReached,
+  functionsInOrder,
+  rowsInOrder,
+}
 use Rattle.choice.specs.Answer.{answerOf}
 use Rattle.choice.specs.Deriving.{treeCost, forestCost}
 use Rattle.choice.specs.Edges.{childRank, isEdge, firstRow}
@@ -53,17 +91,84 @@ use Rattle.build.specs.Plan.{childOf as childOf-build-Plan, childrenOf as child
 use Rattle.whole.specs.Whole.{left, whole}
 use Rattle.answers.specs.Best.{bestLiteral, bestBuilt, bestClass, bestOf, bestAt}
 use Rattle.answers.specs.Plan.{planChild, planChildren, planFor}
-use Rattle.answers.specs.Variants.{costFor, isVariant, variantRows, keyFor, keptRows, anyDear, ownVariant, variantIn, variantsIn, variantsKept, roomForResults, variantLiteral, variantsBuilt, variantsOfRows, variantsOf, variantsAt}
+use Rattle.answers.specs.Variants.{
+  costFor,
+  isVariant,
+  variantRows,
+  keyFor,
+  keptRows,
+  anyDear,
+  ownVariant,
+  variantIn,
+  variantsIn,
+  variantsKept,
+  roomForResults,
+  variantLiteral,
+  variantsBuilt,
+  variantsOfRows,
+  variantsOf,
+  variantsAt,
+}
 use Rattle.decimal.specs.Decimal.{digitsIn, digits, literalText}
 use Rattle.text_rules.specs.Bindings.{find, toBind, bind, meetIn, bindings}
-use Rattle.text_rules.specs.Counts.{inTurn as inTurn-text-rules-Counts, member, reachIn, reached, places, placesIn, count as count-text-rules-Counts, sumOf as sumOf-text-rules-Counts, sizeIn, size}
+use Rattle.text_rules.specs.Counts.{
+  inTurn as inTurn-text-rules-Counts,
+  member,
+  reachIn,
+  reached,
+  places,
+  placesIn,
+  count as count-text-rules-Counts,
+  sumOf as sumOf-text-rules-Counts,
+  sizeIn,
+  size,
+}
 use Rattle.text_rules.specs.Forms.{each, form, shown, childText, lineIn, line}
-use Rattle.text_rules.specs.LetText.{countText, letName, calledAt, called, several, anySeveral, newLine, breaks, ownIn as ownIn-text-rules-LetText, own, bodyGap, letLine, letLines, textWith, bindingsOf, letLayout, letText, nextCount}
+use Rattle.text_rules.specs.LetText.{
+  countText,
+  letName,
+  calledAt,
+  called,
+  several,
+  anySeveral,
+  newLine,
+  breaks,
+  ownIn
+      as ownIn-text-rules-LetText,
+  own,
+  bodyGap,
+  letLine,
+  letLines,
+  textWith,
+  bindingsOf,
+  letLayout,
+  letText,
+  nextCount,
+}
 use Rattle.text_rules.specs.PlainText.{plainLine, plainText}
 use Rattle.replies.specs.Cases.{Cases}
 
 pub cases : Cases
-unfolding queryAt emptyStore emptyLending numberText bestLine variantsLine variantLine refusedLine bestReply variantReply variantReplies variantsReply bestAnswer variantsAnswer callOf answerTo inRoom written reply nameAt entry putName findFrom findName allowed allAllowed valid same bitsOf value number holds field then must pick many padWith blocks versionAt sortsPart literalsPart functionsPart rowsPart endAt tableAt bytesAt nameAt-format-Functions taken newNameAt costAt flagsAt outputAt argumentAt argumentsAt functionAt functionsAt signed literalAt literalsAt range cellAt cellsAt rowAt rowsAt classesOf sortAt sortsAt firstFrom findTerm symbolFor withName withRecord append roomForName roomFor add recordIn termRoom symbolRoom byKind nodeOf nodeAt sameNode recordOf every allZero allBelow sameInt soundName soundLiteral soundVariable soundApplication soundRecord sameTerm newName newTerm wellFormed heldBy argumentsIn broughtIn viewIn has picked inTurn functionsOf rowsOf join brought visits sortsReached functionsInOrder rowsInOrder answerOf treeCost forestCost childRank isEdge firstRow sumOf allOf tabulate childCost priced rowCost improves relax pass passes runFrom run given inOrder numbers lists count insert sorted keyIn compareKeys compareRows runOf answerFor edgeFor edgeRow flatClass childOf rangeOf isRoot viewOf scanOrder scanned headCost childrenOf rowBy tableRows usableFunction usable added kept childIn childrenIn ownIn buildIn childOf-build-Plan childrenOf-build-Plan left whole bestLiteral bestBuilt bestClass bestOf bestAt planChild planChildren planFor costFor isVariant variantRows keyFor keptRows anyDear ownVariant variantIn variantsIn variantsKept roomForResults variantLiteral variantsBuilt variantsOfRows variantsOf variantsAt digitsIn digits literalText find toBind bind meetIn bindings inTurn-text-rules-Counts member reachIn reached places placesIn count-text-rules-Counts sumOf-text-rules-Counts sizeIn size each form shown childText lineIn line countText letName calledAt called several anySeveral newLine breaks ownIn-text-rules-LetText own bodyGap letLine letLines textWith bindingsOf letLayout letText nextCount plainLine plainText
+unfolding queryAt emptyStore emptyLending numberText bestLine variantsLine variantLine refusedLine bestReply
+    variantReply variantReplies variantsReply bestAnswer variantsAnswer callOf answerTo inRoom written reply nameAt
+    entry putName findFrom findName allowed allAllowed valid same bitsOf value number holds field then must pick many
+    padWith blocks versionAt sortsPart literalsPart functionsPart rowsPart endAt tableAt bytesAt nameAt-format-Functions
+    taken newNameAt costAt flagsAt outputAt argumentAt argumentsAt functionAt functionsAt signed literalAt literalsAt
+    range cellAt cellsAt rowAt rowsAt classesOf sortAt sortsAt firstFrom findTerm symbolFor withName withRecord append
+    roomForName roomFor add recordIn termRoom symbolRoom byKind nodeOf nodeAt sameNode recordOf every allZero allBelow
+    sameInt soundName soundLiteral soundVariable soundApplication soundRecord sameTerm newName newTerm wellFormed heldBy
+    argumentsIn broughtIn viewIn has picked inTurn functionsOf rowsOf join brought visits sortsReached functionsInOrder
+    rowsInOrder answerOf treeCost forestCost childRank isEdge firstRow sumOf allOf tabulate childCost priced rowCost
+    improves relax pass passes runFrom run given inOrder numbers lists count insert sorted keyIn compareKeys compareRows
+    runOf answerFor edgeFor edgeRow flatClass childOf rangeOf isRoot viewOf scanOrder scanned headCost childrenOf rowBy
+    tableRows usableFunction usable added kept childIn childrenIn ownIn buildIn childOf-build-Plan childrenOf-build-Plan
+    left whole bestLiteral bestBuilt bestClass bestOf bestAt planChild planChildren planFor costFor isVariant
+    variantRows keyFor keptRows anyDear ownVariant variantIn variantsIn variantsKept roomForResults variantLiteral
+    variantsBuilt variantsOfRows variantsOf variantsAt digitsIn digits literalText find toBind bind meetIn bindings
+    inTurn-text-rules-Counts member reachIn reached places placesIn count-text-rules-Counts sumOf-text-rules-Counts
+    sizeIn size each form shown childText lineIn line countText letName calledAt called several anySeveral newLine
+    breaks ownIn-text-rules-LetText own bodyGap letLine letLines textWith bindingsOf letLayout letText nextCount
+    plainLine plainText
 cases = record {
   given-whole = refl;
   zero-cost-loop = refl;

@@ -29,6 +29,7 @@ unfolding putIn
 fits text out after n l e b = rw (in-room text (length out) l, putIn) (rw (e, b) refl)
 
 pub no-room :
-    (text out : List ℕ) → length out < length text → seen (Refused NoRoom) out ≡ putIn (inRoom (length out) (value text)) out
+    (text out : List ℕ) → length out < length text → seen (Refused NoRoom) out ≡ putIn
+    (inRoom (length out) (value text)) out
 unfolding putIn
 no-room text out l = rw (not-in-room text (length out) l, putIn) refl

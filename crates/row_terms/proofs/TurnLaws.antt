@@ -1,9 +1,9 @@
 -- Laws that follow the code of `row_term`: the loop over a row's children, and the row's own term. Assumes nothing.
 use Prim.{Dec, yes, no}
-use Prim.Native.Nat.{ℕ, zero, suc, _+_, _<_, _≤_}
+use Prim.Native.Nat.{ℕ, suc, _+_, _<_, _≤_}
 use mathlib.Core.Path.{_≡_, refl, sym, ap, subst, _∙_}
 use mathlib.Core.Bool.{true}
-use mathlib.Core.List.{List, [], _∷_, _++_, map}
+use mathlib.Core.List.{List, [], _∷_, map}
 use native.Mathlib.Decide.{ℕ-discrete}
 use native.Mathlib.Numerals.{add-one}
 use native.Mathlib.Omega.{arith}
@@ -17,32 +17,15 @@ use Rattle.store.specs.Adding.{Adds, at, noRoom, add}
 use Rattle.adding.specs.Growing.{Grows, Gives}
 use Rattle.adding.proofs.AddingLaws.{grows-refl, grows-trans, add-gives}
 use Rattle.build.specs.Plan.{Child, Plan, childOf}
-use Rattle.build.specs.Building.{State, state, Out, done, full, added, childIn, childrenIn, buildIn}
+use Rattle.build.specs.Building.{State, state, Out, done, full, added, childrenIn, buildIn}
 use Rattle.build.specs.Standing.{Tracks, Stuck}
 use Rattle.build.specs.Ready.{seen}
 use Rattle.build.specs.declared.Built.{Built}
 use Rattle.build.proofs.StandingLaws.{stands-grows}
+use Rattle.build.proofs.PlanLaws.{map-drop}
+use Rattle.build.proofs.TurnLaws.{childrenIn-go, childrenIn-stop, childrenIn-end}
 use Rattle.answers.specs.Variants.{ownVariant}
 use Rattle.row_terms.specs.Rows.{Deep, Leads, Leaves, KidMade, RowMade}
-
-module _ (g : State → ℕ → Out ℕ) (s : State) (ks : List ℕ) where
-  children-go :
-      (x : Child) (xs : List Child) (t : ℕ) (s′ : State) →
-      childIn g s x ≡ done t s′ →
-      childrenIn g s ks (x ∷ xs) ≡ childrenIn g s′ (ks ++ (t ∷ [])) xs
-  unfolding childrenIn
-  children-go x xs t s′ e = rw (e, childrenIn)
-
-  children-stop :
-      (x : Child) (xs : List Child) (me rs : List ℕ) (ls : List ℤ) (ns : List ℕ) →
-      childIn g s x ≡ full me rs ls ns →
-      childrenIn g s ks (x ∷ xs) ≡ full me rs ls ns
-  unfolding childrenIn
-  children-stop x xs me rs ls ns e = rw (e, childrenIn)
-
-  children-end : childrenIn g s ks [] ≡ done ks s
-  unfolding childrenIn
-  children-end = refl
 
 own-of-full :
     (name me rs : List ℕ) (ls : List ℤ) (ns : List ℕ) → ownVariant name (full me rs ls ns) ≡ full me rs ls ns
@@ -104,11 +87,6 @@ own-leaves :
 own-leaves p s name ks h v few below =
     own-by p s (application name ks) h (add (s .lent) (application name ks)) refl
     (add-gives (s .lent) (application name ks) (h .formed) (v, few, below))
-
-map-drop : {A B : Type 0} (f : A → B) (j : ℕ) (l : List A) → drop j (map f l) ≡ map f (drop j l)
-map-drop f zero l = refl
-map-drop f (suc j) [] = refl
-map-drop f (suc j) (a ∷ l) = map-drop f j l
 
 -- the children from place j on
 kids-next :
@@ -183,7 +161,7 @@ module _
         same = λ d deep.
             turn .same d deep
             ∙ ap (childrenIn (buildIn p d) at (take j ks)) (kids-next values kids j l)
-            ∙ children-go (buildIn p d) at (take j ks) (childOf values (getD kids j 0))
+            ∙ childrenIn-go (buildIn p d) at (take j ks) (childOf values (getD kids j 0))
             (drop (j + 1) (map (childOf values) kids)) t s′ (made .same d deep)
             ∙ ap (λ (ms : List ℕ). childrenIn (buildIn p d) s′ ms (drop (j + 1) (map (childOf values) kids)))
             (sym (ap (λ (i : ℕ). take i (set ks j t)) (add-one j) ∙ take-suc-set ks j t inside));
@@ -200,7 +178,7 @@ module _
         ap (ownVariant name)
         (turn .same d deep
         ∙ ap (childrenIn (buildIn p d) at (take j ks)) (kids-next values kids j l)
-        ∙ children-stop (buildIn p d) at (take j ks) (childOf values (getD kids j 0))
+        ∙ childrenIn-stop (buildIn p d) at (take j ks) (childOf values (getD kids j 0))
         (drop (j + 1) (map (childOf values) kids)) me rs ls ns (made .same d deep))
         ∙ own-of-full name me rs ls ns;
     leaves = stuck-after (turn .grows) (made .leaves);
@@ -221,7 +199,7 @@ module _
             (turn .same d deep
             ∙ ap (childrenIn (buildIn p d) at (take j ks))
             (drop-of-length-le (map (childOf values) kids) {i = j} (omega (arith, length-map kids (childOf values))))
-            ∙ children-end (buildIn p d) at (take j ks))
+            ∙ childrenIn-end (buildIn p d) at (take j ks))
             ∙ own-of-done name (take j ks) at
             ∙ e;
         leaves =

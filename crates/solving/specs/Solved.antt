@@ -8,8 +8,8 @@ use Rattle.choice.specs.Edges.{edgesOf}
 use Rattle.relax.specs.Flat.{top, rowsOf, FlatOk, Fresh, stateOf, ranTo}
 use Rattle.plans.specs.Planning.{Plans}
 
--- Flat rows over n classes, each with the row of the file and at most eight children; `functions` has the function of each
--- row of the file.
+-- Flat rows over n classes, each with the row of the file and at most eight children; `functions` has the function of
+-- each row of the file.
 pub record SolveReady (n : ℕ) (outputs heads starts children order functions : List ℕ) : Type 0 where
   pub flat : FlatOk n outputs heads starts children
   pub order-length : length order ≡ length outputs
@@ -27,7 +27,8 @@ pub record Blank (n : ℕ) (costs ranks edges known plan : List ℕ) : Type 0 wh
 
 -- And after: the run's costs, ranks and passes, each class's edge, and the plan.
 pub record Solved
-    (n passes last : ℕ) (outputs heads starts children order functions costs ranks edges known plan : List ℕ) : Type 0 where
-  pub ran : ranTo costs ranks last passes ≡ run top (rowsOf outputs heads starts children) n
-  pub edges-are : edges ≡ edgesOf top (stateOf costs ranks 0) (rowsOf outputs heads starts children)
-  pub planned : Plans costs ranks edges order functions starts children plan known n
+    (n passes last : ℕ) (outputs heads starts children order functions costs ranks edges known plan : List ℕ) : Type 0
+  where
+    pub ran : ranTo costs ranks last passes ≡ run top (rowsOf outputs heads starts children) n
+    pub edges-are : edges ≡ edgesOf top (stateOf costs ranks 0) (rowsOf outputs heads starts children)
+    pub planned : Plans costs ranks edges order functions starts children plan known n

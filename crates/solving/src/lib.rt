@@ -18,7 +18,8 @@ pub fn solve(
     known: &mut [u64],
     plan: &mut [u64],
 ) -> Run
-    requires { ⌜ SolveReady (length (now ranks)) (now outputs) (now heads) (now starts) (now children) (now order) (now functions) ⌝ }
+    requires { ⌜ SolveReady (length (now ranks)) (now outputs) (now heads) (now starts) (now children) (now order)
+        (now functions) ⌝ }
     requires { ⌜ Blank (length (now ranks)) (now costs) (now ranks) (now marks) (now known) (now plan) ⌝ }
     ensures { λ r. ⌜ Solved (length (now (ranks .entry))) (r .passes) (r .last) (now (outputs .entry)) (now (heads .entry))
         (now (starts .entry)) (now (children .entry)) (now (order .entry)) (now (functions .entry))

@@ -8,8 +8,8 @@ use lib.IntN.{ℤ, pos}
 use Rattle.names.specs.Entries.{nameAt}
 use Rattle.store.specs.declared.Term.{Term}
 
--- Eleven numbers a record (kind, symbol, count, eight children) and a literal a record; 32 bytes a name; and how many of each
--- are in use. What stands past the counts is free.
+-- Eleven numbers a record (kind, symbol, count, eight children) and a literal a record; 32 bytes a name; and how many
+-- of each are in use. What stands past the counts is free.
 pub record Store : Type 0 where
   pub records : List ℕ
   pub literals : List ℤ

@@ -28,8 +28,10 @@ pub record Arrays : Type 0 where
   pub subsumed : List ℕ
   pub cells : List ℕ
 
-abbrev pub lent : List ℕ → List ℕ → List ℤ → List ℕ → List ℕ → List ℕ → List ℕ → List ℕ → List ℕ → List ℕ → List ℕ → List ℕ → List ℕ → List ℕ → Arrays
-lent kinds classes literals names declared costs unextractable hidden outputs arities arguments functions subsumed cells =
+abbrev pub lent : List ℕ → List ℕ → List ℤ → List ℕ → List ℕ → List ℕ → List ℕ → List ℕ → List ℕ → List ℕ → List ℕ
+    → List ℕ → List ℕ → List ℕ → Arrays
+lent kinds classes literals names declared costs unextractable hidden outputs arities arguments functions subsumed cells
+    =
     record {
       kinds = kinds;
       classes = classes;
@@ -75,7 +77,8 @@ pub record Answer : Type 0 where
 abbrev pub answer : Outcome → Arrays → Answer
 answer r a = record { outcome = r; arrays = a }
 
--- The answer for a file: its table's counts and the table in the arrays, or the first fault and the arrays as they were.
+-- The answer for a file: its table's counts and the table in the arrays, or the first fault and the arrays as they
+-- were.
 abbrev pub readOf : Got Table → Arrays → Answer
 readOf (got t k) before = answer (outcomeOf (got t k)) (arraysOf t)
 readOf (refused r) before = answer (outcomeOf (refused r)) before

@@ -42,7 +42,8 @@ pub record Promises : Type 0 where
   pub accepted-or-refused : (s : List ℕ) → ((t : Table) × Holding s t) ⊎ ((x : Refusal) × Fault s x)
   pub not-both : (s : List ℕ) (t : Table) (x : Refusal) → Holding s t → Fault s x → ⊥
   -- Any two results that the contract of `read` allows coincide, and so do the lent contents.
-  pub one-answer : (g : Got Table) (before a b : Arrays) (r q : Outcome) → answer r a ≡ readOf g before → answer q b ≡ readOf g before
+  pub one-answer : (g : Got Table) (before a b : Arrays) (r q : Outcome) → answer r a ≡ readOf g before → answer q b
+      ≡ readOf g before
       → (r ≡ q) × (a ≡ b)
   -- An accepted table is as `Accepted` says.
   pub accepted : (s : List ℕ) (t : Table) → Holding s t → Accepted t
@@ -52,7 +53,8 @@ pub record Promises : Type 0 where
   -- A file is its table's bits, so two different files never hold the same table.
   pub file-is-code : (s : List ℕ) (t : Table) → Holding s t → bitsOf s ≡ codeFile t
   pub one-file : (s u : List ℕ) (t : Table) → Bytes s → Bytes u → Holding s t → Holding u t → s ≡ u
-  -- And back: the bits of a table that is as `Accepted` says are a file that holds it, so that each such table has a file.
+  -- And back: the bits of a table that is as `Accepted` says are a file that holds it,
+  -- so that each such table has a file.
   pub code-is-file : (s : List ℕ) (t : Table) → Accepted t → bitsOf s ≡ codeFile t → Holding s t
   pub every-table : (t : Table) → Accepted t → (s : List ℕ) × (Bytes s × Holding s t)
   -- "The longest valid file has 21,385 bytes.": none is longer, and one is as long.
@@ -61,4 +63,5 @@ pub record Promises : Type 0 where
   -- Reading looks at no byte past the first fault's field: whatever follows a fault other than Short, the fault stays.
   pub fault-stays : (s rest : List ℕ) (x : Refusal) → Fault s x → (x ≡ Short → ⊥) → Fault (s ++ rest) x
   -- "then the file ends": an accepted file with bytes after it is Trailing.
-  pub nothing-follows : (s : List ℕ) (t : Table) (b : ℕ) (rest : List ℕ) → Holding s t → Fault (s ++ (b ∷ rest)) Trailing
+  pub nothing-follows : (s : List ℕ) (t : Table) (b : ℕ) (rest : List ℕ) → Holding s t → Fault (s ++ (b ∷ rest))
+      Trailing

@@ -4,8 +4,8 @@ ghost use Rattle.format.specs.File.{tableAt};
 ghost use Rattle.table.specs.Lent.{lent, answer, readOf};
 use reader::Outcome;
 
-// Reads the table file `file` into the lent arrays, or tells its first fault and leaves them as they are. It works on arrays of
-// its own, whose contents it hands over when the whole file has been read.
+// Reads the table file `file` into the lent arrays, or tells its first fault and leaves them as they are. It works on
+// arrays of its own, whose contents it hands over when the whole file has been read.
 pub fn read(
     file: &[u8],
     kinds: &mut [u64; 32],
@@ -23,8 +23,14 @@ pub fn read(
     subsumed: &mut [u64; 1024],
     cells: &mut [u64; 9216],
 ) -> Outcome
-    ensures { λ r. ⌜ answer r (lent (now (kinds .exit)) (now (classes .exit)) (now (literals .exit)) (now (names .exit)) (now (declared .exit)) (now (costs .exit)) (now (unextractable .exit)) (now (hidden .exit)) (now (outputs .exit)) (now (arities .exit)) (now (arguments .exit)) (now (functions .exit)) (now (subsumed .exit)) (now (cells .exit)))
-        ≡ readOf (tableAt (now (file .entry))) (lent (now (kinds .entry)) (now (classes .entry)) (now (literals .entry)) (now (names .entry)) (now (declared .entry)) (now (costs .entry)) (now (unextractable .entry)) (now (hidden .entry)) (now (outputs .entry)) (now (arities .entry)) (now (arguments .entry)) (now (functions .entry)) (now (subsumed .entry)) (now (cells .entry))) ⌝ }
+    ensures { λ r. ⌜ answer r (lent (now (kinds .exit)) (now (classes .exit)) (now (literals .exit)) (now (names .exit))
+        (now (declared .exit)) (now (costs .exit)) (now (unextractable .exit)) (now (hidden .exit))
+        (now (outputs .exit)) (now (arities .exit)) (now (arguments .exit)) (now (functions .exit))
+        (now (subsumed .exit)) (now (cells .exit)))
+        ≡ readOf (tableAt (now (file .entry))) (lent (now (kinds .entry)) (now (classes .entry)) (now (literals .entry))
+        (now (names .entry)) (now (declared .entry)) (now (costs .entry)) (now (unextractable .entry))
+        (now (hidden .entry)) (now (outputs .entry)) (now (arities .entry)) (now (arguments .entry))
+        (now (functions .entry)) (now (subsumed .entry)) (now (cells .entry))) ⌝ }
 {
     let mut own_kinds = [0u64; 32];
     let mut own_classes = [0u64; 32];

@@ -1,6 +1,6 @@
-// Reads each file of data/files.bin with `table::read` and writes its verdict, one digit a file: 0 where it is accepted, else
-// the refusal's number. The files and the verdicts in `stdout` are the recorded answers of the oracle (examples/recorded).
-// In files.bin each file stands after its length, two bytes, the higher first.
+// Reads each file of data/files.bin with `table::read` and writes its verdict, one digit a file: 0 where it is
+// accepted, else the refusal's number. The files and the verdicts in `stdout` are the recorded answers of the oracle
+// (examples/recorded). In files.bin each file stands after its length, two bytes, the higher first.
 ghost use mathlib.Core.Path.{_≡_};
 ghost use Prim.Native.Nat.{_+_, _≤_};
 ghost use lib.ListN.{length, take};

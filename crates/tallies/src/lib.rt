@@ -34,8 +34,8 @@ fn give_on(counts: &mut [u64], t: usize, ks: &[u64])
     add_places(counts, ks);
 }
 
-// The counts of the first `n` terms in the text of the last of them, from it down, so that every parent is passed before
-// its children.
+// The counts of the first `n` terms in the text of the last of them, from it down, so that every parent is passed
+// before its children.
 pub fn count(counts: &mut [u64], records: &[u64], n: usize)
     requires { ⌜ Linked (now records) n ⌝ }
     requires { ⌜ 0 < n ⌝ }

@@ -1,31 +1,10 @@
 -- What is seen the same is the same: refusals have different numbers, and so have answers. Assumes nothing.
-use Prim.Native.Nat.{ℕ, _-_}
-use mathlib.Core.Path.{_≡_, refl, ap, sym, _∙_}
-use mathlib.Core.List.{List, [], _∷_}
+use Prim.Native.Nat.{ℕ}
+use mathlib.Core.Path.{_≡_, refl, ap, sym}
+use mathlib.Core.List.{List}
 use native.Mathlib.Omega.{arith}
-use lib.ListN.{getD}
 use lib.IntN.{ℤ}
-use Rattle.refusals.specs.declared.Refusal.{Refusal}
-use Rattle.refusals.specs.declared.Refusal.the-variants.{
-  Short,
-  BadVersion,
-  BadSize,
-  BadName,
-  DupName,
-  BadSort,
-  BadFunction,
-  BadValue,
-  Trailing,
-  BadRoot,
-  NoTerm,
-  TooDear,
-  NoRoom,
-  BadTerm,
-  Absent,
-  BadMode,
-  BadStore,
-}
-use Rattle.refusals.specs.Numbers.{refusalNo}
+use Rattle.refusals.proofs.NumberLaws.{number-once}
 use Rattle.store.specs.Lent.{Store, store}
 use Rattle.terms.specs.declared.Added.{Added}
 use Rattle.terms.specs.declared.Added.the-variants.{Term as addedTerm, Refused as notAdded}
@@ -38,51 +17,6 @@ use Rattle.terms.specs.declared.Compared.the-variants.{Order, Refused as
 use Rattle.terms.specs.declared.Verdict.{Verdict}
 use Rattle.terms.specs.declared.Verdict.the-variants.{Done, Refused as notDone}
 use Rattle.terms.specs.Answers.{Answer, given, refused, seenAdded, seenFound, seenCount, seenOrder, seenSort}
-
--- the refusals by their numbers, from 1
-table : List Refusal
-table =
-    Short
-    ∷ BadVersion
-    ∷ BadSize
-    ∷ BadName
-    ∷ DupName
-    ∷ BadSort
-    ∷ BadFunction
-    ∷ BadValue
-    ∷ Trailing
-    ∷ BadRoot
-    ∷ NoTerm
-    ∷ TooDear
-    ∷ NoRoom
-    ∷ BadTerm
-    ∷ Absent
-    ∷ BadMode
-    ∷ BadStore
-    ∷ []
-
-table-get : (r : Refusal) → getD table (refusalNo r - 1) Short ≡ r
-unfolding table
-table-get Short = refl
-table-get BadVersion = refl
-table-get BadSize = refl
-table-get BadName = refl
-table-get DupName = refl
-table-get BadSort = refl
-table-get BadFunction = refl
-table-get BadValue = refl
-table-get Trailing = refl
-table-get BadRoot = refl
-table-get NoTerm = refl
-table-get TooDear = refl
-table-get NoRoom = refl
-table-get BadTerm = refl
-table-get Absent = refl
-table-get BadMode = refl
-table-get BadStore = refl
-
-number-once : (r q : Refusal) → refusalNo r ≡ refusalNo q → r ≡ q
-number-once r q e = sym (table-get r) ∙ ap (λ (n : ℕ). getD table (n - 1) Short) e ∙ table-get q
 
 given-same : {A : Type 0} {a b : A} → given a ≡ given b → a ≡ b
 given-same e = cc

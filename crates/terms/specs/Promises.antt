@@ -26,8 +26,8 @@ use Rattle.terms.specs.declared.Verdict.{Verdict}
 use Rattle.terms.specs.Answers.{Answer, given, refused, seenAdded, seenFound, seenCount, seenOrder, seenSort}
 use Rattle.terms.specs.Calls.{addLiteral, addVariable, addApplication, sortTerms}
 
--- A call that adds: with a number, the store has grown, is well formed, and has the node under that number (`Takes`); with a
--- refusal it is as it was.
+-- A call that adds: with a number, the store has grown, is well formed, and has the node under that number (`Takes`);
+-- with a refusal it is as it was.
 abbrev pub AfterAnswer : Store → Node → Answer ℕ → Store → Type 0
 AfterAnswer s node (given i) t = Takes s node i t
 AfterAnswer s node (refused k) t = t ≡ s
@@ -59,8 +59,8 @@ pub record Promises : Type 0 where
       i ≡ j
   -- A term that is there is found.
   pub found : (s : Store) (i : ℕ) → wellFormed s ≡ true → i < s .terms → findTerm s (nodeAt s i) ≡ At i
-  -- A store that a call returns is well formed, old numbers keep their terms, and the number is the term's; a refusal leaves
-  -- the whole store as it was.
+  -- A store that a call returns is well formed, old numbers keep their terms, and the number is the term's; a refusal
+  -- leaves the whole store as it was.
   pub literalAdded : (s : Store) (z : ℤ) → After s (literal z) (addLiteral s z)
   pub variableAdded : (s : Store) (n : List ℕ) → After s (variable n) (addVariable s n)
   pub applicationAdded : (s : Store) (n ks : List ℕ) → After s (application n ks) (addApplication s n ks)

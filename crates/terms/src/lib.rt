@@ -1,5 +1,5 @@
-// The term store: one number per term, for good (src/termdag.rs). Every call checks the lent store for itself, and a refusal
-// leaves all that is lent as it was.
+// The term store: one number per term, for good (src/termdag.rs). Every call checks the lent store for itself, and a
+// refusal leaves all that is lent as it was.
 ghost use mathlib.Core.Path.{_≡_};
 ghost use Rattle.store.specs.Lent.{store};
 ghost use Rattle.terms.specs.Calls.{

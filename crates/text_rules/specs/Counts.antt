@@ -1,5 +1,5 @@
--- Counts and sizes: document 01, 'Terms', 'Let text'. `kids` gives each term its child numbers, every one lower than the
--- term. Assumes nothing: these are definitions.
+-- Counts and sizes: document 01, 'Terms', 'Let text'. `kids` gives each term its child numbers, every one lower than
+-- the term. Assumes nothing: these are definitions.
 use Prim.Native.Nat.{ℕ, zero, suc, _+_}
 use mathlib.Core.Bool.{Bool, true, false, _||_}
 use mathlib.Core.List.{List, [], _∷_, _++_}

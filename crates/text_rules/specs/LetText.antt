@@ -70,8 +70,8 @@ unfoldable pub bodyGap : Bool → List ℕ
 bodyGap true = newLine 2
 bodyGap false = 32 ∷ []
 
--- "A one-line binding is `(let n body)`. Otherwise `(let n` fills a line, then comes the body's first line after exactly 2
--- spaces [..] and `)` after the last": the binding, ended by a newline
+-- "A one-line binding is `(let n body)`. Otherwise `(let n` fills a line, then comes the body's first line after
+-- exactly 2 spaces [..] and `)` after the last": the binding, ended by a newline
 unfoldable pub letLine : List ℕ → List ℕ → List ℕ
 letLine name body =
     40 ∷ 108 ∷ 101 ∷ 116 ∷ 32 ∷ (name ++ (bodyGap (several body) ++ (body ++ (41 ∷ 10 ∷ []))))

@@ -1,6 +1,6 @@
 -- The laws of what the call for let text tells, and of the stores and names that it takes. Assumes nothing.
 use mathlib.Core.Path.{_≡_, refl, sym, ap, _∙_}
-use mathlib.Core.Bool.{Bool, true, false, _&&_}
+use mathlib.Core.Bool.{true, false, _&&_}
 use mathlib.Core.List.{List, _++_}
 use Prim.Native.Nat.{ℕ, _+_, _-_, _≤_, _<_}
 use native.Mathlib.Omega.{arith}
@@ -15,6 +15,8 @@ use Rattle.store.specs.Lent.{Store, store, recordIn}
 use Rattle.store.specs.Nodes.{nodeOf, nodeAt}
 use Rattle.store.specs.WellFormed.{wellFormed}
 use Rattle.store.specs.Facts.{Sound, SoundRecord, aLiteral, aVariable, anApplication}
+use Rattle.store.proofs.TestLaws.{and-first, and-second}
+use Rattle.adding.proofs.NamingLaws.{valid-short}
 use Rattle.text_rules.specs.LetText.{Naming, several, bindingsOf, letLayout, letText, nextCount}
 use Rattle.heads.specs.Readable.{nodes, headText}
 use Rattle.heads.proofs.NodeLaws.{node-literal, node-variable, node-application}
@@ -73,35 +75,20 @@ let-text-last rs ls ns terms symbols nm t out =
     let e : t + 1 - 1 ≡ t = omega arith in rw e (sym (let-text-nodes rs ls ns terms symbols nm t out))
 
 -- ---- names hold no newline
-and-left : (a b : Bool) → (a && b) ≡ true → a ≡ true
-and-left true b e = refl
-and-left false b e = e
-
-and-right : (a b : Bool) → (a && b) ≡ true → b ≡ true
-and-right true b e = e
-and-right false b e = let z : _≡_ {A = ℕ} 0 1 = cc in absurd (omega arith)
-
 pub clean-of-valid : (name : List ℕ) → valid name ≡ true → several name ≡ false
 unfolding valid
 clean-of-valid name e =
     several-of-allowed name
-    (and-right (leb (length name) 31) (allAllowed name)
-    (and-right (leb 1 (length name)) (leb (length name) 31 && allAllowed name) e))
-
-pub short-of-valid : (name : List ℕ) → valid name ≡ true → length name ≤ 31
-unfolding valid
-short-of-valid name e =
-    leb-true (length name) 31
-    (and-left (leb (length name) 31) (allAllowed name)
-    (and-right (leb 1 (length name)) (leb (length name) 31 && allAllowed name) e))
+    (and-second (leb (length name) 31) (allAllowed name)
+    (and-second (leb 1 (length name)) (leb (length name) 31 && allAllowed name) e))
 
 pub clean-of-prefix : (prefix : List ℕ) → validPrefix prefix ≡ true → several prefix ≡ false
 unfolding validPrefix
-clean-of-prefix prefix e = several-of-allowed prefix (and-right (leb (length prefix) 31) (allAllowed prefix) e)
+clean-of-prefix prefix e = several-of-allowed prefix (and-second (leb (length prefix) 31) (allAllowed prefix) e)
 
 pub short-of-prefix : (prefix : List ℕ) → validPrefix prefix ≡ true → length prefix ≤ 31
 unfolding validPrefix
-short-of-prefix prefix e = leb-true (length prefix) 31 (and-left (leb (length prefix) 31) (allAllowed prefix) e)
+short-of-prefix prefix e = leb-true (length prefix) 31 (and-first (leb (length prefix) 31) (allAllowed prefix) e)
 
 -- the walk of a prefix
 pub prefix-long : (prefix : List ℕ) → 31 < length prefix → validPrefix prefix ≡ false
@@ -143,7 +130,7 @@ pub stem-long :
     validPrefix prefix ≡ true →
     valid hint ≡ true →
     length prefix + length hint ≤ 62
-stem-long prefix hint p h = omega (arith, short-of-prefix prefix p, short-of-valid hint h)
+stem-long prefix hint p h = omega (arith, short-of-prefix prefix p, valid-short hint h)
 
 pub stem-clean :
     (prefix hint : List ℕ) →

@@ -1,5 +1,5 @@
--- A let text has at most as many bindings as there are terms below its root, so its next count stays below 2^32. Assumes
--- nothing.
+-- A let text has at most as many bindings as there are terms below its root, so its next count stays below 2^32.
+-- Assumes nothing.
 use mathlib.Core.Path.{_≡_, refl, sym, ap, subst, _∙_}
 use mathlib.Core.Bool.{Bool, true, false}
 use mathlib.Core.List.{List, [], _∷_, _++_}

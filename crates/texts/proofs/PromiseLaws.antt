@@ -1,5 +1,5 @@
 -- The laws that the promises of the texts stand on. Assumes nothing.
-use mathlib.Core.Path.{_≡_, refl, sym, ap, _∙_}
+use mathlib.Core.Path.{_≡_, refl, ap, _∙_}
 use mathlib.Core.Bool.{Bool, true, false}
 use mathlib.Core.List.{List, [], _∷_, _++_}
 use Prim.{Dec, yes, no}
@@ -10,32 +10,13 @@ use lib.ListN.{length, getD, drop, length-append, length-drop}
 use lib.IntN.{ℤ, pos, negsuc}
 use Rattle.decimal.specs.Decimal.{digits, literalText}
 use Rattle.decimal.proofs.DigitLaws.{digits-one, digits-more}
-use Rattle.refusals.specs.declared.Refusal.{Refusal}
-use Rattle.refusals.specs.declared.Refusal.the-variants.{
-  Short,
-  BadVersion,
-  BadSize,
-  BadName,
-  DupName,
-  BadSort,
-  BadFunction,
-  BadValue,
-  Trailing,
-  BadRoot,
-  NoTerm,
-  TooDear,
-  NoRoom,
-  BadTerm,
-  Absent,
-  BadMode,
-  BadStore,
-}
 use Rattle.refusals.specs.Numbers.{refusalNo}
+use Rattle.refusals.proofs.NumberLaws.{number-once}
 use Rattle.names.specs.Name.{valid}
 use Rattle.store.specs.Lent.{Store}
 use Rattle.store.specs.WellFormed.{wellFormed}
 use Rattle.store.specs.Nodes.{literal, variable, nodeAt}
-use Rattle.text_rules.specs.Forms.{form, Called, byText, childText, line, lineIn}
+use Rattle.text_rules.specs.Forms.{form, byText, childText, line, lineIn}
 use Rattle.text_rules.specs.PlainText.{plainLine, plainText}
 use Rattle.text_rules.specs.LetText.{Naming, letText, nextCount}
 use Rattle.texts.specs.declared.Text.{Text}
@@ -184,51 +165,6 @@ pub digits-lead : (x : ℕ) → 0 < x → 48 < getD (digits x) 0 0
 digits-lead x q = digits-lead-in (suc x) x (omega arith) q
 
 -- ---- what is told the same is the same
--- the refusals by their numbers, from 1
-table : List Refusal
-table =
-    Short
-    ∷ BadVersion
-    ∷ BadSize
-    ∷ BadName
-    ∷ DupName
-    ∷ BadSort
-    ∷ BadFunction
-    ∷ BadValue
-    ∷ Trailing
-    ∷ BadRoot
-    ∷ NoTerm
-    ∷ TooDear
-    ∷ NoRoom
-    ∷ BadTerm
-    ∷ Absent
-    ∷ BadMode
-    ∷ BadStore
-    ∷ []
-
-table-get : (r : Refusal) → getD table (refusalNo r - 1) Short ≡ r
-unfolding table
-table-get Short = refl
-table-get BadVersion = refl
-table-get BadSize = refl
-table-get BadName = refl
-table-get DupName = refl
-table-get BadSort = refl
-table-get BadFunction = refl
-table-get BadValue = refl
-table-get Trailing = refl
-table-get BadRoot = refl
-table-get NoTerm = refl
-table-get TooDear = refl
-table-get NoRoom = refl
-table-get BadTerm = refl
-table-get Absent = refl
-table-get BadMode = refl
-table-get BadStore = refl
-
-number-once : (r q : Refusal) → refusalNo r ≡ refusalNo q → r ≡ q
-number-once r q e = sym (table-get r) ∙ (ap (λ (n : ℕ). getD table (n - 1) Short) e ∙ table-get q)
-
 answer-once : (r q : Text) → answerOf r ≡ answerOf q → r ≡ q
 answer-once (Written m) (Written n) e = let d : m ≡ n = cc in ap Written d
 answer-once (Written m) (Refused q) e = let z : _≡_ {A = ℕ} 0 1 = cc in absurd (omega arith)

@@ -12,57 +12,17 @@ use borrow.Author.Tests.{eq-eqb, ne-eqb}
 use Rattle.store.specs.Lent.{Store}
 use Rattle.store.specs.WellFormed.{wellFormed}
 use Rattle.store.specs.Facts.{Sound}
-use Rattle.store.specs.Nodes.{
-  literal,
-  variable,
-  application,
-  nodeAt,
-  Tree,
-  number,
-  named,
-  applied,
-  Trees,
-  none,
-  more,
-  Means,
-  isNumber,
-  isNamed,
-  isApplied,
-  MeansAll,
-  isNone,
-  isMore,
-}
+use Rattle.store.specs.Nodes.{nodeAt, Tree, number, named, applied, Trees, none, more, Means, MeansAll}
 use Rattle.store.proofs.FactsLaws.{sound-of-wellFormed}
 use Rattle.meaning.specs.Trees.{treeAt}
 use Rattle.meaning.proofs.NodeLaws.{node-lower}
-use Rattle.meaning.proofs.MeansLaws.{means-one, means-once}
+use Rattle.meaning.proofs.MeansLaws.{says, says-all, means-one, means-once}
 use Rattle.meaning.proofs.TreeLaws.{treeAt-means}
 use Rattle.adding.specs.Growing.{Grows}
 use Rattle.text_rules.specs.LetText.{Naming, bindingsOf, letText, nextCount}
 use Rattle.text_rules.specs.PlainText.{plainText}
 use Rattle.alike.specs.Alike.{Both, Lower, SameNode, Alike}
 use Rattle.alike.proofs.TextLaws.{plain-both, let-both, bound-length}
-
--- a tree says what the node is
-abbrev Says : Store → ℕ → Tree → Type 0
-Says s i (number z) = nodeAt s i ≡ literal z
-Says s i (named n) = nodeAt s i ≡ variable n
-Says s i (applied n ts) = (ks : List ℕ) × (nodeAt s i ≡ application n ks) × MeansAll s ks ts
-
-abbrev SaysAll : Store → List ℕ → Trees → Type 0
-SaysAll s [] none = Unit
-SaysAll s [] (more t ts) = ⊥
-SaysAll s (k ∷ ks) none = ⊥
-SaysAll s (k ∷ ks) (more t ts) = Means s k t × MeansAll s ks ts
-
-says : (s : Store) {i : ℕ} {t : Tree} → Means s i t → Says s i t
-says s (isNumber z e) = e
-says s (isNamed n e) = e
-says s (isApplied n ks ts e m) = (ks, e, m)
-
-says-all : (s : Store) {ks : List ℕ} {ts : Trees} → MeansAll s ks ts → SaysAll s ks ts
-says-all s isNone = tt
-says-all s (isMore m ms) = (m, ms)
 
 module _ (s s′ : Store) (w : Sound s) (w′ : Sound s′) where
   -- term i of the one store and term j of the other mean the same tree

@@ -1,21 +1,18 @@
 -- Laws on the loops over kept rows: whether one is too dear, and their costs. Assumes nothing.
 use mathlib.Core.Path.{_≡_, refl, sym, ap, _∙_}
 use mathlib.Core.Bool.{true, false}
-use mathlib.Core.List.{List, [], _∷_, map}
+use mathlib.Core.List.{List, [], map}
 use Prim.Native.Nat.{ℕ, _+_, _<_, _≤_}
 use native.Mathlib.Nat.{zero-add}
 use native.Mathlib.Numerals.{add-one}
 use native.Mathlib.Omega.{arith}
 use borrow.Author.Tests.{le-leb, lt-leb}
 use lib.ListN.{length, getD, set, drop, length-set, length-map, drop-of-length-le}
-use lib.Seq.{drop-cons, paste, paste-suc}
+use lib.Seq.{paste, paste-suc}
 use Rattle.relax.specs.Flat.{top}
 use Rattle.demand.proofs.OrderLaws.{map-get, map-length}
+use Rattle.variant_terms.proofs.TurnLaws.{rows-next}
 use Rattle.variant_answers.specs.Kept.{dearIn, pricesOf}
-
--- the rows from place j on
-rows-next : (rows : List ℕ) (j : ℕ) → j < length rows → drop j rows ≡ getD rows j 0 ∷ drop (j + 1) rows
-rows-next rows j h = drop-cons rows j 0 h ∙ ap (λ (i : ℕ). getD rows j 0 ∷ drop i rows) (sym (add-one j))
 
 module _ (prices rows : List ℕ) (j : ℕ) where
   module _ (h : j < length rows) where

@@ -1,4 +1,5 @@
--- What variants give back for any file, root and store: the store has grown and has every term that is told. Assumes nothing.
+-- What variants give back for any file, root and store: the store has grown and has every term that is told.
+-- Assumes nothing.
 use mathlib.Core.Path.{_≡_, refl, ap, sym, subst, _∙_}
 use mathlib.Core.Bool.{Bool, true, false, _&&_}
 use mathlib.Core.List.{List, [], _∷_, _++_, map}
@@ -70,7 +71,8 @@ pasted-length d s l = omega (arith, l, length-paste d 0 s (length s) (omega (ari
 pasted-get :
     (d s : List ℕ) (j : ℕ) → length s ≤ length d → j < length s → getD (paste d 0 s (length s)) j 0 ≡ getD s j 0
 pasted-get d s j l h =
-    ap (λ (x : List ℕ). getD (x ++ drop (0 + length s) d) j 0) (take-length s) ∙ List·getD-append s (drop (0 + length s) d) 0 j h
+    ap (λ (x : List ℕ). getD (x ++ drop (0 + length s) d) j 0) (take-length s) ∙ List·getD-append s
+    (drop (0 + length s) d) 0 j h
 
 module _ (l : Lending) where
   kept-right :
@@ -83,15 +85,18 @@ module _ (l : Lending) where
   unfolding variantsKept roomForResults
   kept-right ws ts p s e g b r =
       let a : length ws ≤ length (l .costs) =
-      leb-true (length ws) (length (l .costs)) (and-first (leb (length ws) (length (l .costs))) (leb (length ws) (length (l .terms))) r) in
+      leb-true (length ws) (length (l .costs))
+      (and-first (leb (length ws) (length (l .costs))) (leb (length ws) (length (l .terms))) r) in
       let z : length ws ≤ length (l .terms) =
-      leb-true (length ws) (length (l .terms)) (and-second (leb (length ws) (length (l .costs))) (leb (length ws) (length (l .terms))) r) in
+      leb-true (length ws) (length (l .terms))
+      (and-second (leb (length ws) (length (l .costs))) (leb (length ws) (length (l .terms))) r) in
       record {
         grows = g;
         costs-long = pasted-length (l .costs) ws a;
         terms-long = omega (arith, e, pasted-length (l .terms) ts (omega (arith, e, z)));
         below = λ j h.
-            subst (λ (x : ℕ). x < s .terms) (sym (pasted-get (l .terms) ts j (omega (arith, e, z)) (omega (arith, e, h))))
+            subst (λ (x : ℕ). x < s .terms)
+            (sym (pasted-get (l .terms) ts j (omega (arith, e, z)) (omega (arith, e, h))))
             (each-get (λ (u : ℕ). u < s .terms) ts 0 b j (omega (arith, e, h)));
       }
 
@@ -131,16 +136,24 @@ module _ (l : Lending) where
           anyDear t root (keptRows t root c n) ≡ false →
           (b : Bool) →
           roomForResults l (length (keptRows t root c n)) ≡ b →
-          Right l (elim b [ false ↦ variantsRefused NoRoom l | true ↦ variantsBuilt t root l (keptRows t root c n) (variantsIn t root (suc (runOf t root .state .last)) (state (replicate 512 0) (l .store)) [] (keptRows t root c n)) ])
+          Right l (elim b [
+            | false ↦ variantsRefused NoRoom l
+            | true ↦ variantsBuilt t root l (keptRows t root c n)
+                (variantsIn t root (suc (runOf t root .state .last)) (state (replicate 512 0) (l .store)) []
+                (keptRows t root c n))
+          ])
       room d true e =
           built-right t k root h (keptRows t root c n) (replicate 512 0) e
-          (variantsIn t root (suc (runOf t root .state .last)) (state (replicate 512 0) (l .store)) [] (keptRows t root c n))
+          (variantsIn t root (suc (runOf t root .state .last)) (state (replicate 512 0) (l .store)) []
+          (keptRows t root c n))
           (subst
           (λ (m : ℕ).
           RowsRight t k root h (state (replicate 512 0) (l .store)) m
-          (variantsIn t root (suc (runOf t root .state .last)) (state (replicate 512 0) (l .store)) [] (keptRows t root c n)))
+          (variantsIn t root (suc (runOf t root .state .last)) (state (replicate 512 0) (l .store)) []
+          (keptRows t root c n)))
           (zero-add (length (keptRows t root c n)))
-          (rows-right t k root h (keptRows t root c n) (kept-sound t k root h c n d) (state (replicate 512 0) (l .store)) []
+          (rows-right t k root h (keptRows t root c n) (kept-sound t k root h c n d)
+          (state (replicate 512 0) (l .store)) []
           (tracks-of-zeros (planFor t root) 512 (l .store) f) tt))
       room d false e = tt
 
@@ -150,7 +163,12 @@ module _ (l : Lending) where
           Right l
           (elim b [
             | true ↦ variantsRefused TooDear l
-            | false ↦ elim (roomForResults l (length (keptRows t root c n))) [ false ↦ variantsRefused NoRoom l | true ↦ variantsBuilt t root l (keptRows t root c n) (variantsIn t root (suc (runOf t root .state .last)) (state (replicate 512 0) (l .store)) [] (keptRows t root c n)) ]
+            | false ↦ elim (roomForResults l (length (keptRows t root c n))) [
+              | false ↦ variantsRefused NoRoom l
+              | true ↦ variantsBuilt t root l (keptRows t root c n)
+                  (variantsIn t root (suc (runOf t root .state .last)) (state (replicate 512 0) (l .store)) []
+                  (keptRows t root c n))
+            ]
           ])
       dear true e = tt
       dear false e = room e (roomForResults l (length (keptRows t root c n))) refl
@@ -192,7 +210,8 @@ module _ (l : Lending) where
           Right l
           (elim b [
             | false ↦ variantsRefused BadRoot l
-            | true ↦ elim (wellFormed (l .store)) [ false ↦ variantsRefused BadStore l | true ↦ variantsOf t root v n l ]
+            | true ↦ elim (wellFormed (l .store))
+                [ false ↦ variantsRefused BadStore l | true ↦ variantsOf t root v n l ]
           ])
       rooted t k true e = formed t k (sort-below t root v e) (wellFormed (l .store)) refl
       rooted t k false e = tt
@@ -205,7 +224,8 @@ module _ (l : Lending) where
             | fault r ↦ variantsRefused r l
             | got t p ↦ elim (isRoot t root v) [
               | false ↦ variantsRefused BadRoot l
-              | true ↦ elim (wellFormed (l .store)) [ false ↦ variantsRefused BadStore l | true ↦ variantsOf t root v n l ]
+              | true ↦ elim (wellFormed (l .store))
+                  [ false ↦ variantsRefused BadStore l | true ↦ variantsOf t root v n l ]
             ]
           ])
       read (fault r) e = tt

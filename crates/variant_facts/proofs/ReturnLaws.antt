@@ -164,7 +164,8 @@ module _ (t : Table) (k : Known t) (root : ℕ) (h : root < length (t .sorts)) w
       rowPriced (runOf t root .state .ranks) (rowAt (scanned t root) i) ≡ true
   unfolding isVariant
   variant-priced c i e =
-      and-second (eqb (rowAt (scanned t root) i .output) c) (rowPriced (runOf t root .state .ranks) (rowAt (scanned t root) i)) e
+      and-second (eqb (rowAt (scanned t root) i .output) c)
+      (rowPriced (runOf t root .state .ranks) (rowAt (scanned t root) i)) e
 
   passed :
       (c n : ℕ) →
@@ -177,7 +178,8 @@ module _ (t : Table) (k : Known t) (root : ℕ) (h : root < length (t .sorts)) w
   pub kept-sound :
       (c n : ℕ) → anyDear t root (keptRows t root c n) ≡ false → Each Sound (keptRows t root c n)
   kept-sound c n e =
-      each-both (λ (i : ℕ). Passes (isVariant t root c) i 0 (length (scanned t root))) (λ (i : ℕ). costFor t root i < limit)
+      each-both (λ (i : ℕ). Passes (isVariant t root c) i 0 (length (scanned t root)))
+      (λ (i : ℕ). costFor t root i < limit)
       Sound
       (λ i p l.
       record {

@@ -2,7 +2,7 @@
 use mathlib.Core.Path.{_≡_, refl, ap, sym, subst, _∙_}
 use mathlib.Core.Bool.{Bool, true, false}
 use mathlib.Core.List.{List, [], _∷_, map}
-use Prim.Native.Nat.{ℕ, zero, suc, _+_, _<_, _≤_, min}
+use Prim.Native.Nat.{ℕ, zero, suc, _<_, _≤_}
 use native.Mathlib.Omega.{arith}
 use borrow.Author.Tests.{ltb-true}
 use lib.ListN.{length, getD}
@@ -24,9 +24,7 @@ use Rattle.rules.proofs.CoverLaws.{scanned-within}
 use Rattle.answers.specs.Plan.{planChild, planChildren, rankFor}
 use Rattle.answers.specs.Variants.{fileRow, costFor}
 use Rattle.answers.proofs.PlanLaws.{costOf, buildRank, buildRank-below}
-
-below-min : (M h s : ℕ) → min M (h + s) < M → s < M
-below-min M h s l = omega arith
+use Rattle.variants.proofs.BuildLaws.{below-min}
 
 module _ (t : Table) (k : Known t) (root : ℕ) (h : root < length (t .sorts)) where
   capped : (c : ℕ) → rankFor t root c ≤ runOf t root .state .last

@@ -31,7 +31,8 @@ use Rattle.answers.specs.Variants.{ownVariant}
 module _ (p : Plan) (rank : ℕ → ℕ) (ranked : Ranked p rank) (d : ℕ) where
   go-on :
       (x : Child) (xs ys : List Child) (s₀ s : State) (ks : List ℕ) →
-      ((zs : List Child) (s′ : State) (js : List ℕ) → BuildsAll p s₀ zs js s′ → RightAll p s₀ (zs ++ xs) (childrenIn (buildIn p d) s′ js xs)) →
+      ((zs : List Child) (s′ : State) (js : List ℕ) → BuildsAll p s₀ zs js s′ → RightAll p s₀ (zs ++ xs) (childrenIn
+      (buildIn p d) s′ js xs)) →
       BuildsAll p s₀ ys ks s →
       (o : Out ℕ) →
       Right p s x o →

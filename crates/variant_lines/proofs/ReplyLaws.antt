@@ -67,10 +67,12 @@ module _ (node : ℕ → Node) (n : ℕ) where
         sum : (x acc y long : ℕ) → acc ≡ capped x → long ≡ capped y → capped (acc + long) ≡ capped (x + y)
         sum x acc y long a b = omega (arith, a, b)
 
-    longer-by : (k d m : ℕ) → k + d ≡ m → length (replyTexts node n costs terms k) ≤ length (replyTexts node n costs terms m)
+    longer-by : (k d m : ℕ) → k + d ≡ m → length (replyTexts node n costs terms k) ≤ length
+        (replyTexts node n costs terms m)
     longer-by k zero m e =
         let same : k ≡ m = omega (arith, e) in
-        subst (λ (x : ℕ). length (replyTexts node n costs terms k) ≤ length (replyTexts node n costs terms x)) same (omega arith)
+        subst (λ (x : ℕ). length (replyTexts node n costs terms k) ≤ length (replyTexts node n costs terms x)) same
+        (omega arith)
     longer-by k (suc d) m e =
         let same : k + d + 1 ≡ m = omega (arith, e) in
         subst (λ (x : ℕ). length (replyTexts node n costs terms k) ≤ length (replyTexts node n costs terms x)) same
@@ -116,7 +118,8 @@ module _ (node : ℕ → Node) (n : ℕ) where
         Step (replyTexts node n costs terms (k + 1)) p q o o₂
     written o p k r q o₁ o₂ s t l =
         subst (λ (x : List ℕ). Step x p q o o₂) (sym (more k))
-        (step-then o (replyTexts node n costs terms k) o₁ (replyText node n (k + 1) (getD costs k 0) (getD terms k 0)) o₂ p r q
+        (step-then o (replyTexts node n costs terms k) o₁ (replyText node n (k + 1) (getD costs k 0) (getD terms k 0))
+        o₂ p r q
         s t l)
 
   -- the line, the plain text in the tail, the newline

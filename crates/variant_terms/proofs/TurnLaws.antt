@@ -55,7 +55,7 @@ pub record Turn
       rowsIn p d name kids first [] rows ≡ rowsIn p d name kids at (take j found) (drop j rows)
 
 -- the rows from place j on
-rows-next : (rows : List ℕ) (j : ℕ) → j < length rows → drop j rows ≡ getD rows j 0 ∷ drop (j + 1) rows
+pub rows-next : (rows : List ℕ) (j : ℕ) → j < length rows → drop j rows ≡ getD rows j 0 ∷ drop (j + 1) rows
 rows-next rows j h =
     drop-cons rows j 0 h ∙ ap (λ (i : ℕ). getD rows j 0 ∷ drop i rows) (sym (add-one j))
 

@@ -35,7 +35,7 @@ use Rattle.variants.specs.Flat.{VariantTable}
 use Rattle.variants.proofs.RowLaws.{rows-many, named, few-kids}
 
 -- a sum that does not saturate has parts that do not
-below-min : (M h s : ℕ) → min M (h + s) < M → s < M
+pub below-min : (M h s : ℕ) → min M (h + s) < M → s < M
 below-min M h s l = omega arith
 
 module _

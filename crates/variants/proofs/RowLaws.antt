@@ -4,7 +4,7 @@ use mathlib.Core.Path.{_≡_, refl, ap, sym, _∙_, subst}
 use mathlib.Core.Bool.{Bool, true, false, _&&_}
 use mathlib.Core.List.{List, [], _∷_, map}
 use Prim.{Dec, yes, no}
-use Prim.Native.Nat.{ℕ, suc, _+_, _*_, _-_, _<_, _≤_, min}
+use Prim.Native.Nat.{ℕ, suc, _+_, _*_, _-_, _<_, _≤_}
 use native.Mathlib.Decide.{decLt}
 use native.Mathlib.Omega.{arith}
 use borrow.Author.Tests.{ltb-true, le-ltb, lt-ltb}
@@ -45,10 +45,6 @@ use Rattle.kept.specs.Kept.{KeptReady, keptIn}
 use Rattle.kept.proofs.KeptLaws.{picked-below}
 use Rattle.variants.specs.Flat.{VariantTable}
 use Rattle.variants.proofs.SortLaws.{sorted-by-keys, kept-passes}
-
--- a sum that does not saturate has parts that do not
-below-min : (M h s : ℕ) → min M (h + s) < M → s < M
-below-min M h s l = omega arith
 
 module _
     (t : Table) (root : ℕ) (outputs heads starts children order functions labels : List ℕ) (values : List ℤ)

@@ -62,12 +62,15 @@ module _ (rs : List ℕ) (ls : List ℤ) (ns : List ℕ) (n m : ℕ) where
       rw (take-suc costs k 0 (omega (arith, a)), take-suc terms k 0 (omega (arith, b)))
       (snoc 1 (take k costs) (take k terms) (getD costs k 0) (getD terms k 0) same
       ∙ (ap
-      (λ (x : List ℕ). x ++ variantReply (store rs ls ns n m) (1 + length (take k costs)) (getD costs k 0) (getD terms k 0))
+      (λ (x : List ℕ). x ++ variantReply (store rs ls ns n m) (1 + length (take k costs)) (getD costs k 0)
+      (getD terms k 0))
       (replies-are costs terms k (omega (arith, a)) (omega (arith, b)))
       ∙ (ap
-      (λ (j : ℕ). replyTexts (nodes rs ls ns) n costs terms k ++ variantReply (store rs ls ns n m) j (getD costs k 0) (getD terms k 0))
+      (λ (j : ℕ). replyTexts (nodes rs ls ns) n costs terms k ++ variantReply (store rs ls ns n m) j (getD costs k 0)
+      (getD terms k 0))
       next
-      ∙ ap (λ (x : List ℕ). replyTexts (nodes rs ls ns) n costs terms k ++ x) (one (suc k) (getD costs k 0) (getD terms k 0)))))
+      ∙ ap (λ (x : List ℕ). replyTexts (nodes rs ls ns) n costs terms k ++ x)
+      (one (suc k) (getD costs k 0) (getD terms k 0)))))
 
   pub text-is :
       (costs terms : List ℕ) (k p : ℕ) →

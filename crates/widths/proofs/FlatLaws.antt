@@ -34,7 +34,7 @@ pub line-called :
 unfolding line
 line-called node c d e t = lineIn-called node c d e (suc t) t
 
-shownAbove-text : (v : View) (lim t : ℕ) (text : List ℕ) → v .place t ≤ lim → shownAbove v lim t text ≡ text
+pub shownAbove-text : (v : View) (lim t : ℕ) (text : List ℕ) → v .place t ≤ lim → shownAbove v lim t text ≡ text
 unfolding shownAbove
 shownAbove-text v lim t text l = rw (le-ltb lim (v .place t) l, shownAbove)
 

@@ -1,4 +1,5 @@
--- The text of a term as it is written: one form, whose gap is a space or a new line. Assumes nothing: these are definitions.
+-- The text of a term as it is written: one form, whose gap is a space or a new line.
+-- Assumes nothing: these are definitions.
 use mathlib.Core.Bool.{Bool, true, false}
 use mathlib.Core.List.{List, []}
 use Prim.Native.Nat.{ℕ, zero, suc, _+_, _-_, _^_, _<_, _≤_}
@@ -10,8 +11,8 @@ use Rattle.text_rules.specs.Forms.{form}
 use Rattle.pieces.specs.Pieces.{nameText, gapText}
 use Rattle.heads.specs.Readable.{nodes, Readable}
 
--- what the writer goes by: the terms, their places (0 without a let name, else one more than the number of the binding),
--- the names of the bindings, the inline lengths, and the width above which an application breaks
+-- what the writer goes by: the terms, their places (0 without a let name, else one more than the number of the
+-- binding), the names of the bindings, the inline lengths, and the width above which an application breaks
 pub record View : Type 0 where
   pub node : ℕ → Node
   pub place : ℕ → ℕ

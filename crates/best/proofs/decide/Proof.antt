@@ -17,27 +17,40 @@ use Rattle.best.proofs.decide.Tie as tie
 
 solve-requires : tie.Need-solve-requires
 solve-requires c κs =
-    let g = c .before .before .before .before .before .before .before .before .before .before .before .before .before .before .before .before .before .before .before .args
+    let g = c .before .before .before .before .before .before .before .before .before .before .before .before .before
+    .before .before .before .before .before .before .args
     in
-    let a = c .before .before .before .before .before .before .before .before .before .before .before .before .before .before .before .before .before .before .before .pre
+    let a = c .before .before .before .before .before .before .before .before .before .before .before .before .before
+    .before .before .before .before .before .before .pre
     in (
-      subst (λ (n : ℕ). SolveReady n (g .outputs .now) (g .heads .now) (g .starts .now) (g .children .now) (g .order .now)
-          (g .functions .now)) (sym (a .0 .classes)) (solve-ready (a .0 .table) (a .0 .root) (g .outputs .now) (g .heads .now)
-          (g .starts .now) (g .children .now) (g .order .now) (g .functions .now) (g .labels .now) (g .values .now) (a .0 .is)),
+      subst (λ (n : ℕ). SolveReady n (g .outputs .now) (g .heads .now) (g .starts .now) (g .children .now)
+          (g .order .now)
+          (g .functions .now)) (sym (a .0 .classes)) (solve-ready (a .0 .table) (a .0 .root) (g .outputs .now)
+          (g .heads .now) (g .starts .now) (g .children .now) (g .order .now) (g .functions .now) (g .labels .now)
+          (g .values .now) (a .0 .is)),
       a .1,
     )
 
 mul-rank : tie.Need-mul-rank
 mul-rank c =
-    let a = c .before .before .before .before .before .before .before .before .before .before .before .before .before .before .before .before .before .before .before .before .before .before .before .before .before .before .before .before .before .before .pre .0
+    let a = c .before .before .before .before .before .before .before .before .before .before .before .before .before
+    .before .before .before .before .before .before .before .before .before .before .before .before .before .before
+    .before .before .before .pre .0
     in
     omega (arith, a .class, a .classes, a .is .flat .few-classes)
 
 slice-read-rank : tie.Need-slice-read-rank
 slice-read-rank c =
-    let a = c .before .before .before .before .before .before .before .before .before .before .before .before .before .before .before .before .before .before .before .before .before .before .before .before .before .before .before .before .before .before .before .pre .0
+    let a = c .before .before .before .before .before .before .before .before .before .before .before .before .before
+    .before .before .before .before .before .before .before .before .before .before .before .before .before .before
+    .before .before .before .before .pre .0
     in
-    omega (arith, a .class, c .before .before .before .before .before .before .before .before .before .before .before .solve .kept .1 .1 .1 .1 .1 .1 .1 .0)
+    omega (
+      arith,
+      a .class,
+      c .before .before .before .before .before .before .before .before .before .before .before
+          .solve .kept .1 .1 .1 .1 .1 .1 .1 .0,
+    )
 
 same-length : tie.Need-same-length
 same-length c = search needs
@@ -57,34 +70,51 @@ same-length-5 c = search needs
 returns : tie.Need-returns
 returns c =
     λ t root ft e.
-    let g = c .before .before .before .before .before .before .before .before .before .before .before .before .before .before .before .before .before .before .before .before .before .before .before .before .before .before .before .before .before .before .before .before .args
+    let g = c .before .before .before .before .before .before .before .before .before .before .before .before .before
+    .before .before .before .before .before .before .before .before .before .before .before .before .before .before
+    .before .before .before .before .before .args
     in
     let q = c .before .before .before .before .before .before .before .before .before .before .before .before .solve
     in
     let k = q .kept in
-    let w = subst (λ (n : ℕ). Solved n (q .result .passes) (q .result .last) (g .outputs .now) (g .heads .now) (g .starts .now)
-    (g .children .now) (g .order .now) (g .functions .now) (q .last .1 .1 .1 .1 .1 .1 .0) (q .last .1 .1 .1 .1 .1 .1 .1 .0)
-    (q .last .1 .1 .1 .1 .1 .1 .1 .1 .0) (q .last .1 .1 .1 .1 .1 .1 .1 .1 .1 .0) (q .last .1 .1 .1 .1 .1 .1 .1 .1 .1 .1 .0))
+    let w = subst (λ (n : ℕ). Solved n (q .result .passes) (q .result .last) (g .outputs .now) (g .heads .now)
+    (g .starts .now)
+    (g .children .now) (g .order .now) (g .functions .now) (q .last .1 .1 .1 .1 .1 .1 .0)
+    (q .last .1 .1 .1 .1 .1 .1 .1 .0) (q .last .1 .1 .1 .1 .1 .1 .1 .1 .0) (q .last .1 .1 .1 .1 .1 .1 .1 .1 .1 .0)
+    (q .last .1 .1 .1 .1 .1 .1 .1 .1 .1 .1 .0))
     e (q .ensures) in
-    let fresh = c .before .before .before .before .before .before .before .before .before .before .before .before .before .before .before .before .before .before .before .before .before .before .before .before .before .before .before .before .before .before .before .before .pre .1 .fresh .long
+    let fresh = c .before .before .before .before .before .before .before .before .before .before .before .before
+    .before .before .before .before .before .before .before .before .before .before .before .before .before .before
+    .before .before .before .before .before .before .pre .1 .fresh .long
     in
     let s = store (g .records .now) (g .literals .now) (g .names .now) (g .terms) (g .symbols) in
-    decide-unranked t root (g .outputs .now) (g .heads .now) (g .starts .now) (g .children .now) (g .order .now) (g .functions .now)
-    (g .labels .now) (g .values .now) ft (q .last .1 .1 .1 .1 .1 .1 .0) (q .last .1 .1 .1 .1 .1 .1 .1 .0) (q .last .1 .1 .1 .1 .1 .1 .1 .1 .0)
-    (q .last .1 .1 .1 .1 .1 .1 .1 .1 .1 .0) (q .last .1 .1 .1 .1 .1 .1 .1 .1 .1 .1 .0) (q .result .passes) (q .result .last)
-    (k .1 .1 .1 .1 .1 .1 .1 .0 ∙ e) (k .1 .1 .1 .1 .1 .1 .0 ∙ fresh ∙ sym (k .1 .1 .1 .1 .1 .1 .1 .0)) w (g .c) s (c .if1 .taken)
+    decide-unranked t root (g .outputs .now) (g .heads .now) (g .starts .now) (g .children .now) (g .order .now)
+    (g .functions .now) (g .labels .now) (g .values .now) ft (q .last .1 .1 .1 .1 .1 .1 .0)
+    (q .last .1 .1 .1 .1 .1 .1 .1 .0) (q .last .1 .1 .1 .1 .1 .1 .1 .1 .0) (q .last .1 .1 .1 .1 .1 .1 .1 .1 .1 .0)
+    (q .last .1 .1 .1 .1 .1 .1 .1 .1 .1 .1 .0) (q .result .passes) (q .result .last) (k .1 .1 .1 .1 .1 .1 .1 .0 ∙ e)
+    (k .1 .1 .1 .1 .1 .1 .0 ∙ fresh ∙ sym (k .1 .1 .1 .1 .1 .1 .1 .0)) w (g .c) s (c .if1 .taken)
 
 mul-cost : tie.Need-mul-cost
 mul-cost c =
-    let a = c .before .before .before .before .before .before .before .before .before .before .before .before .before .before .before .before .before .before .before .before .before .before .before .before .before .before .before .before .before .before .before .before .pre .0
+    let a = c .before .before .before .before .before .before .before .before .before .before .before .before .before
+    .before .before .before .before .before .before .before .before .before .before .before .before .before .before
+    .before .before .before .before .before .pre .0
     in
     omega (arith, a .class, a .classes, a .is .flat .few-classes)
 
 slice-read-cost : tie.Need-slice-read-cost
 slice-read-cost c =
-    let a = c .before .before .before .before .before .before .before .before .before .before .before .before .before .before .before .before .before .before .before .before .before .before .before .before .before .before .before .before .before .before .before .before .before .pre
+    let a = c .before .before .before .before .before .before .before .before .before .before .before .before .before
+    .before .before .before .before .before .before .before .before .before .before .before .before .before .before
+    .before .before .before .before .before .before .pre
     in
-    omega (arith, a .0 .class, a .1 .fresh .long, c .before .before .before .before .before .before .before .before .before .before .before .before .before .solve .kept .1 .1 .1 .1 .1 .1 .0)
+    omega (
+      arith,
+      a .0 .class,
+      a .1 .fresh .long,
+      c .before .before .before .before .before .before .before .before
+          .before .before .before .before .before .solve .kept .1 .1 .1 .1 .1 .1 .0,
+    )
 
 same-length-6 : tie.Need-same-length-6
 same-length-6 c = search needs
@@ -104,46 +134,63 @@ same-length-10 c = search needs
 returns-2 : tie.Need-returns-2
 returns-2 c =
     λ t root ft e.
-    let g = c .before .before .before .before .before .before .before .before .before .before .before .before .before .before .before .before .before .before .before .before .before .before .before .before .before .before .before .before .before .before .before .before .before .before .args
+    let g = c .before .before .before .before .before .before .before .before .before .before .before .before .before
+    .before .before .before .before .before .before .before .before .before .before .before .before .before .before
+    .before .before .before .before .before .before .before .args
     in
-    let q = c .before .before .before .before .before .before .before .before .before .before .before .before .before .before .solve
+    let q = c .before .before .before .before .before .before .before .before .before .before .before .before .before
+    .before .solve
     in
     let k = q .kept in
-    let w = subst (λ (n : ℕ). Solved n (q .result .passes) (q .result .last) (g .outputs .now) (g .heads .now) (g .starts .now)
-    (g .children .now) (g .order .now) (g .functions .now) (q .last .1 .1 .1 .1 .1 .1 .0) (q .last .1 .1 .1 .1 .1 .1 .1 .0)
-    (q .last .1 .1 .1 .1 .1 .1 .1 .1 .0) (q .last .1 .1 .1 .1 .1 .1 .1 .1 .1 .0) (q .last .1 .1 .1 .1 .1 .1 .1 .1 .1 .1 .0))
+    let w = subst (λ (n : ℕ). Solved n (q .result .passes) (q .result .last) (g .outputs .now) (g .heads .now)
+    (g .starts .now)
+    (g .children .now) (g .order .now) (g .functions .now) (q .last .1 .1 .1 .1 .1 .1 .0)
+    (q .last .1 .1 .1 .1 .1 .1 .1 .0) (q .last .1 .1 .1 .1 .1 .1 .1 .1 .0) (q .last .1 .1 .1 .1 .1 .1 .1 .1 .1 .0)
+    (q .last .1 .1 .1 .1 .1 .1 .1 .1 .1 .1 .0))
     e (q .ensures) in
-    let fresh = c .before .before .before .before .before .before .before .before .before .before .before .before .before .before .before .before .before .before .before .before .before .before .before .before .before .before .before .before .before .before .before .before .before .before .pre .1 .fresh .long
+    let fresh = c .before .before .before .before .before .before .before .before .before .before .before .before
+    .before .before .before .before .before .before .before .before .before .before .before .before .before .before
+    .before .before .before .before .before .before .before .before .pre .1 .fresh .long
     in
     let s = store (g .records .now) (g .literals .now) (g .names .now) (g .terms) (g .symbols) in
-    decide-dear t root (g .outputs .now) (g .heads .now) (g .starts .now) (g .children .now) (g .order .now) (g .functions .now)
-    (g .labels .now) (g .values .now) ft (q .last .1 .1 .1 .1 .1 .1 .0) (q .last .1 .1 .1 .1 .1 .1 .1 .0) (q .last .1 .1 .1 .1 .1 .1 .1 .1 .0)
-    (q .last .1 .1 .1 .1 .1 .1 .1 .1 .1 .0) (q .last .1 .1 .1 .1 .1 .1 .1 .1 .1 .1 .0) (q .result .passes) (q .result .last)
-    (k .1 .1 .1 .1 .1 .1 .1 .0 ∙ e) (k .1 .1 .1 .1 .1 .1 .0 ∙ fresh ∙ sym (k .1 .1 .1 .1 .1 .1 .1 .0)) w (g .c) s
+    decide-dear t root (g .outputs .now) (g .heads .now) (g .starts .now) (g .children .now) (g .order .now)
+    (g .functions .now) (g .labels .now) (g .values .now) ft (q .last .1 .1 .1 .1 .1 .1 .0)
+    (q .last .1 .1 .1 .1 .1 .1 .1 .0) (q .last .1 .1 .1 .1 .1 .1 .1 .1 .0) (q .last .1 .1 .1 .1 .1 .1 .1 .1 .1 .0)
+    (q .last .1 .1 .1 .1 .1 .1 .1 .1 .1 .1 .0) (q .result .passes) (q .result .last) (k .1 .1 .1 .1 .1 .1 .1 .0 ∙ e)
+    (k .1 .1 .1 .1 .1 .1 .0 ∙ fresh ∙ sym (k .1 .1 .1 .1 .1 .1 .1 .0)) w (g .c) s
     (omega (arith, c .before .before .if1 .left)) (c .if2 .taken)
 
 term-requires : tie.Need-term-requires
 term-requires c κs =
-    let g = c .before .before .before .before .before .before .before .before .before .before .before .before .before .before .before .before .before .before .before .before .before .before .before .before .before .before .before .before .before .before .before .before .before .before .before .before .before .before .before .args
+    let g = c .before .before .before .before .before .before .before .before .before .before .before .before .before
+    .before .before .before .before .before .before .before .before .before .before .before .before .before .before
+    .before .before .before .before .before .before .before .before .before .before .before .before .args
     in
-    let a = c .before .before .before .before .before .before .before .before .before .before .before .before .before .before .before .before .before .before .before .before .before .before .before .before .before .before .before .before .before .before .before .before .before .before .before .before .before .before .before .pre .0
+    let a = c .before .before .before .before .before .before .before .before .before .before .before .before .before
+    .before .before .before .before .before .before .before .before .before .before .before .before .before .before
+    .before .before .before .before .before .before .before .before .before .before .before .before .pre .0
     in
-    let q = c .before .before .before .before .before .before .before .before .before .before .before .before .before .before .before .before .before .before .before .solve
+    let q = c .before .before .before .before .before .before .before .before .before .before .before .before .before
+    .before .before .before .before .before .before .solve
     in
     let k = q .kept in
-    let fresh = c .before .before .before .before .before .before .before .before .before .before .before .before .before .before .before .before .before .before .before .before .before .before .before .before .before .before .before .before .before .before .before .before .before .before .before .before .before .before .before .pre .1 .fresh .long
+    let fresh = c .before .before .before .before .before .before .before .before .before .before .before .before
+    .before .before .before .before .before .before .before .before .before .before .before .before .before .before
+    .before .before .before .before .before .before .before .before .before .before .before .before .before .pre .1
+    .fresh .long
     in
     let s = store (g .records .now) (g .literals .now) (g .names .now) (g .terms) (g .symbols) in
-    let w = subst (λ (n : ℕ). Solved n (q .result .passes) (q .result .last) (g .outputs .now) (g .heads .now) (g .starts .now)
-    (g .children .now) (g .order .now) (g .functions .now) (q .last .1 .1 .1 .1 .1 .1 .0) (q .last .1 .1 .1 .1 .1 .1 .1 .0)
-    (q .last .1 .1 .1 .1 .1 .1 .1 .1 .0) (q .last .1 .1 .1 .1 .1 .1 .1 .1 .1 .0) (q .last .1 .1 .1 .1 .1 .1 .1 .1 .1 .1 .0))
-    (a .classes) (q .ensures) in
+    let w = subst (λ (n : ℕ). Solved n (q .result .passes) (q .result .last) (g .outputs .now) (g .heads .now)
+    (g .starts .now)
+    (g .children .now) (g .order .now) (g .functions .now) (q .last .1 .1 .1 .1 .1 .1 .0)
+    (q .last .1 .1 .1 .1 .1 .1 .1 .0) (q .last .1 .1 .1 .1 .1 .1 .1 .1 .0) (q .last .1 .1 .1 .1 .1 .1 .1 .1 .1 .0)
+    (q .last .1 .1 .1 .1 .1 .1 .1 .1 .1 .1 .0)) (a .classes) (q .ensures) in
     ready (a .table) (a .root) (g .outputs .now) (g .heads .now) (g .starts .now) (g .children .now) (g .order .now)
-    (g .functions .now) (g .labels .now) (g .values .now) (a .is) (q .last .1 .1 .1 .1 .1 .1 .0) (q .last .1 .1 .1 .1 .1 .1 .1 .0)
-    (q .last .1 .1 .1 .1 .1 .1 .1 .1 .0) (q .last .1 .1 .1 .1 .1 .1 .1 .1 .1 .0) (q .last .1 .1 .1 .1 .1 .1 .1 .1 .1 .1 .0)
-    (q .result .passes) (q .result .last) (k .1 .1 .1 .1 .1 .1 .1 .0 ∙ a .classes)
-    (k .1 .1 .1 .1 .1 .1 .0 ∙ fresh ∙ sym (k .1 .1 .1 .1 .1 .1 .1 .0)) w s (a .formed) (g .c)
-    (subst (λ (n : ℕ). 0 < n)
+    (g .functions .now) (g .labels .now) (g .values .now) (a .is) (q .last .1 .1 .1 .1 .1 .1 .0)
+    (q .last .1 .1 .1 .1 .1 .1 .1 .0) (q .last .1 .1 .1 .1 .1 .1 .1 .1 .0) (q .last .1 .1 .1 .1 .1 .1 .1 .1 .1 .0)
+    (q .last .1 .1 .1 .1 .1 .1 .1 .1 .1 .1 .0) (q .result .passes) (q .result .last)
+    (k .1 .1 .1 .1 .1 .1 .1 .0 ∙ a .classes) (k .1 .1 .1 .1 .1 .1 .0 ∙ fresh ∙ sym (k .1 .1 .1 .1 .1 .1 .1 .0)) w s
+    (a .formed) (g .c) (subst (λ (n : ℕ). 0 < n)
     (sym
     (w .planned .kept (g .c) (omega (arith, a .class, a .classes))
     (record {
@@ -186,28 +233,47 @@ same-length-18 c = search needs
 returns-3 : tie.Need-returns-3
 returns-3 c =
     λ t root ft e.
-    let g = c .before .before .before .before .before .before .before .before .before .before .before .before .before .before .before .before .before .before .before .before .before .before .before .before .before .before .before .before .before .before .before .before .before .before .before .before .before .before .before .before .before .before .before .before .before .before .before .args
+    let g = c .before .before .before .before .before .before .before .before .before .before .before .before .before
+    .before .before .before .before .before .before .before .before .before .before .before .before .before .before
+    .before .before .before .before .before .before .before .before .before .before .before .before .before .before
+    .before .before .before .before .before .before .args
     in
-    let q = c .before .before .before .before .before .before .before .before .before .before .before .before .before .before .before .before .before .before .before .before .before .before .before .before .before .before .before .solve
+    let q = c .before .before .before .before .before .before .before .before .before .before .before .before .before
+    .before .before .before .before .before .before .before .before .before .before .before .before .before .before
+    .solve
     in
     let k = q .kept in
-    let w = subst (λ (n : ℕ). Solved n (q .result .passes) (q .result .last) (g .outputs .now) (g .heads .now) (g .starts .now)
-    (g .children .now) (g .order .now) (g .functions .now) (q .last .1 .1 .1 .1 .1 .1 .0) (q .last .1 .1 .1 .1 .1 .1 .1 .0)
-    (q .last .1 .1 .1 .1 .1 .1 .1 .1 .0) (q .last .1 .1 .1 .1 .1 .1 .1 .1 .1 .0) (q .last .1 .1 .1 .1 .1 .1 .1 .1 .1 .1 .0))
+    let w = subst (λ (n : ℕ). Solved n (q .result .passes) (q .result .last) (g .outputs .now) (g .heads .now)
+    (g .starts .now)
+    (g .children .now) (g .order .now) (g .functions .now) (q .last .1 .1 .1 .1 .1 .1 .0)
+    (q .last .1 .1 .1 .1 .1 .1 .1 .0) (q .last .1 .1 .1 .1 .1 .1 .1 .1 .0) (q .last .1 .1 .1 .1 .1 .1 .1 .1 .1 .0)
+    (q .last .1 .1 .1 .1 .1 .1 .1 .1 .1 .1 .0))
     e (q .ensures) in
-    let fresh = c .before .before .before .before .before .before .before .before .before .before .before .before .before .before .before .before .before .before .before .before .before .before .before .before .before .before .before .before .before .before .before .before .before .before .before .before .before .before .before .before .before .before .before .before .before .before .before .pre .1 .fresh .long
+    let fresh = c .before .before .before .before .before .before .before .before .before .before .before .before
+    .before .before .before .before .before .before .before .before .before .before .before .before .before .before
+    .before .before .before .before .before .before .before .before .before .before .before .before .before .before
+    .before .before .before .before .before .before .before .pre .1 .fresh .long
     in
     let s = store (g .records .now) (g .literals .now) (g .names .now) (g .terms) (g .symbols) in
     let u = c .before .before .before .before .before .before .before .term in
-    decide-full t root (g .outputs .now) (g .heads .now) (g .starts .now) (g .children .now) (g .order .now) (g .functions .now)
-    (g .labels .now) (g .values .now) ft (q .last .1 .1 .1 .1 .1 .1 .0) (q .last .1 .1 .1 .1 .1 .1 .1 .0) (q .last .1 .1 .1 .1 .1 .1 .1 .1 .0)
-    (q .last .1 .1 .1 .1 .1 .1 .1 .1 .1 .0) (q .last .1 .1 .1 .1 .1 .1 .1 .1 .1 .1 .0) (q .result .passes) (q .result .last)
-    (k .1 .1 .1 .1 .1 .1 .1 .0 ∙ e) (k .1 .1 .1 .1 .1 .1 .0 ∙ fresh ∙ sym (k .1 .1 .1 .1 .1 .1 .1 .0)) w (g .c) s
-    (omega (arith, c .before .before .before .before .before .before .before .before .before .before .before .before .before .before .before .if1 .left))
-    (c .before .before .before .before .before .before .before .before .before .before .before .before .before .if2 .left)
+    decide-full t root (g .outputs .now) (g .heads .now) (g .starts .now) (g .children .now) (g .order .now)
+    (g .functions .now) (g .labels .now) (g .values .now) ft (q .last .1 .1 .1 .1 .1 .1 .0)
+    (q .last .1 .1 .1 .1 .1 .1 .1 .0) (q .last .1 .1 .1 .1 .1 .1 .1 .1 .0) (q .last .1 .1 .1 .1 .1 .1 .1 .1 .1 .0)
+    (q .last .1 .1 .1 .1 .1 .1 .1 .1 .1 .1 .0) (q .result .passes) (q .result .last) (k .1 .1 .1 .1 .1 .1 .1 .0 ∙ e)
+    (k .1 .1 .1 .1 .1 .1 .0 ∙ fresh ∙ sym (k .1 .1 .1 .1 .1 .1 .1 .0)) w (g .c) s
     (omega (
       arith,
-      c .before .before .before .before .before .before .before .before .before .before .before .before .before .before .before .before .before .before .before .before .before .before .before .before .before .before .before .before .before .before .before .before .before .before .before .before .before .before .before .before .before .before .before .before .before .before .before .pre .0 .class,
+      c .before .before .before .before .before .before .before .before .before .before .before .before
+          .before .before .before .if1 .left,
+    ))
+    (c .before .before .before .before .before .before .before .before .before .before .before .before .before .if2
+    .left)
+    (omega (
+      arith,
+      c .before .before .before .before .before .before .before .before .before .before .before .before .before .before
+          .before .before .before .before .before .before .before .before .before .before .before .before .before
+          .before .before .before .before .before .before .before .before .before .before .before .before .before
+          .before .before .before .before .before .before .before .pre .0 .class,
       e,
     ))
     (u .last .1 .1 .1 .1 .0) (u .last .1 .1 .1 .1 .1 .0) (u .last .1 .1 .1 .1 .1 .1 .0)
@@ -219,8 +285,8 @@ returns-3 c =
       literals = u .last .1 .1 .1 .1 .1 .0;
       names = u .last .1 .1 .1 .1 .1 .1 .0;
     }
-    ≡ whole (planOf (q .last .1 .1 .1 .1 .1 .1 .1 .1 .1 .1 .0) (g .labels .now) (g .values .now)) (getD (q .last .1 .1 .1 .1 .1 .1 .1 .1 .1 .0)
-    (g .c) 0) s (g .c))
+    ≡ whole (planOf (q .last .1 .1 .1 .1 .1 .1 .1 .1 .1 .1 .0) (g .labels .now) (g .values .now))
+    (getD (q .last .1 .1 .1 .1 .1 .1 .1 .1 .1 .0) (g .c) 0) s (g .c))
     (c .enum-told .given .1) (u .ensures))
 
 same-length-19 : tie.Need-same-length-19
@@ -250,28 +316,47 @@ same-length-26 c = search needs
 returns-4 : tie.Need-returns-4
 returns-4 c =
     λ t root ft e.
-    let g = c .before .before .before .before .before .before .before .before .before .before .before .before .before .before .before .before .before .before .before .before .before .before .before .before .before .before .before .before .before .before .before .before .before .before .before .before .before .before .before .before .before .before .before .before .before .before .before .before .args
+    let g = c .before .before .before .before .before .before .before .before .before .before .before .before .before
+    .before .before .before .before .before .before .before .before .before .before .before .before .before .before
+    .before .before .before .before .before .before .before .before .before .before .before .before .before .before
+    .before .before .before .before .before .before .before .args
     in
-    let q = c .before .before .before .before .before .before .before .before .before .before .before .before .before .before .before .before .before .before .before .before .before .before .before .before .before .before .before .before .solve
+    let q = c .before .before .before .before .before .before .before .before .before .before .before .before .before
+    .before .before .before .before .before .before .before .before .before .before .before .before .before .before
+    .before .solve
     in
     let k = q .kept in
-    let w = subst (λ (n : ℕ). Solved n (q .result .passes) (q .result .last) (g .outputs .now) (g .heads .now) (g .starts .now)
-    (g .children .now) (g .order .now) (g .functions .now) (q .last .1 .1 .1 .1 .1 .1 .0) (q .last .1 .1 .1 .1 .1 .1 .1 .0)
-    (q .last .1 .1 .1 .1 .1 .1 .1 .1 .0) (q .last .1 .1 .1 .1 .1 .1 .1 .1 .1 .0) (q .last .1 .1 .1 .1 .1 .1 .1 .1 .1 .1 .0))
+    let w = subst (λ (n : ℕ). Solved n (q .result .passes) (q .result .last) (g .outputs .now) (g .heads .now)
+    (g .starts .now)
+    (g .children .now) (g .order .now) (g .functions .now) (q .last .1 .1 .1 .1 .1 .1 .0)
+    (q .last .1 .1 .1 .1 .1 .1 .1 .0) (q .last .1 .1 .1 .1 .1 .1 .1 .1 .0) (q .last .1 .1 .1 .1 .1 .1 .1 .1 .1 .0)
+    (q .last .1 .1 .1 .1 .1 .1 .1 .1 .1 .1 .0))
     e (q .ensures) in
-    let fresh = c .before .before .before .before .before .before .before .before .before .before .before .before .before .before .before .before .before .before .before .before .before .before .before .before .before .before .before .before .before .before .before .before .before .before .before .before .before .before .before .before .before .before .before .before .before .before .before .before .pre .1 .fresh .long
+    let fresh = c .before .before .before .before .before .before .before .before .before .before .before .before
+    .before .before .before .before .before .before .before .before .before .before .before .before .before .before
+    .before .before .before .before .before .before .before .before .before .before .before .before .before .before
+    .before .before .before .before .before .before .before .before .pre .1 .fresh .long
     in
     let s = store (g .records .now) (g .literals .now) (g .names .now) (g .terms) (g .symbols) in
     let u = c .before .before .before .before .before .before .before .before .term in
-    decide-found t root (g .outputs .now) (g .heads .now) (g .starts .now) (g .children .now) (g .order .now) (g .functions .now)
-    (g .labels .now) (g .values .now) ft (q .last .1 .1 .1 .1 .1 .1 .0) (q .last .1 .1 .1 .1 .1 .1 .1 .0) (q .last .1 .1 .1 .1 .1 .1 .1 .1 .0)
-    (q .last .1 .1 .1 .1 .1 .1 .1 .1 .1 .0) (q .last .1 .1 .1 .1 .1 .1 .1 .1 .1 .1 .0) (q .result .passes) (q .result .last)
-    (k .1 .1 .1 .1 .1 .1 .1 .0 ∙ e) (k .1 .1 .1 .1 .1 .1 .0 ∙ fresh ∙ sym (k .1 .1 .1 .1 .1 .1 .1 .0)) w (g .c) s
-    (omega (arith, c .before .before .before .before .before .before .before .before .before .before .before .before .before .before .before .before .if1 .left))
-    (c .before .before .before .before .before .before .before .before .before .before .before .before .before .before .if2 .left)
+    decide-found t root (g .outputs .now) (g .heads .now) (g .starts .now) (g .children .now) (g .order .now)
+    (g .functions .now) (g .labels .now) (g .values .now) ft (q .last .1 .1 .1 .1 .1 .1 .0)
+    (q .last .1 .1 .1 .1 .1 .1 .1 .0) (q .last .1 .1 .1 .1 .1 .1 .1 .1 .0) (q .last .1 .1 .1 .1 .1 .1 .1 .1 .1 .0)
+    (q .last .1 .1 .1 .1 .1 .1 .1 .1 .1 .1 .0) (q .result .passes) (q .result .last) (k .1 .1 .1 .1 .1 .1 .1 .0 ∙ e)
+    (k .1 .1 .1 .1 .1 .1 .0 ∙ fresh ∙ sym (k .1 .1 .1 .1 .1 .1 .1 .0)) w (g .c) s
     (omega (
       arith,
-      c .before .before .before .before .before .before .before .before .before .before .before .before .before .before .before .before .before .before .before .before .before .before .before .before .before .before .before .before .before .before .before .before .before .before .before .before .before .before .before .before .before .before .before .before .before .before .before .before .pre .0 .class,
+      c .before .before .before .before .before .before .before .before .before .before .before .before
+          .before .before .before .before .if1 .left,
+    ))
+    (c .before .before .before .before .before .before .before .before .before .before .before .before .before .before
+    .if2 .left)
+    (omega (
+      arith,
+      c .before .before .before .before .before .before .before .before .before .before .before .before .before .before
+          .before .before .before .before .before .before .before .before .before .before .before .before .before
+          .before .before .before .before .before .before .before .before .before .before .before .before .before
+          .before .before .before .before .before .before .before .before .pre .0 .class,
       e,
     ))
     _ _ _ (u .last .1 .1 .1 .1 .0) (u .last .1 .1 .1 .1 .1 .0) (u .last .1 .1 .1 .1 .1 .1 .0)
@@ -283,8 +368,8 @@ returns-4 c =
       literals = u .last .1 .1 .1 .1 .1 .0;
       names = u .last .1 .1 .1 .1 .1 .1 .0;
     }
-    ≡ whole (planOf (q .last .1 .1 .1 .1 .1 .1 .1 .1 .1 .1 .0) (g .labels .now) (g .values .now)) (getD (q .last .1 .1 .1 .1 .1 .1 .1 .1 .1 .0)
-    (g .c) 0) s (g .c))
+    ≡ whole (planOf (q .last .1 .1 .1 .1 .1 .1 .1 .1 .1 .1 .0) (g .labels .now) (g .values .now))
+    (getD (q .last .1 .1 .1 .1 .1 .1 .1 .1 .1 .0) (g .c) 0) s (g .c))
     (c .before .built .given .1) (u .ensures))
 
 pub decide-spec : {M : Type 1} → statement M

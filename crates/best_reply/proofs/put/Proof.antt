@@ -49,7 +49,10 @@ best-length-requires c κs = search needs
 
 -- src/lib.rt:91:9
 returns : tie.Need-returns
-returns c = let s = c .before .before .before .before .before in no-line (s .args .plain) (lent s) (s .args .cost) (s .args .term) (s .args .passes) (s .args .out .now) (c .before .best-length .result) (c .before .best-length .ensures) (c .if1 .taken)
+returns c =
+    let s = c .before .before .before .before .before in
+    no-line (s .args .plain) (lent s) (s .args .cost) (s .args .term) (s .args .passes) (s .args .out .now)
+    (c .before .best-length .result) (c .before .best-length .ensures) (c .if1 .taken)
 
 -- src/lib.rt:93:13
 sub-e : tie.Need-sub-e
@@ -85,31 +88,171 @@ same-length c = search needs
 
 -- src/lib.rt:105:9
 returns-2 : tie.Need-returns-2
-returns-2 c = let s = c .before .before .before .before .before .before .before .before .before .before .before in no-text (s .args .plain) (lent s) (s .args .cost) (s .args .term) (s .args .passes) (s .args .out .now) (c .before .before .before .before .before .before .before .best-length .result) (c .before .before .before .before .before .before .before .best-length .ensures) (length (s .args .out .now) - 1) (omega (arith, c .before .before .before .before .before .before .if1 .left)) (omega (arith, c .before .before .before .before .before .before .if1 .left)) (c .before .before .before .before .put-text .last .1 .0) (refusalNo (c .enum-told .given .0 .0)) (asTold s (c .before .before .before .before .before .before .before .best-length .result) (c .before .before .before .before .put-text .ensures) (c .enum-told .given .1))
+returns-2 c =
+    let s = c .before .before .before .before .before .before .before .before .before .before .before in
+    no-text (s .args .plain) (lent s) (s .args .cost) (s .args .term) (s .args .passes) (s .args .out .now)
+    (c .before .before .before .before .before .before .before .best-length .result)
+    (c .before .before .before .before .before .before .before .best-length .ensures)
+    (length (s .args .out .now) - 1) (omega (arith, c .before .before .before .before .before .before .if1 .left))
+    (omega (arith, c .before .before .before .before .before .before .if1 .left))
+    (c .before .before .before .before .put-text .last .1 .0) (refusalNo (c .enum-told .given .0 .0))
+    (asTold s (c .before .before .before .before .before .before .before .best-length .result)
+    (c .before .before .before .before .put-text .ensures) (c .enum-told .given .1))
 
 -- src/lib.rt:107:13
 add-z : tie.Need-add-z
-add-z c = let s = c .before .before .before .before .before .before .before .before .before .before .before .before in omega (arith, s .good, place (s .args .plain) (lent s) (s .args .cost) (s .args .term) (s .args .passes) (s .args .out .now) (c .before .before .before .before .before .before .before .before .best-length .result) (c .before .before .before .before .before .before .before .before .best-length .ensures) (length (s .args .out .now) - 1) (omega (arith, c .before .before .before .before .before .before .before .if1 .left)) (omega (arith, c .before .before .before .before .before .before .before .if1 .left)) (c .before .before .before .before .before .put-text .last .1 .0) (c .before .text .given .0 .0) (asTold s (c .before .before .before .before .before .before .before .before .best-length .result) (c .before .before .before .before .before .put-text .ensures) (c .before .text .given .1)))
+add-z c =
+    let s = c .before .before .before .before .before .before .before .before .before .before .before .before in
+    omega (
+      arith,
+      s .good,
+      place (s .args .plain) (lent s) (s .args .cost) (s .args .term) (s .args .passes)
+          (s .args .out .now) (c .before .before .before .before .before .before .before .before .best-length .result)
+          (c .before .before .before .before .before .before .before .before .best-length .ensures)
+          (length (s .args .out .now) - 1)
+          (omega (arith, c .before .before .before .before .before .before .before .if1 .left))
+          (omega (arith, c .before .before .before .before .before .before .before .if1 .left))
+          (c .before .before .before .before .before .put-text .last .1 .0) (c .before .text .given .0 .0)
+          (asTold s (c .before .before .before .before .before .before .before .before .best-length .result)
+          (c .before .before .before .before .before .put-text .ensures) (c .before .text .given .1)),
+    )
 
 -- src/lib.rt:108:5
 slice-write-out : tie.Need-slice-write-out
-slice-write-out c = let s = c .before .before .before .before .before .before .before .before .before .before .before .before in omega (arith, place (s .args .plain) (lent s) (s .args .cost) (s .args .term) (s .args .passes) (s .args .out .now) (c .before .before .before .before .before .before .before .before .best-length .result) (c .before .before .before .before .before .before .before .before .best-length .ensures) (length (s .args .out .now) - 1) (omega (arith, c .before .before .before .before .before .before .before .if1 .left)) (omega (arith, c .before .before .before .before .before .before .before .if1 .left)) (c .before .before .before .before .before .put-text .last .1 .0) (c .before .text .given .0 .0) (asTold s (c .before .before .before .before .before .before .before .before .best-length .result) (c .before .before .before .before .before .put-text .ensures) (c .before .text .given .1)), stays (s .args .plain) (lent s) (s .args .cost) (s .args .term) (s .args .passes) (s .args .out .now) (c .before .before .before .before .before .before .before .before .best-length .result) (c .before .before .before .before .before .before .before .before .best-length .ensures) (length (s .args .out .now) - 1) (omega (arith, c .before .before .before .before .before .before .before .if1 .left)) (omega (arith, c .before .before .before .before .before .before .before .if1 .left)) (c .before .before .before .before .before .put-text .last .1 .0) (c .before .text .given .0 .0) (asTold s (c .before .before .before .before .before .before .before .before .best-length .result) (c .before .before .before .before .before .put-text .ensures) (c .before .text .given .1)))
+slice-write-out c =
+    let s = c .before .before .before .before .before .before .before .before .before .before .before .before in
+    omega (
+      arith,
+      place (s .args .plain) (lent s) (s .args .cost) (s .args .term) (s .args .passes) (s .args .out .now)
+          (c .before .before .before .before .before .before .before .before .best-length .result)
+          (c .before .before .before .before .before .before .before .before .best-length .ensures)
+          (length (s .args .out .now) - 1)
+          (omega (arith, c .before .before .before .before .before .before .before .if1 .left))
+          (omega (arith, c .before .before .before .before .before .before .before .if1 .left))
+          (c .before .before .before .before .before .put-text .last .1 .0) (c .before .text .given .0 .0)
+          (asTold s (c .before .before .before .before .before .before .before .before .best-length .result)
+          (c .before .before .before .before .before .put-text .ensures) (c .before .text .given .1)),
+      stays
+          (s .args .plain) (lent s) (s .args .cost) (s .args .term) (s .args .passes) (s .args .out .now)
+          (c .before .before .before .before .before .before .before .before .best-length .result)
+          (c .before .before .before .before .before .before .before .before .best-length .ensures)
+          (length (s .args .out .now) - 1)
+          (omega (arith, c .before .before .before .before .before .before .before .if1 .left))
+          (omega (arith, c .before .before .before .before .before .before .before .if1 .left))
+          (c .before .before .before .before .before .put-text .last .1 .0) (c .before .text .given .0 .0)
+          (asTold s (c .before .before .before .before .before .before .before .before .best-length .result)
+          (c .before .before .before .before .before .put-text .ensures) (c .before .text .given .1)),
+    )
 
 -- src/lib.rt:109:5
 put-best-requires : tie.Need-put-best-requires
-put-best-requires c κs = let s = c .before .before .before .before .before .before .before .before .before .before .before .before .before in omega (arith, c .before .before .before .before .before .before .before .before .if1 .left, c .before .before .before .before .before .before .before .before .before .best-length .ensures, stays (s .args .plain) (lent s) (s .args .cost) (s .args .term) (s .args .passes) (s .args .out .now) (c .before .before .before .before .before .before .before .before .before .best-length .result) (c .before .before .before .before .before .before .before .before .before .best-length .ensures) (length (s .args .out .now) - 1) (omega (arith, c .before .before .before .before .before .before .before .before .if1 .left)) (omega (arith, c .before .before .before .before .before .before .before .before .if1 .left)) (c .before .before .before .before .before .before .put-text .last .1 .0) (c .before .before .text .given .0 .0) (asTold s (c .before .before .before .before .before .before .before .before .before .best-length .result) (c .before .before .before .before .before .before .put-text .ensures) (c .before .before .text .given .1)), length-set (putMid (c .before .before .before .before .before .before .before .before .before .best-length .result) (length (s .args .out .now) - 1 - c .before .before .before .before .before .before .before .before .before .best-length .result) (s .args .out .now) (c .before .before .before .before .before .before .put-text .last .1 .0)) (c .before .before .before .before .before .before .before .before .before .best-length .result + c .before .before .text .given .0 .0) 10)
+put-best-requires c κs =
+    let s = c .before .before .before .before .before .before .before .before .before .before .before .before .before in
+    omega (
+      arith,
+      c .before .before .before .before .before .before .before .before .if1 .left,
+      c .before .before
+          .before .before .before .before .before .before .before .best-length .ensures,
+      stays (s .args .plain) (lent s)
+          (s .args .cost) (s .args .term) (s .args .passes) (s .args .out .now)
+          (c .before .before .before .before .before .before .before .before .before .best-length .result)
+          (c .before .before .before .before .before .before .before .before .before .best-length .ensures)
+          (length (s .args .out .now) - 1)
+          (omega (arith, c .before .before .before .before .before .before .before .before .if1 .left))
+          (omega (arith, c .before .before .before .before .before .before .before .before .if1 .left))
+          (c .before .before .before .before .before .before .put-text .last .1 .0)
+          (c .before .before .text .given .0 .0) (asTold s
+          (c .before .before .before .before .before .before .before .before .before .best-length .result)
+          (c .before .before .before .before .before .before .put-text .ensures) (c .before .before .text .given .1)),
+      length-set (putMid
+          (c .before .before .before .before .before .before .before .before .before .best-length .result)
+          (length (s .args .out .now) - 1 - c .before .before .before .before .before .before .before .before .before
+          .best-length .result) (s .args .out .now)
+          (c .before .before .before .before .before .before .put-text .last .1 .0))
+          (c .before .before .before .before .before .before .before .before .before .best-length .result + c .before
+          .before .text .given .0 .0) 10,
+    )
 
 -- src/lib.rt:110:23
 add-t18 : tie.Need-add-t18
-add-t18 c = let s = c .before .before .before .before .before .before .before .before .before .before .before .before .before .before .before .before in omega (arith, s .good, place (s .args .plain) (lent s) (s .args .cost) (s .args .term) (s .args .passes) (s .args .out .now) (c .before .before .before .before .before .before .before .before .before .before .before .before .best-length .result) (c .before .before .before .before .before .before .before .before .before .before .before .before .best-length .ensures) (length (s .args .out .now) - 1) (omega (arith, c .before .before .before .before .before .before .before .before .before .before .before .if1 .left)) (omega (arith, c .before .before .before .before .before .before .before .before .before .before .before .if1 .left)) (c .before .before .before .before .before .before .before .before .before .put-text .last .1 .0) (c .before .before .before .before .before .text .given .0 .0) (asTold s (c .before .before .before .before .before .before .before .before .before .before .before .before .best-length .result) (c .before .before .before .before .before .before .before .before .before .put-text .ensures) (c .before .before .before .before .before .text .given .1)))
+add-t18 c =
+    let s = c .before .before .before .before .before .before .before .before .before .before .before .before .before
+    .before .before .before in
+    omega (
+      arith,
+      s .good,
+      place (s .args .plain) (lent s) (s .args .cost) (s .args .term) (s .args .passes)
+          (s .args .out .now) (c .before .before .before .before .before .before .before .before .before .before .before
+          .before .best-length .result) (c .before .before .before .before .before .before .before .before .before
+          .before .before .before .best-length .ensures) (length (s .args .out .now) - 1)
+          (omega (
+            arith,
+            c .before .before .before .before .before .before .before .before .before .before .before .if1
+                .left,
+          )) (omega (
+            arith,
+            c .before .before .before .before .before .before .before .before .before .before
+                .before .if1 .left,
+          ))
+          (c .before .before .before .before .before .before .before .before .before .put-text .last .1 .0)
+          (c .before .before .before .before .before .text .given .0 .0)
+          (asTold s (c .before .before .before .before .before .before .before .before .before .before .before .before
+          .best-length .result)
+          (c .before .before .before .before .before .before .before .before .before .put-text .ensures)
+          (c .before .before .before .before .before .text .given .1)),
+    )
 
 -- src/lib.rt:65:1
 same-length-2 : tie.Need-same-length-2
-same-length-2 c = let s = c .before .before .before .before .before .before .before .before .before .before .before .before .before .before .before .before in c .before .before .put-best .kept .0 ∙ (length-set (putMid (c .before .before .before .before .before .before .before .before .before .before .before .before .best-length .result) (length (s .args .out .now) - 1 - c .before .before .before .before .before .before .before .before .before .before .before .before .best-length .result) (s .args .out .now) (c .before .before .before .before .before .before .before .before .before .put-text .last .1 .0)) (c .before .before .before .before .before .before .before .before .before .before .before .before .best-length .result + c .before .before .before .before .before .text .given .0 .0) 10 ∙ stays (s .args .plain) (lent s) (s .args .cost) (s .args .term) (s .args .passes) (s .args .out .now) (c .before .before .before .before .before .before .before .before .before .before .before .before .best-length .result) (c .before .before .before .before .before .before .before .before .before .before .before .before .best-length .ensures) (length (s .args .out .now) - 1) (omega (arith, c .before .before .before .before .before .before .before .before .before .before .before .if1 .left)) (omega (arith, c .before .before .before .before .before .before .before .before .before .before .before .if1 .left)) (c .before .before .before .before .before .before .before .before .before .put-text .last .1 .0) (c .before .before .before .before .before .text .given .0 .0) (asTold s (c .before .before .before .before .before .before .before .before .before .before .before .before .best-length .result) (c .before .before .before .before .before .before .before .before .before .put-text .ensures) (c .before .before .before .before .before .text .given .1)))
+same-length-2 c =
+    let s = c .before .before .before .before .before .before .before .before .before .before .before .before .before
+    .before .before .before in
+    c .before .before .put-best .kept .0 ∙ (length-set (putMid (c .before .before .before .before .before .before
+    .before .before .before .before .before .before .best-length .result)
+    (length (s .args .out .now) - 1 - c .before .before .before .before .before .before .before .before .before
+    .before .before .before .best-length .result) (s .args .out .now)
+    (c .before .before .before .before .before .before .before .before .before .put-text .last .1 .0))
+    (c .before .before .before .before .before .before .before .before .before .before .before .before
+    .best-length .result + c .before .before .before .before .before .text .given .0 .0) 10 ∙ stays
+    (s .args .plain) (lent s) (s .args .cost) (s .args .term) (s .args .passes) (s .args .out .now)
+    (c .before .before .before .before .before .before .before .before .before .before .before .before
+    .best-length .result) (c .before .before .before .before .before .before .before .before .before .before
+    .before .before .best-length .ensures) (length (s .args .out .now) - 1)
+    (omega (
+      arith,
+      c .before .before .before .before .before .before .before .before .before .before .before .if1
+          .left,
+    )) (omega (
+      arith,
+      c .before .before .before .before .before .before .before .before .before .before
+          .before .if1 .left,
+    ))
+    (c .before .before .before .before .before .before .before .before .before .put-text .last .1 .0)
+    (c .before .before .before .before .before .text .given .0 .0)
+    (asTold s (c .before .before .before .before .before .before .before .before .before .before .before .before
+    .best-length .result)
+    (c .before .before .before .before .before .before .before .before .before .put-text .ensures)
+    (c .before .before .before .before .before .text .given .1)))
 
 -- src/lib.rt:65:1
 returns-3 : tie.Need-returns-3
-returns-3 c = let s = c .before .before .before .before .before .before .before .before .before .before .before .before .before .before .before .before in writes (s .args .plain) (lent s) (s .args .cost) (s .args .term) (s .args .passes) (s .args .out .now) (c .before .before .before .before .before .before .before .before .before .before .before .before .best-length .result) (c .before .before .before .before .before .before .before .before .before .before .before .before .best-length .ensures) (length (s .args .out .now) - 1) (omega (arith, c .before .before .before .before .before .before .before .before .before .before .before .if1 .left)) (omega (arith, c .before .before .before .before .before .before .before .before .before .before .before .if1 .left)) (c .before .before .before .before .before .before .before .before .before .put-text .last .1 .0) (c .before .before .before .before .before .text .given .0 .0) (asTold s (c .before .before .before .before .before .before .before .before .before .before .before .before .best-length .result) (c .before .before .before .before .before .before .before .before .before .put-text .ensures) (c .before .before .before .before .before .text .given .1)) (c .before .before .put-best .result) (c .before .before .put-best .last .0) (c .before .before .put-best .ensures)
+returns-3 c =
+    let s = c .before .before .before .before .before .before .before .before .before .before .before .before .before
+    .before .before .before in
+    writes (s .args .plain) (lent s) (s .args .cost) (s .args .term) (s .args .passes) (s .args .out .now)
+    (c .before .before .before .before .before .before .before .before .before .before .before .before .best-length
+    .result) (c .before .before .before .before .before .before .before .before .before .before .before .before
+    .best-length .ensures) (length (s .args .out .now) - 1) (omega
+    (arith, c .before .before .before .before .before .before .before .before .before .before .before .if1 .left))
+    (omega
+    (arith, c .before .before .before .before .before .before .before .before .before .before .before .if1 .left))
+    (c .before .before .before .before .before .before .before .before .before .put-text .last .1 .0)
+    (c .before .before .before .before .before .text .given .0 .0)
+    (asTold s (c .before .before .before .before .before .before .before .before .before .before .before .before
+    .best-length .result)
+    (c .before .before .before .before .before .before .before .before .before .put-text .ensures)
+    (c .before .before .before .before .before .text .given .1)) (c .before .before .put-best .result)
+    (c .before .before .put-best .last .0) (c .before .before .put-best .ensures)
 
 pub put-spec : {M : Type 1} → statement M
 put-spec =

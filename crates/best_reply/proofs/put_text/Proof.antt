@@ -29,7 +29,11 @@ same-length c = search needs
 
 -- src/lib.rt:40:9
 returns : tie.Need-returns
-returns c = let s = c .before .before .before .before .before .before .before .before in plain-case (lent s) (s .args .term) (s .args .out .now) (c .before .before .plain-of .last .0) (s .args .plain) (answerOf (c .before .before .plain-of .result)) (c .before .before .before .before .if1 .taken) (c .before .before .plain-of .ensures)
+returns c =
+    let s = c .before .before .before .before .before .before .before .before in
+    plain-case (lent s) (s .args .term) (s .args .out .now) (c .before .before .plain-of .last .0) (s .args .plain)
+    (answerOf (c .before .before .plain-of .result)) (c .before .before .before .before .if1 .taken)
+    (c .before .before .plain-of .ensures)
 
 -- src/lib.rt:52:9
 array-share-prefix-none : tie.Need-array-share-prefix-none
@@ -45,7 +49,9 @@ slice-aggregate-let-of-2 c = search needs
 
 -- src/lib.rt:44:9
 let-of-requires : tie.Need-let-of-requires
-let-of-requires c κs = let s = c .before .before .before .before .before .before .before in (s .pre .0, (s .pre .1, ((no-prefix, hint-t), omega arith)))
+let-of-requires c κs =
+    let s = c .before .before .before .before .before .before .before in
+    (s .pre .0, (s .pre .1, ((no-prefix, hint-t), omega arith)))
 
 -- src/lib.rt:58:26
 enum-known-text : tie.Need-enum-known-text
@@ -61,7 +67,16 @@ same-length-2 c = search needs
 
 -- src/lib.rt:20:1
 returns-2 : tie.Need-returns-2
-returns-2 c = let s = c .before .before .before .before .before .before .before .before .before .before .before .before .before in subst (λ (r : LetText). told (uncounted (letAnswerOf r)) (c .before .before .before .before .before .let-of .last .0) ≡ bestPlaced (s .args .plain) (lent s) (s .args .term) (s .args .out .now)) (c .before .text .given .1) (let-case (lent s) (s .args .term) (s .args .out .now) (c .before .before .before .before .before .let-of .last .0) (s .args .plain) (letAnswerOf (c .before .before .before .before .before .let-of .result)) (c .before .before .before .before .before .before .before .before .before .if1 .left) (c .before .before .before .before .before .let-of .ensures))
+returns-2 c =
+    let s = c .before .before .before .before .before .before .before .before .before .before .before .before .before in
+    subst (λ (r : LetText). told (uncounted (letAnswerOf r))
+    (c .before .before .before .before .before .let-of .last .0) ≡ bestPlaced (s .args .plain) (lent s)
+    (s .args .term) (s .args .out .now)) (c .before .text .given .1)
+    (let-case (lent s) (s .args .term) (s .args .out .now)
+    (c .before .before .before .before .before .let-of .last .0) (s .args .plain)
+    (letAnswerOf (c .before .before .before .before .before .let-of .result))
+    (c .before .before .before .before .before .before .before .before .before .if1 .left)
+    (c .before .before .before .before .before .let-of .ensures))
 
 -- src/lib.rt:20:1
 same-length-3 : tie.Need-same-length-3
@@ -69,7 +84,16 @@ same-length-3 c = search needs
 
 -- src/lib.rt:20:1
 returns-3 : tie.Need-returns-3
-returns-3 c = let s = c .before .before .before .before .before .before .before .before .before .before .before .before .before in subst (λ (r : LetText). told (uncounted (letAnswerOf r)) (c .before .before .before .before .before .let-of .last .0) ≡ bestPlaced (s .args .plain) (lent s) (s .args .term) (s .args .out .now)) (c .before .text2 .given .1) (let-case (lent s) (s .args .term) (s .args .out .now) (c .before .before .before .before .before .let-of .last .0) (s .args .plain) (letAnswerOf (c .before .before .before .before .before .let-of .result)) (c .before .before .before .before .before .before .before .before .before .if1 .left) (c .before .before .before .before .before .let-of .ensures))
+returns-3 c =
+    let s = c .before .before .before .before .before .before .before .before .before .before .before .before .before in
+    subst (λ (r : LetText). told (uncounted (letAnswerOf r))
+    (c .before .before .before .before .before .let-of .last .0) ≡ bestPlaced (s .args .plain) (lent s)
+    (s .args .term) (s .args .out .now)) (c .before .text2 .given .1)
+    (let-case (lent s) (s .args .term) (s .args .out .now)
+    (c .before .before .before .before .before .let-of .last .0) (s .args .plain)
+    (letAnswerOf (c .before .before .before .before .before .let-of .result))
+    (c .before .before .before .before .before .before .before .before .before .if1 .left)
+    (c .before .before .before .before .before .let-of .ensures))
 
 pub put-text-spec : {M : Type 1} → statement M
 put-text-spec =

@@ -1,5 +1,5 @@
-use Prim.Native.Nat.{_+_, _-_}
 -- `candidates::is_candidate` meets its contract: by the class, then by the children. Assumes nothing.
+use Prim.Native.Nat.{_+_, _-_}
 use lib.ListN.{getD, length}
 use Rattle.relax.proofs.FlatLaws.{part-in}
 use Rattle.candidates.proofs.FoundLaws.{candidate-no, candidate-yes}

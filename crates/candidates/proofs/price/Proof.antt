@@ -1,5 +1,5 @@
-use Prim.Native.Nat.{_+_, _-_}
 -- `candidates::price` meets its contract: the row's children are a part of the list. Assumes nothing.
+use Prim.Native.Nat.{_+_, _-_}
 use lib.ListN.{getD, length}
 use Rattle.relax.proofs.FlatLaws.{part-in}
 use native.Mathlib.Omega.{arith}

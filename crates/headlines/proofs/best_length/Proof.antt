@@ -18,7 +18,16 @@ digits-length-requires-2 c κs = search needs
 
 -- src/lib.rt:31:5
 add-result : tie.Need-add-result
-add-result c = omega (arith, digits-few (c .before .before .args .c) (omega (arith, c .before .before .good)), digits-few (c .before .before .args .n) (omega (arith, c .before .before .good)), c .before .digits-length .ensures, c .digits-length2 .ensures)
+add-result c =
+    omega (
+      arith,
+      digits-few (c .before .before .args .c) (omega (arith, c .before .before .good)),
+      digits-few
+          (c .before .before .args .n) (omega (arith, c .before .before .good)),
+      c .before .digits-length .ensures,
+      c
+          .digits-length2 .ensures,
+    )
 
 -- src/lib.rt:31:61
 digits-length-requires-3 : tie.Need-digits-length-requires-3
@@ -26,15 +35,46 @@ digits-length-requires-3 c κs = search needs
 
 -- src/lib.rt:31:5
 add-result-2 : tie.Need-add-result-2
-add-result-2 c = omega (arith, digits-few (c .before .before .before .args .c) (omega (arith, c .before .before .before .good)), digits-few (c .before .before .before .args .n) (omega (arith, c .before .before .before .good)), digits-few (c .before .before .before .args .p) (omega (arith, c .before .before .before .good)), c .before .before .digits-length .ensures, c .before .digits-length2 .ensures, c .digits-length3 .ensures)
+add-result-2 c =
+    omega (
+      arith,
+      digits-few (c .before .before .before .args .c) (omega (arith, c .before .before .before .good)),
+      digits-few (c .before .before .before .args .n) (omega (arith, c .before .before .before .good)),
+      digits-few
+          (c .before .before .before .args .p) (omega (arith, c .before .before .before .good)),
+      c .before .before
+          .digits-length .ensures,
+      c .before .digits-length2 .ensures,
+      c .digits-length3 .ensures,
+    )
 
 -- src/lib.rt:31:5
 add-result-3 : tie.Need-add-result-3
-add-result-3 c = omega (arith, digits-few (c .before .before .before .args .c) (omega (arith, c .before .before .before .good)), digits-few (c .before .before .before .args .n) (omega (arith, c .before .before .before .good)), digits-few (c .before .before .before .args .p) (omega (arith, c .before .before .before .good)), c .before .before .digits-length .ensures, c .before .digits-length2 .ensures, c .digits-length3 .ensures)
+add-result-3 c =
+    omega (
+      arith,
+      digits-few (c .before .before .before .args .c) (omega (arith, c .before .before .before .good)),
+      digits-few (c .before .before .before .args .n) (omega (arith, c .before .before .before .good)),
+      digits-few
+          (c .before .before .before .args .p) (omega (arith, c .before .before .before .good)),
+      c .before .before
+          .digits-length .ensures,
+      c .before .digits-length2 .ensures,
+      c .digits-length3 .ensures,
+    )
 
 -- src/lib.rt:28:1
 returns : tie.Need-returns
-returns c = omega (arith, best-length (c .before .before .before .args .c) (c .before .before .before .args .n) (c .before .before .before .args .p), c .before .before .digits-length .ensures, c .before .digits-length2 .ensures, c .digits-length3 .ensures)
+returns c =
+    omega (
+      arith,
+      best-length (c .before .before .before .args .c) (c .before .before .before .args .n)
+          (c .before .before .before .args .p),
+      c .before .before .digits-length .ensures,
+      c .before .digits-length2
+          .ensures,
+      c .digits-length3 .ensures,
+    )
 
 pub best-length-spec : {M : Type 1} → statement M
 best-length-spec =

@@ -16,11 +16,23 @@ slice-aggregate-put-word c = search needs
 
 -- src/lib.rt:85:9
 put-word-requires : tie.Need-put-word-requires
-put-word-requires c κs = omega (arith, c .before .before .before .pre, refused-length (c .before .before .before .args .k))
+put-word-requires c κs =
+    omega (arith, c .before .before .before .pre, refused-length (c .before .before .before .args .k))
 
 -- src/lib.rt:86:5
 put-number-requires : tie.Need-put-number-requires
-put-number-requires c κs = omega (arith, c .before .before .before .before .before .before .before .pre, refused-length (c .before .before .before .before .before .before .before .args .k), number-length (c .before .before .before .before .before .before .before .args .k) 10, c .before .before .before .put-word .ensures .place, c .before .before .before .put-word .kept .0)
+put-number-requires c κs =
+    omega (
+      arith,
+      c .before .before .before .before .before .before .before .pre,
+      refused-length
+          (c .before .before .before .before .before .before .before .args .k),
+      number-length
+          (c .before .before .before .before .before .before .before .args .k) 10,
+      c .before .before .before .put-word
+          .ensures .place,
+      c .before .before .before .put-word .kept .0,
+    )
 
 -- src/lib.rt:81:1
 same-length : tie.Need-same-length
@@ -28,7 +40,11 @@ same-length c = search needs
 
 -- src/lib.rt:81:1
 returns : tie.Need-returns
-returns c = refused-step (c .before .before .before .before .before .before .before .before .before .before .args .out .now) (c .before .before .before .before .before .before .before .before .before .before .args .k) (c .before .before .before .before .before .before .before .before .before .before .pre) (c .before .before .before .before .before .before .put-word .ensures) (c .before .before .put-number .ensures)
+returns c =
+    refused-step (c .before .before .before .before .before .before .before .before .before .before .args .out .now)
+    (c .before .before .before .before .before .before .before .before .before .before .args .k)
+    (c .before .before .before .before .before .before .before .before .before .before .pre)
+    (c .before .before .before .before .before .before .put-word .ensures) (c .before .before .put-number .ensures)
 
 pub put-refused-spec : {M : Type 1} → statement M
 put-refused-spec =

@@ -34,7 +34,11 @@ same-length c = search needs
 
 -- src/lib.rt:10:1
 returns : tie.Need-returns
-returns c = step-of-tail (c .before .before .before .before .before .before .args .out .now) (c .before .before .before .before .before .before .args .word .now) (c .before .before .put-bytes .last .0) (c .before .before .before .before .before .before .args .p) (c .before .before .put-bytes .result) (omega (arith, c .before .before .before .before .before .before .pre)) (c .before .before .put-bytes .ensures)
+returns c =
+    step-of-tail (c .before .before .before .before .before .before .args .out .now)
+    (c .before .before .before .before .before .before .args .word .now) (c .before .before .put-bytes .last .0)
+    (c .before .before .before .before .before .before .args .p) (c .before .before .put-bytes .result)
+    (omega (arith, c .before .before .before .before .before .before .pre)) (c .before .before .put-bytes .ensures)
 
 pub put-word-spec : {M : Type 1} → statement M
 put-word-spec =

@@ -18,15 +18,40 @@ digits-length-requires-2 c κs = search needs
 
 -- src/lib.rt:49:5
 add-result : tie.Need-add-result
-add-result c = omega (arith, digits-few (c .before .before .args .k) (omega (arith, c .before .before .good)), digits-few (c .before .before .args .p) (omega (arith, c .before .before .good)), c .before .digits-length .ensures, c .digits-length2 .ensures)
+add-result c =
+    omega (
+      arith,
+      digits-few (c .before .before .args .k) (omega (arith, c .before .before .good)),
+      digits-few
+          (c .before .before .args .p) (omega (arith, c .before .before .good)),
+      c .before .digits-length .ensures,
+      c
+          .digits-length2 .ensures,
+    )
 
 -- src/lib.rt:49:5
 add-result-2 : tie.Need-add-result-2
-add-result-2 c = omega (arith, digits-few (c .before .before .args .k) (omega (arith, c .before .before .good)), digits-few (c .before .before .args .p) (omega (arith, c .before .before .good)), c .before .digits-length .ensures, c .digits-length2 .ensures)
+add-result-2 c =
+    omega (
+      arith,
+      digits-few (c .before .before .args .k) (omega (arith, c .before .before .good)),
+      digits-few
+          (c .before .before .args .p) (omega (arith, c .before .before .good)),
+      c .before .digits-length .ensures,
+      c
+          .digits-length2 .ensures,
+    )
 
 -- src/lib.rt:46:1
 returns : tie.Need-returns
-returns c = omega (arith, variants-length (c .before .before .args .k) (c .before .before .args .p), c .before .digits-length .ensures, c .digits-length2 .ensures)
+returns c =
+    omega (
+      arith,
+      variants-length (c .before .before .args .k) (c .before .before .args .p),
+      c .before .digits-length
+          .ensures,
+      c .digits-length2 .ensures,
+    )
 
 pub variants-length-spec : {M : Type 1} → statement M
 variants-length-spec =

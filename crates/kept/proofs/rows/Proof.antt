@@ -1,5 +1,5 @@
-use Rattle.kept.proofs.KeptLaws.{front-below, front-room, front-are, keys-of-costs, parts-of-length}
 -- `kept::rows` meets its contract: the rows are priced, found, and the first of them put in order. Assumes nothing.
+use Rattle.kept.proofs.KeptLaws.{front-below, front-room, front-are, keys-of-costs, parts-of-length}
 use Prim.Native.Nat.{ℕ, _<_, _≤_}
 use mathlib.Core.Path.{_≡_, refl, sym, _∙_}
 use lib.ListN.{length, take}

@@ -59,10 +59,11 @@ returns c =
     let s = c .before .before .before .before .before .before .before .before .before .before .before in
     whole-measured
     (length
-    (linesTo (seen s) (s .args .records .now) (s .args .wides .now) (s .args .terms .now) (s .args .indents .now) (s .args .m)))
-    (length (body (seen s) 0 0 (s .args .n - 1))) (c .before .before .before .lines-length .result) (c .before .add .result) (c .add2 .result)
-    (c .before .before .before .lines-length .ensures) (c .before .add .ensures)
-    (c .add2 .ensures
+    (linesTo (seen s) (s .args .records .now) (s .args .wides .now) (s .args .terms .now) (s .args .indents .now)
+    (s .args .m)))
+    (length (body (seen s) 0 0 (s .args .n - 1))) (c .before .before .before .lines-length .result)
+    (c .before .add .result) (c .add2 .result) (c .before .before .before .lines-length .ensures)
+    (c .before .add .ensures) (c .add2 .ensures
     ∙ ap (λ (x : ℕ). capped (c .before .add .result + x))
     (c .before .before .text-length .ensures ∙ ap (λ (x : List ℕ). capped (length x)) (own-piece s)))
     ∙ ap capped

@@ -6,7 +6,16 @@ use lib.ListN.{length}
 use Rattle.writer.specs.Piece.{View, view, piece, body}
 use Rattle.writer.proofs.PieceLaws.{piece-of-unnamed}
 use Rattle.lines.specs.Lines.{linesTo}
-use Rattle.lets.proofs.WholeLaws.{wholeText-is, wholeText-length, byte-place, tail-place, tail-fits, end-low, end-length, end-wrote}
+use Rattle.lets.proofs.WholeLaws.{
+  wholeText-is,
+  wholeText-length,
+  byte-place,
+  tail-place,
+  tail-fits,
+  end-low,
+  end-length,
+  end-wrote,
+}
 use native.Mathlib.Omega.{arith}
 use borrow.Author.Needs.{needs}
 use Rattle.lets.proofs.put_let.Statement.{statement}
@@ -52,14 +61,16 @@ sub-t c = search needs
 
 -- src/lib.rt:90:9
 put-lines-requires : tie.Need-put-lines-requires
-put-lines-requires c κs = let s = c .before .before .before .before .before .before .before .before .before in (s .pre .0, (s .pre .1 .1 .0, omega (arith, room s)))
+put-lines-requires c κs =
+    let s = c .before .before .before .before .before .before .before .before .before in
+    (s .pre .0, (s .pre .1 .1 .0, omega (arith, room s)))
 
 -- src/lib.rt:93:5
 slice-write-out : tie.Need-slice-write-out
 slice-write-out c =
     let s = c .before .before .before .before .before .before .before .before .before .before .before .before in
-    byte-place (s .args .out .now) (lines s) (root s) 10 (room s) (c .before .before .put-lines .last .0) (c .before .before .put-lines .result)
-    (c .before .before .put-lines .ensures)
+    byte-place (s .args .out .now) (lines s) (root s) 10 (room s) (c .before .before .put-lines .last .0)
+    (c .before .before .put-lines .result) (c .before .before .put-lines .ensures)
 
 -- src/lib.rt:94:5
 add-p : tie.Need-add-p
@@ -69,16 +80,16 @@ add-p c =
       arith,
       s .good,
       c .before .before .put-lines .kept .0,
-      byte-place (s .args .out .now) (lines s) (root s) 10 (room s) (c .before .before .put-lines .last .0) (c .before .before .put-lines .result)
-          (c .before .before .put-lines .ensures),
+      byte-place (s .args .out .now) (lines s) (root s) 10 (room s) (c .before .before .put-lines .last .0)
+          (c .before .before .put-lines .result) (c .before .before .put-lines .ensures),
     )
 
 -- src/lib.rt:96:9
 sub-put : tie.Need-sub-put
 sub-put c =
     let s = c .before .before .before .before .before .before .before .before .before .before .before .before in
-    tail-place (s .args .out .now) (lines s) (root s) 10 (room s) (c .before .before .put-lines .last .0) (c .before .before .put-lines .result)
-    (c .before .before .put-lines .ensures)
+    tail-place (s .args .out .now) (lines s) (root s) 10 (room s) (c .before .before .put-lines .last .0)
+    (c .before .before .put-lines .result) (c .before .before .put-lines .ensures)
 
 -- src/lib.rt:96:9
 part-put-start : tie.Need-part-put-start
@@ -98,7 +109,8 @@ put-requires c κs =
         (
           omega (arith, s .pre .0 .readable .few),
           rw (own-piece s)
-              (tail-fits (s .args .out .now) (lines s) (root s) 10 (room s) (c .before .before .before .put-lines .last .0) (c .before .before .before .put-lines .result)
+              (tail-fits (s .args .out .now) (lines s) (root s) 10 (room s)
+              (c .before .before .before .put-lines .last .0) (c .before .before .before .put-lines .result)
               (c .before .before .before .put-lines .ensures)),
         ),
       ),
@@ -107,30 +119,42 @@ put-requires c κs =
 -- src/lib.rt:95:5
 add-result : tie.Need-add-result
 add-result c =
-    let s = c .before .before .before .before .before .before .before .before .before .before .before .before .before .before .before .before in
+    let s = c .before .before .before .before .before .before .before .before .before .before .before .before .before
+    .before .before .before in
     omega (
       arith,
       s .good,
-      end-low (s .args .out .now) (lines s) (root s) 10 (room s) (c .before .before .before .before .before .before .put-lines .last .0) (c .before .before .before .before .before .before .put-lines .result)
-          (c .before .before .before .before .before .before .put-lines .ensures) (c .before .before .put .last .0) (c .before .before .put .result) (rw (own-piece s) at (c .before .before .put .ensures)),
+      end-low (s .args .out .now) (lines s) (root s) 10 (room s)
+          (c .before .before .before .before .before .before .put-lines .last .0)
+          (c .before .before .before .before .before .before .put-lines .result)
+          (c .before .before .before .before .before .before .put-lines .ensures) (c .before .before .put .last .0)
+          (c .before .before .put .result) (rw (own-piece s) at (c .before .before .put .ensures)),
     )
 
 -- src/lib.rt:51:1
 same-length : tie.Need-same-length
 same-length c =
-    let s = c .before .before .before .before .before .before .before .before .before .before .before .before .before .before .before .before in
-    end-length (s .args .out .now) (lines s) (root s) 10 (room s) (c .before .before .before .before .before .before .put-lines .last .0) (c .before .before .before .before .before .before .put-lines .result)
-    (c .before .before .before .before .before .before .put-lines .ensures) (c .before .before .put .last .0) (c .before .before .put .result) (rw (own-piece s) at (c .before .before .put .ensures))
+    let s = c .before .before .before .before .before .before .before .before .before .before .before .before .before
+    .before .before .before in
+    end-length (s .args .out .now) (lines s) (root s) 10 (room s)
+    (c .before .before .before .before .before .before .put-lines .last .0)
+    (c .before .before .before .before .before .before .put-lines .result)
+    (c .before .before .before .before .before .before .put-lines .ensures) (c .before .before .put .last .0)
+    (c .before .before .put .result) (rw (own-piece s) at (c .before .before .put .ensures))
 
 -- src/lib.rt:51:1
 returns : tie.Need-returns
 returns c =
-    let s = c .before .before .before .before .before .before .before .before .before .before .before .before .before .before .before .before in
+    let s = c .before .before .before .before .before .before .before .before .before .before .before .before .before
+    .before .before .before in
     rw
     (wholeText-is (seen s) (s .args .records .now) (s .args .wides .now) (s .args .terms .now) (s .args .indents .now)
     (s .args .n) (s .args .m))
-    (end-wrote (s .args .out .now) (lines s) (root s) 10 (room s) (c .before .before .before .before .before .before .put-lines .last .0) (c .before .before .before .before .before .before .put-lines .result)
-    (c .before .before .before .before .before .before .put-lines .ensures) (c .before .before .put .last .0) (c .before .before .put .result) (rw (own-piece s) at (c .before .before .put .ensures)))
+    (end-wrote (s .args .out .now) (lines s) (root s) 10 (room s)
+    (c .before .before .before .before .before .before .put-lines .last .0)
+    (c .before .before .before .before .before .before .put-lines .result)
+    (c .before .before .before .before .before .before .put-lines .ensures) (c .before .before .put .last .0)
+    (c .before .before .put .result) (rw (own-piece s) at (c .before .before .put .ensures)))
 
 pub put-let-spec : {M : Type 1} → statement M
 put-let-spec =

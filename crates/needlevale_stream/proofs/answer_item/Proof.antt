@@ -18,7 +18,8 @@ returns c = search needs
 -- src/main.rt:48:32
 slice-aggregate-respond : tie.Need-slice-aggregate-respond
 slice-aggregate-respond c =
-    sym (length-take-le (c .before .before .before .args .n) (c .before .before .before .args .input .now) (c .before .if1 .left))
+    sym (length-take-le (c .before .before .before .args .n) (c .before .before .before .args .input .now)
+    (c .before .if1 .left))
 
 -- src/main.rt:48:45
 slice-aggregate-respond-2 : tie.Need-slice-aggregate-respond-2

@@ -20,7 +20,8 @@ slice-relend-prefix-read-full c = search needs
 -- src/main.rt:28:43
 slice-aggregate-read-full : tie.Need-slice-aggregate-read-full
 slice-aggregate-read-full c =
-    sym (length-take-le (c .before .before .before .args .n) (c .before .before .before .args .input .now) (c .before .if1 .left))
+    sym (length-take-le (c .before .before .before .args .n) (c .before .before .before .args .input .now)
+    (c .before .if1 .left))
 
 -- src/main.rt:28:9
 read-full-requires : tie.Need-read-full-requires

@@ -4,7 +4,15 @@ use mathlib.Core.Path.{sym}
 use native.Mathlib.Omega.{arith}
 use lib.ListN.{length}
 use lib.Seq.{length-take-le}
-use Rattle.prepare.proofs.FlatLaws.{sorts-few, classes-long, count-few, scan-ready, lay-ready, lay-room, flattened}
+use Rattle.prepare.proofs.FlatLaws.{
+  sorts-few,
+  classes-long,
+  count-few,
+  scan-ready,
+  lay-ready,
+  lay-room,
+  flattened,
+}
 use borrow.Author.Needs.{needs}
 use Rattle.prepare.proofs.flatten.Statement.{statement}
 use Rattle.prepare.proofs.flatten.Tie as tie
@@ -17,13 +25,14 @@ number-sorts-requires c κs =
     let g = c .before .before .before .before .before .before .before .before .before .before .before .before
     .before .before .before .before .before .before in
     let a = g .args in
-    let few = sorts-few (a .sorts) (a .functions) (a .rows) (a .kinds .now) (a .classes .now) (a .declared .now) (a .costs .now)
-    (a .unextractable .now) (a .hidden .now) (a .outputs .now) (a .arities .now) (a .arguments .now)
+    let few = sorts-few (a .sorts) (a .functions) (a .rows) (a .kinds .now) (a .classes .now) (a .declared .now)
+    (a .costs .now) (a .unextractable .now) (a .hidden .now) (a .outputs .now) (a .arities .now) (a .arguments .now)
     (a .rowfunctions .now) (a .subsumed .now) (a .cells .now) (g .pre .0 .table) (g .pre .0 .is) in (
       (
-        classes-long (a .sorts) (a .functions) (a .rows) (a .kinds .now) (a .classes .now) (a .declared .now) (a .costs .now)
-            (a .unextractable .now) (a .hidden .now) (a .outputs .now) (a .arities .now) (a .arguments .now)
-            (a .rowfunctions .now) (a .subsumed .now) (a .cells .now) (g .pre .0 .table) (g .pre .0 .is),
+        classes-long (a .sorts) (a .functions) (a .rows) (a .kinds .now) (a .classes .now) (a .declared .now)
+            (a .costs .now) (a .unextractable .now) (a .hidden .now) (a .outputs .now) (a .arities .now)
+            (a .arguments .now) (a .rowfunctions .now) (a .subsumed .now) (a .cells .now) (g .pre .0 .table)
+            (g .pre .0 .is),
         omega arith,
       ),
       count-few (a .sorts) (a .functions) (a .rows) (a .kinds .now) (a .classes .now) (a .declared .now) (a .costs .now)
@@ -60,8 +69,8 @@ lay-requires c κs =
     let a = g .args in
     let w = c .before .before .before .before .before .before .before .before .scan-rows in
     let u = c .before .before .before .before .before .before .before .before .before .before .before .number-sorts in
-    let few = sorts-few (a .sorts) (a .functions) (a .rows) (a .kinds .now) (a .classes .now) (a .declared .now) (a .costs .now)
-    (a .unextractable .now) (a .hidden .now) (a .outputs .now) (a .arities .now) (a .arguments .now)
+    let few = sorts-few (a .sorts) (a .functions) (a .rows) (a .kinds .now) (a .classes .now) (a .declared .now)
+    (a .costs .now) (a .unextractable .now) (a .hidden .now) (a .outputs .now) (a .arities .now) (a .arguments .now)
     (a .rowfunctions .now) (a .subsumed .now) (a .cells .now) (g .pre .0 .table) (g .pre .0 .is) in
     let long : a .sorts ≤ length (u .last .1 .1 .0) = omega (arith, u .kept .1 .1 .0) in (
       lay-ready (a .sorts) (a .functions) (a .rows) (a .kinds .now) (a .classes .now) (a .declared .now) (a .costs .now)
@@ -105,8 +114,8 @@ returns c t h =
     let u = c .before .before .before .before .before .before .before .before .before .before .before .before
     .before .before .before .before .before .before .before .before .number-sorts in
     let v = c .before .before .before .before .before .before .before .before .lay in
-    let few = sorts-few (a .sorts) (a .functions) (a .rows) (a .kinds .now) (a .classes .now) (a .declared .now) (a .costs .now)
-    (a .unextractable .now) (a .hidden .now) (a .outputs .now) (a .arities .now) (a .arguments .now)
+    let few = sorts-few (a .sorts) (a .functions) (a .rows) (a .kinds .now) (a .classes .now) (a .declared .now)
+    (a .costs .now) (a .unextractable .now) (a .hidden .now) (a .outputs .now) (a .arities .now) (a .arguments .now)
     (a .rowfunctions .now) (a .subsumed .now) (a .cells .now) t h in
     let long : a .sorts ≤ length (u .last .1 .1 .0) = omega (arith, u .kept .1 .1 .0) in
     flattened (a .sorts) (a .functions) (a .rows) (a .kinds .now) (a .classes .now) (a .declared .now) (a .costs .now)
@@ -115,7 +124,8 @@ returns c t h =
     (a .root) (g .pre .1 .0) (w .result) (w .last .1 .1 .1 .1 .1 .1 .1 .1 .1 .1 .1 .0) (w .ensures)
     (u .last .1 .1 .0) (u .ensures .1) long
     (v .result) _ (v .last .1 .1 .1 .1 .1 .1 .1 .1 .1 .1 .0) (v .last .1 .1 .1 .1 .1 .1 .1 .1 .1 .1 .1 .0)
-    (v .last .1 .1 .1 .1 .1 .1 .1 .1 .1 .1 .1 .1 .0) (v .last .1 .1 .1 .1 .1 .1 .1 .1 .1 .1 .1 .1 .1 .0) (u .ensures .0) (v .ensures)
+    (v .last .1 .1 .1 .1 .1 .1 .1 .1 .1 .1 .1 .1 .0) (v .last .1 .1 .1 .1 .1 .1 .1 .1 .1 .1 .1 .1 .1 .0) (u .ensures .0)
+    (v .ensures)
 
 pub flatten-spec : {M : Type 1} → statement M
 flatten-spec =

@@ -26,7 +26,8 @@ flatten-requires c κs =
     .before .before in
     let p = g .pre .0 in
     let e = sym (c .before .before .before .before .before .before .root2 .given .1)
-    ∙ c .before .before .before .before .before .before .before .before .root-of .ensures (p .table) (p .is .sorts-stand) in
+    ∙ c .before .before .before .before .before .before .before .before .root-of .ensures (p .table)
+    (p .is .sorts-stand) in
     let l = root-sort (p .table) (g .args .sort) (g .args .value) _ e in (
       record { table = p .table; is = p .is .stands },
       (omega (arith, l, p .is .sorts-stand .sorts-are), g .pre .1),
@@ -68,7 +69,8 @@ returns-3 c t h =
           .before .before .before .before .before .root2 .given .1)
           ∙ c .before .before .before .before .before .before .before .before .before .before .before .before
           .before .before .before .before .before .before .before .root-of .ensures t (h .sorts-stand);
-      reached = c .before .before .before .before .before .before .before .before .before .before .flatten .ensures t (h .stands);
+      reached = c .before .before .before .before .before .before .before .before .before .before .flatten .ensures t
+          (h .stands);
     }
 
 pub open-spec : {M : Type 1} → statement M

@@ -80,8 +80,8 @@ add-t20 c =
     let a = c .before .before .before .before .before .before .before .before .before .before .args in
     let p = c .before .before .before .before .before .before .before .before .before .before .pre in
     let n = c .before .number-sorts in
-    let small = class-small (a .sorts) (a .literals) (a .kinds .now) (a .classes .now) (p .table) (p .is) (a .sort) (a .value)
-    (omega arith) (λ z. omega arith) (omega arith)
+    let small = class-small (a .sorts) (a .literals) (a .kinds .now) (a .classes .now) (p .table) (p .is) (a .sort)
+    (a .value) (omega arith) (λ z. omega arith) (omega arith)
     (n .last .1 .1 .0) (n .ensures .1) in
     omega arith
 

@@ -25,11 +25,16 @@ enum-told c = search needs
 
 -- src/lib.rt:20:9
 returns : tie.Need-returns
-returns c = sym (no-mode (c .before .before .before .before .args .input .now) (field-short (c .before .before .read .ensures) (c .enum-told .given .1)))
+returns c =
+    sym (no-mode (c .before .before .before .before .args .input .now)
+    (field-short (c .before .before .read .ensures) (c .enum-told .given .1)))
 
 -- src/lib.rt:23:9
 returns-2 : tie.Need-returns-2
-returns-2 c = sym (bad-mode (c .before .before .before .before .before .before .args .input .now) _ _ (field-value (c .before .before .before .before .read .ensures) (c .before .before .first .given .1)) (eq-eqb _ 3 (c .if1 .taken)))
+returns-2 c =
+    sym (bad-mode (c .before .before .before .before .before .before .args .input .now) _ _
+    (field-value (c .before .before .before .before .read .ensures) (c .before .before .first .given .1))
+    (eq-eqb _ 3 (c .if1 .taken)))
 
 -- src/lib.rt:25:9
 read-requires-2 : tie.Need-read-requires-2
@@ -45,7 +50,12 @@ enum-told-2 c = search needs
 
 -- src/lib.rt:27:9
 returns-3 : tie.Need-returns-3
-returns-3 c = sym (no-sort (c .before .before .before .before .before .before .before .before .before .args .input .now) _ _ (field-value (c .before .before .before .before .before .before .before .read .ensures) (c .before .before .before .before .before .first .given .1)) (ne-eqb _ 3 (c .before .before .before .if1 .left)) (field-short (c .before .before .read2 .ensures) (c .enum-told2 .given .1)))
+returns-3 c =
+    sym (no-sort (c .before .before .before .before .before .before .before .before .before .args .input .now) _ _
+    (field-value (c .before .before .before .before .before .before .before .read .ensures)
+    (c .before .before .before .before .before .first .given .1))
+    (ne-eqb _ 3 (c .before .before .before .if1 .left))
+    (field-short (c .before .before .read2 .ensures) (c .enum-told2 .given .1)))
 
 -- src/lib.rt:29:9
 read-requires-3 : tie.Need-read-requires-3
@@ -61,7 +71,15 @@ enum-told-3 c = search needs
 
 -- src/lib.rt:31:9
 returns-4 : tie.Need-returns-4
-returns-4 c = sym (no-value (c .before .before .before .before .before .before .before .before .before .before .before .before .before .args .input .now) _ _ (field-value (c .before .before .before .before .before .before .before .before .before .before .before .read .ensures) (c .before .before .before .before .before .before .before .before .before .first .given .1)) (ne-eqb _ 3 (c .before .before .before .before .before .before .before .if1 .left)) _ _ (field-value (c .before .before .before .before .before .before .read2 .ensures) (c .before .before .before .before .second .given .1)) (field-short (c .before .before .read3 .ensures) (c .enum-told3 .given .1)))
+returns-4 c =
+    sym (no-value (c .before .before .before .before .before .before .before .before .before .before .before .before
+    .before .args .input .now) _ _ (field-value
+    (c .before .before .before .before .before .before .before .before .before .before .before .read .ensures)
+    (c .before .before .before .before .before .before .before .before .before .first .given .1))
+    (ne-eqb _ 3 (c .before .before .before .before .before .before .before .if1 .left)) _ _
+    (field-value (c .before .before .before .before .before .before .read2 .ensures)
+    (c .before .before .before .before .second .given .1))
+    (field-short (c .before .before .read3 .ensures) (c .enum-told3 .given .1)))
 
 -- src/lib.rt:33:9
 read-requires-4 : tie.Need-read-requires-4
@@ -77,11 +95,36 @@ enum-told-4 c = search needs
 
 -- src/lib.rt:35:9
 returns-5 : tie.Need-returns-5
-returns-5 c = sym (no-count (c .before .before .before .before .before .before .before .before .before .before .before .before .before .before .before .before .before .args .input .now) _ _ (field-value (c .before .before .before .before .before .before .before .before .before .before .before .before .before .before .before .read .ensures) (c .before .before .before .before .before .before .before .before .before .before .before .before .before .first .given .1)) (ne-eqb _ 3 (c .before .before .before .before .before .before .before .before .before .before .before .if1 .left)) _ _ (field-value (c .before .before .before .before .before .before .before .before .before .before .read2 .ensures) (c .before .before .before .before .before .before .before .before .second .given .1)) _ _ (field-value (c .before .before .before .before .before .before .read3 .ensures) (c .before .before .before .before .third .given .1)) (field-short (c .before .before .read4 .ensures) (c .enum-told4 .given .1)))
+returns-5 c =
+    sym (no-count (c .before .before .before .before .before .before .before .before .before .before .before .before
+    .before .before .before .before .before .args .input .now) _ _
+    (field-value (c .before .before .before .before .before .before .before .before .before .before .before
+    .before .before .before .before .read .ensures) (c .before .before .before .before .before .before .before
+    .before .before .before .before .before .before .first .given .1))
+    (ne-eqb _ 3
+    (c .before .before .before .before .before .before .before .before .before .before .before .if1 .left)) _ _
+    (field-value
+    (c .before .before .before .before .before .before .before .before .before .before .read2 .ensures)
+    (c .before .before .before .before .before .before .before .before .second .given .1)) _ _
+    (field-value (c .before .before .before .before .before .before .read3 .ensures)
+    (c .before .before .before .before .third .given .1))
+    (field-short (c .before .before .read4 .ensures) (c .enum-told4 .given .1)))
 
 -- src/lib.rt:15:1
 returns-6 : tie.Need-returns-6
-returns-6 c = sym (whole-query (c .before .before .before .before .before .before .before .before .before .before .before .before .before .before .before .before .before .before .args .input .now) _ _ (field-value (c .before .before .before .before .before .before .before .before .before .before .before .before .before .before .before .before .read .ensures) (c .before .before .before .before .before .before .before .before .before .before .before .before .before .before .first .given .1)) (ne-eqb _ 3 (c .before .before .before .before .before .before .before .before .before .before .before .before .if1 .left)) _ _ (field-value (c .before .before .before .before .before .before .before .before .before .before .before .read2 .ensures) (c .before .before .before .before .before .before .before .before .before .second .given .1)) _ _ (field-value (c .before .before .before .before .before .before .before .read3 .ensures) (c .before .before .before .before .before .third .given .1)) _ _ (field-value (c .before .before .before .read4 .ensures) (c .before .fourth .given .1)))
+returns-6 c =
+    sym (whole-query (c .before .before .before .before .before .before .before .before .before .before .before .before
+    .before .before .before .before .before .before .args .input .now) _ _
+    (field-value (c .before .before .before .before .before .before .before .before .before .before .before
+    .before .before .before .before .before .read .ensures) (c .before .before .before .before .before .before
+    .before .before .before .before .before .before .before .before .first .given .1))
+    (ne-eqb _ 3 (c .before .before .before .before .before .before .before .before .before .before .before .before
+    .if1 .left)) _ _ (field-value
+    (c .before .before .before .before .before .before .before .before .before .before .before .read2 .ensures)
+    (c .before .before .before .before .before .before .before .before .before .second .given .1)) _ _
+    (field-value (c .before .before .before .before .before .before .before .read3 .ensures)
+    (c .before .before .before .before .before .third .given .1)) _ _
+    (field-value (c .before .before .before .read4 .ensures) (c .before .fourth .given .1)))
 
 pub ask-spec : {M : Type 1} → statement M
 ask-spec =

@@ -28,15 +28,44 @@ shared-slice-read-add c = search needs
 
 -- src/lib.rt:32:27
 add-add : tie.Need-add-add
-add-add c = omega (arith, c .before .variant-length .ensures, variant-length (c .before .before .before .before .before .before .args .i) (c .before .before .before .before .before .before .args .c) (c .before .before .before .before .before .before .args .n), digits-few (c .before .before .before .before .before .before .args .i) (omega (arith, c .before .before .before .before .before .before .good)), digits-few (c .before .before .before .before .before .before .args .c) (omega (arith, c .before .before .before .before .before .before .good)), digits-few (c .before .before .before .before .before .before .args .n) (omega (arith, c .before .before .before .before .before .before .good)))
+add-add c =
+    omega (
+      arith,
+      c .before .variant-length .ensures,
+      variant-length
+          (c .before .before .before .before .before .before .args .i)
+          (c .before .before .before .before .before .before .args .c)
+          (c .before .before .before .before .before .before .args .n),
+      digits-few
+          (c .before .before .before .before .before .before .args .i)
+          (omega (arith, c .before .before .before .before .before .before .good)),
+      digits-few
+          (c .before .before .before .before .before .before .args .c)
+          (omega (arith, c .before .before .before .before .before .before .good)),
+      digits-few
+          (c .before .before .before .before .before .before .args .n)
+          (omega (arith, c .before .before .before .before .before .before .good)),
+    )
 
 -- src/lib.rt:32:5
 add-requires : tie.Need-add-requires
-add-requires c κs = let s = c .before .before .before .before .before .before in omega (arith, wide-is (s .args .records .now) (s .args .literals .now) (s .args .names .now) (s .args .places .now) (s .args .wides .now) (s .args .n) (s .pre .0) (s .args .t) (s .pre .1))
+add-requires c κs =
+    let s = c .before .before .before .before .before .before in
+    omega (
+      arith,
+      wide-is (s .args .records .now) (s .args .literals .now) (s .args .names .now) (s .args .places .now)
+          (s .args .wides .now) (s .args .n) (s .pre .0) (s .args .t) (s .pre .1),
+    )
 
 -- src/lib.rt:11:1
 returns : tie.Need-returns
-returns c = let s = c .before .before .before .before .before .before .before in reply-measured (nodes (s .args .records .now) (s .args .literals .now) (s .args .names .now)) (s .args .n) (s .args .i) (s .args .c) (s .args .t) (getD (s .args .wides .now) (s .args .t) 0) (c .before .before .variant-length .result) (c .add .result) (wide-is (s .args .records .now) (s .args .literals .now) (s .args .names .now) (s .args .places .now) (s .args .wides .now) (s .args .n) (s .pre .0) (s .args .t) (s .pre .1)) (c .before .before .variant-length .ensures) (c .add .ensures)
+returns c =
+    let s = c .before .before .before .before .before .before .before in
+    reply-measured (nodes (s .args .records .now) (s .args .literals .now) (s .args .names .now)) (s .args .n)
+    (s .args .i) (s .args .c) (s .args .t) (getD (s .args .wides .now) (s .args .t) 0)
+    (c .before .before .variant-length .result) (c .add .result) (wide-is (s .args .records .now)
+    (s .args .literals .now) (s .args .names .now) (s .args .places .now) (s .args .wides .now) (s .args .n)
+    (s .pre .0) (s .args .t) (s .pre .1)) (c .before .before .variant-length .ensures) (c .add .ensures)
 
 pub one-length-spec : {M : Type 1} → statement M
 one-length-spec =

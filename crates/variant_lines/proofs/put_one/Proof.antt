@@ -72,16 +72,25 @@ after-text :
     × Step (replyText (seen s) (s .args .n) (s .args .i) (s .args .c) (s .args .t)) (s .args .p) (a + r + 1)
     (s .args .out .now) (set (putMid a (length o - a) o q) (a + r) 10))
 after-text s a o h r q w =
-    one-step (seen s) (s .args .n) (s .args .out .now) (s .args .p) (s .args .i) (s .args .c) (s .args .t) (s .pre .1 .1) a o h
+    one-step (seen s) (s .args .n) (s .args .out .now) (s .args .p) (s .args .i) (s .args .c) (s .args .t)
+    (s .pre .1 .1) a o h
     r q w
 
 -- src/lib.rt:93:9
 put-variant-requires : tie.Need-put-variant-requires
-put-variant-requires c κs = let s = c .before .before .before .before .before .before in omega (arith, s .pre .1 .1, reply-length (seen s) (s .args .n) (s .args .i) (s .args .c) (s .args .t))
+put-variant-requires c κs =
+    let s = c .before .before .before .before .before .before in
+    omega (arith, s .pre .1 .1, reply-length (seen s) (s .args .n) (s .args .i) (s .args .c) (s .args .t))
 
 -- src/lib.rt:97:13
 sub-put : tie.Need-sub-put
-sub-put c = omega (arith, after-line (c .before .before .before .before .before .before .before .before .before) (c .before .before .put-variant .result) (c .before .before .put-variant .last .0) (c .before .before .put-variant .ensures) .0)
+sub-put c =
+    omega (
+      arith,
+      after-line (c .before .before .before .before .before .before .before .before .before)
+          (c .before .before .put-variant .result) (c .before .before .put-variant .last .0)
+          (c .before .before .put-variant .ensures) .0,
+    )
 
 -- src/lib.rt:97:13
 part-put-start : tie.Need-part-put-start
@@ -93,27 +102,97 @@ part-put-end c = search needs
 
 -- src/lib.rt:96:11
 put-requires : tie.Need-put-requires
-put-requires c κs = let s = c .before .before .before .before .before .before .before .before .before .before in (sheet s, (s .pre .1 .0, (omega (arith, s .pre .0 .readable .few, s .pre .1 .0), rw (text s) (fits-tail (c .before .before .before .put-variant .last .0) (plainLine (seen s) (s .args .t)) (c .before .before .before .put-variant .result) (omega (arith, after-line s (c .before .before .before .put-variant .result) (c .before .before .before .put-variant .last .0) (c .before .before .before .put-variant .ensures) .0))))))
+put-requires c κs =
+    let s = c .before .before .before .before .before .before .before .before .before .before in (
+      sheet s,
+      (
+        s .pre .1 .0,
+        (
+          omega (arith, s .pre .0 .readable .few, s .pre .1 .0),
+          rw (text s)
+              (fits-tail (c .before .before .before .put-variant .last .0) (plainLine (seen s) (s .args .t))
+              (c .before .before .before .put-variant .result) (omega (
+                arith,
+                after-line s (c .before .before .before .put-variant .result)
+                    (c .before .before .before .put-variant .last .0) (c .before .before .before .put-variant .ensures)
+                    .0,
+              ))),
+        ),
+      ),
+    )
 
 -- src/lib.rt:95:13
 add-e : tie.Need-add-e
-add-e c = let s = c .before .before .before .before .before .before .before .before .before .before .before .before .before in omega (arith, s .good, after-text s (c .before .before .before .before .before .before .put-variant .result) (c .before .before .before .before .before .before .put-variant .last .0) (c .before .before .before .before .before .before .put-variant .ensures) (c .before .before .put .result) (c .before .before .put .last .0) (wrote s (c .before .before .before .before .before .before .put-variant .last .0) (c .before .before .before .before .before .before .put-variant .result) (c .before .before .put .ensures)) .0)
+add-e c =
+    let s = c .before .before .before .before .before .before .before .before .before .before .before .before .before in
+    omega (
+      arith,
+      s .good,
+      after-text s (c .before .before .before .before .before .before .put-variant .result)
+          (c .before .before .before .before .before .before .put-variant .last .0)
+          (c .before .before .before .before .before .before .put-variant .ensures) (c .before .before .put .result)
+          (c .before .before .put .last .0) (wrote s
+          (c .before .before .before .before .before .before .put-variant .last .0)
+          (c .before .before .before .before .before .before .put-variant .result) (c .before .before .put .ensures))
+          .0,
+    )
 
 -- src/lib.rt:113:5
 slice-write-out : tie.Need-slice-write-out
-slice-write-out c = let s = c .before .before .before .before .before .before .before .before .before .before .before .before .before in let m = after-text s (c .before .before .before .before .before .before .put-variant .result) (c .before .before .before .before .before .before .put-variant .last .0) (c .before .before .before .before .before .before .put-variant .ensures) (c .before .before .put .result) (c .before .before .put .last .0) (wrote s (c .before .before .before .before .before .before .put-variant .last .0) (c .before .before .before .before .before .before .put-variant .result) (c .before .before .put .ensures)) in omega (arith, m .0, m .1 .0)
+slice-write-out c =
+    let s = c .before .before .before .before .before .before .before .before .before .before .before .before .before in
+    let m = after-text s (c .before .before .before .before .before .before .put-variant .result)
+    (c .before .before .before .before .before .before .put-variant .last .0)
+    (c .before .before .before .before .before .before .put-variant .ensures) (c .before .before .put .result)
+    (c .before .before .put .last .0) (wrote s
+    (c .before .before .before .before .before .before .put-variant .last .0)
+    (c .before .before .before .before .before .before .put-variant .result) (c .before .before .put .ensures)) in
+    omega (arith, m .0, m .1 .0)
 
 -- src/lib.rt:114:5
 add-result : tie.Need-add-result
-add-result c = let s = c .before .before .before .before .before .before .before .before .before .before .before .before .before in omega (arith, s .good, after-text s (c .before .before .before .before .before .before .put-variant .result) (c .before .before .before .before .before .before .put-variant .last .0) (c .before .before .before .before .before .before .put-variant .ensures) (c .before .before .put .result) (c .before .before .put .last .0) (wrote s (c .before .before .before .before .before .before .put-variant .last .0) (c .before .before .before .before .before .before .put-variant .result) (c .before .before .put .ensures)) .0)
+add-result c =
+    let s = c .before .before .before .before .before .before .before .before .before .before .before .before .before in
+    omega (
+      arith,
+      s .good,
+      after-text s (c .before .before .before .before .before .before .put-variant .result)
+          (c .before .before .before .before .before .before .put-variant .last .0)
+          (c .before .before .before .before .before .before .put-variant .ensures) (c .before .before .put .result)
+          (c .before .before .put .last .0) (wrote s
+          (c .before .before .before .before .before .before .put-variant .last .0)
+          (c .before .before .before .before .before .before .put-variant .result) (c .before .before .put .ensures))
+          .0,
+    )
 
 -- src/lib.rt:70:1
 same-length : tie.Need-same-length
-same-length c = let s = c .before .before .before .before .before .before .before .before .before .before .before .before .before in length-set (putMid (c .before .before .before .before .before .before .put-variant .result) (length (c .before .before .before .before .before .before .put-variant .last .0) - c .before .before .before .before .before .before .put-variant .result) (c .before .before .before .before .before .before .put-variant .last .0) (c .before .before .put .last .0)) (c .before .before .before .before .before .before .put-variant .result + c .before .before .put .result) 10 ∙ after-text s (c .before .before .before .before .before .before .put-variant .result) (c .before .before .before .before .before .before .put-variant .last .0) (c .before .before .before .before .before .before .put-variant .ensures) (c .before .before .put .result) (c .before .before .put .last .0) (wrote s (c .before .before .before .before .before .before .put-variant .last .0) (c .before .before .before .before .before .before .put-variant .result) (c .before .before .put .ensures)) .1 .0
+same-length c =
+    let s = c .before .before .before .before .before .before .before .before .before .before .before .before .before in
+    length-set (putMid (c .before .before .before .before .before .before .put-variant .result)
+    (length (c .before .before .before .before .before .before .put-variant .last .0) - c .before .before .before
+    .before .before .before .put-variant .result)
+    (c .before .before .before .before .before .before .put-variant .last .0) (c .before .before .put .last .0))
+    (c .before .before .before .before .before .before .put-variant .result + c .before .before .put .result) 10
+    ∙ after-text s (c .before .before .before .before .before .before .put-variant .result)
+    (c .before .before .before .before .before .before .put-variant .last .0)
+    (c .before .before .before .before .before .before .put-variant .ensures) (c .before .before .put .result)
+    (c .before .before .put .last .0) (wrote s
+    (c .before .before .before .before .before .before .put-variant .last .0)
+    (c .before .before .before .before .before .before .put-variant .result) (c .before .before .put .ensures)) .1
+    .0
 
 -- src/lib.rt:70:1
 returns : tie.Need-returns
-returns c = let s = c .before .before .before .before .before .before .before .before .before .before .before .before .before in after-text s (c .before .before .before .before .before .before .put-variant .result) (c .before .before .before .before .before .before .put-variant .last .0) (c .before .before .before .before .before .before .put-variant .ensures) (c .before .before .put .result) (c .before .before .put .last .0) (wrote s (c .before .before .before .before .before .before .put-variant .last .0) (c .before .before .before .before .before .before .put-variant .result) (c .before .before .put .ensures)) .1 .1
+returns c =
+    let s = c .before .before .before .before .before .before .before .before .before .before .before .before .before in
+    after-text s (c .before .before .before .before .before .before .put-variant .result)
+    (c .before .before .before .before .before .before .put-variant .last .0)
+    (c .before .before .before .before .before .before .put-variant .ensures) (c .before .before .put .result)
+    (c .before .before .put .last .0) (wrote s
+    (c .before .before .before .before .before .before .put-variant .last .0)
+    (c .before .before .before .before .before .before .put-variant .result) (c .before .before .put .ensures)) .1
+    .1
 
 pub put-one-spec : {M : Type 1} → statement M
 put-one-spec =

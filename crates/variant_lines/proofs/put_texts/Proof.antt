@@ -29,7 +29,13 @@ seen s = nodes (s .args .records .now) (s .args .literals .now) (s .args .names 
 
 -- src/lib.rt:146:5
 loop-holds : tie.Need-loop-holds Inv-loop μ-loop
-loop-holds c = let s = c .before .before .before .before .before .before .before in (omega arith, subst (λ (x : List ℕ). Step x (s .args .p) (s .args .p) (s .args .out .now) (s .args .out .now)) (sym (none (seen s) (s .args .n) (s .args .costs .now) (s .args .terms .now))) (step-none (s .args .out .now) (s .args .p)))
+loop-holds c =
+    let s = c .before .before .before .before .before .before .before in (
+      omega arith,
+      subst (λ (x : List ℕ). Step x (s .args .p) (s .args .p) (s .args .out .now) (s .args .out .now))
+          (sym (none (seen s) (s .args .n) (s .args .costs .now) (s .args .terms .now)))
+          (step-none (s .args .out .now) (s .args .p)),
+    )
 
 -- src/lib.rt:147:17
 mul-c : tie.Need-mul-c Inv-loop μ-loop
@@ -53,7 +59,17 @@ add-put-one c = search needs
 
 -- src/lib.rt:149:9
 put-one-requires : tie.Need-put-one-requires Inv-loop μ-loop
-put-one-requires c κs = let s = c .before .before .before .before .before .before .before .before .before .before .before .before in let l = c .before .before .before .before .loop in (s .pre .0, (s .pre .1 .0 .below (l .j) (c .before .before .before .loop-test .taken), room-next (seen s) (s .args .n) (s .args .costs .now) (s .args .terms .now) (s .args .out .now) (s .args .p) (l .j) (s .args .k) (l .e) (l .out) (l .inv .1) (c .before .before .before .loop-test .taken) (s .pre .1 .1)))
+put-one-requires c κs =
+    let s = c .before .before .before .before .before .before .before .before .before .before .before .before in
+    let l = c .before .before .before .before .loop in (
+      s .pre .0,
+      (
+        s .pre .1 .0 .below (l .j) (c .before .before .before .loop-test .taken),
+        room-next (seen s)
+            (s .args .n) (s .args .costs .now) (s .args .terms .now) (s .args .out .now) (s .args .p) (l .j)
+            (s .args .k) (l .e) (l .out) (l .inv .1) (c .before .before .before .loop-test .taken) (s .pre .1 .1),
+      ),
+    )
 
 -- src/lib.rt:150:9
 add-j : tie.Need-add-j Inv-loop μ-loop
@@ -65,15 +81,37 @@ loop-less c = search needs
 
 -- src/lib.rt:146:5
 loop-again : tie.Need-loop-again Inv-loop μ-loop
-loop-again c = let s = c .before .before .before .before .before .before .before .before .before .before .before .before .before .before .before in let l = c .before .before .before .before .before .before .before .loop in (omega (arith, c .before .before .before .before .before .before .loop-test .taken), written (seen s) (s .args .n) (s .args .costs .now) (s .args .terms .now) (s .args .out .now) (s .args .p) (l .j) (l .e) (c .before .before .put-one .result) (l .out) (c .before .before .put-one .last .0) (l .inv .1) (c .before .before .put-one .ensures) (omega (arith, s .pre .1 .1, shorter (seen s) (s .args .n) (s .args .costs .now) (s .args .terms .now) (l .j) (s .args .k) (l .inv .0))))
+loop-again c =
+    let s = c .before .before .before .before .before .before .before .before .before .before .before .before .before
+    .before .before in
+    let l = c .before .before .before .before .before .before .before .loop in (
+      omega (arith, c .before .before .before .before .before .before .loop-test .taken),
+      written (seen s) (s .args .n)
+          (s .args .costs .now) (s .args .terms .now) (s .args .out .now) (s .args .p) (l .j) (l .e)
+          (c .before .before .put-one .result) (l .out) (c .before .before .put-one .last .0) (l .inv .1)
+          (c .before .before .put-one .ensures) (omega (
+            arith,
+            s .pre .1 .1,
+            shorter (seen s) (s .args .n)
+                (s .args .costs .now) (s .args .terms .now) (l .j) (s .args .k) (l .inv .0),
+          )),
+    )
 
 -- src/lib.rt:118:1
 same-length : tie.Need-same-length Inv-loop μ-loop
-same-length c = let s = c .before .before .before .before .before .before .before .before .before in let l = c .before .loop in kept-length (seen s) (s .args .n) (s .args .costs .now) (s .args .terms .now) (s .args .out .now) (s .args .p) (l .j) (s .args .k) (l .e) (l .out) (l .inv .1) (l .inv .0) (s .pre .1 .1)
+same-length c =
+    let s = c .before .before .before .before .before .before .before .before .before in
+    let l = c .before .loop in
+    kept-length (seen s) (s .args .n) (s .args .costs .now) (s .args .terms .now) (s .args .out .now) (s .args .p)
+    (l .j) (s .args .k) (l .e) (l .out) (l .inv .1) (l .inv .0) (s .pre .1 .1)
 
 -- src/lib.rt:118:1
 returns : tie.Need-returns Inv-loop μ-loop
-returns c = let s = c .before .before .before .before .before .before .before .before .before in let l = c .before .loop in subst (λ (x : ℕ). Step (replyTexts (seen s) (s .args .n) (s .args .costs .now) (s .args .terms .now) x) (s .args .p) (l .e) (s .args .out .now) (l .out)) (omega (arith, l .inv .0, c .loop-test .left)) (l .inv .1)
+returns c =
+    let s = c .before .before .before .before .before .before .before .before .before in
+    let l = c .before .loop in
+    subst (λ (x : ℕ). Step (replyTexts (seen s) (s .args .n) (s .args .costs .now) (s .args .terms .now) x) (s .args .p)
+    (l .e) (s .args .out .now) (l .out)) (omega (arith, l .inv .0, c .loop-test .left)) (l .inv .1)
 
 pub put-texts-spec : {M : Type 1} → statement M
 put-texts-spec =

@@ -28,7 +28,9 @@ seen s = nodes (s .args .records .now) (s .args .literals .now) (s .args .names 
 
 -- src/lib.rt:59:5
 loop-holds : tie.Need-loop-holds Inv-loop μ-loop
-loop-holds c = let s = c .before .before .before .before .before .before in (omega arith, omega (arith, ap length (none (seen s) (s .args .n) (s .args .costs .now) (s .args .terms .now))))
+loop-holds c =
+    let s = c .before .before .before .before .before .before in
+    (omega arith, omega (arith, ap length (none (seen s) (s .args .n) (s .args .costs .now) (s .args .terms .now))))
 
 -- src/lib.rt:60:17
 mul-c : tie.Need-mul-c Inv-loop μ-loop
@@ -52,7 +54,9 @@ add-one-length c = search needs
 
 -- src/lib.rt:62:13
 one-length-requires : tie.Need-one-length-requires Inv-loop μ-loop
-one-length-requires c κs = let s = c .before .before .before .before .before .before .before .before .before .before in (s .pre .0, s .pre .1 .below (c .before .before .before .loop .j) (c .before .before .loop-test .taken))
+one-length-requires c κs =
+    let s = c .before .before .before .before .before .before .before .before .before .before in
+    (s .pre .0, s .pre .1 .below (c .before .before .before .loop .j) (c .before .before .loop-test .taken))
 
 -- src/lib.rt:63:9
 add-requires : tie.Need-add-requires Inv-loop μ-loop
@@ -68,11 +72,23 @@ loop-less c = search needs
 
 -- src/lib.rt:59:5
 loop-again : tie.Need-loop-again Inv-loop μ-loop
-loop-again c = let s = c .before .before .before .before .before .before .before .before .before .before .before .before in let l = c .before .before .before .before .before .loop in (omega (arith, c .before .before .before .before .loop-test .taken), measured (seen s) (s .args .n) (s .args .costs .now) (s .args .terms .now) (l .j) (l .acc) (c .before .one-length .result) (c .add .result) (l .inv .1) (c .before .one-length .ensures) (c .add .ensures))
+loop-again c =
+    let s = c .before .before .before .before .before .before .before .before .before .before .before .before in
+    let l = c .before .before .before .before .before .loop in (
+      omega (arith, c .before .before .before .before .loop-test .taken),
+      measured (seen s) (s .args .n)
+          (s .args .costs .now) (s .args .terms .now) (l .j) (l .acc) (c .before .one-length .result) (c .add .result)
+          (l .inv .1) (c .before .one-length .ensures) (c .add .ensures),
+    )
 
 -- src/lib.rt:36:1
 returns : tie.Need-returns Inv-loop μ-loop
-returns c = let s = c .before .before .before .before .before .before .before .before in let l = c .before .loop in l .inv .1 ∙ ap (λ (x : ℕ). capped (length (replyTexts (seen s) (s .args .n) (s .args .costs .now) (s .args .terms .now) x))) (omega (arith, l .inv .0, c .loop-test .left))
+returns c =
+    let s = c .before .before .before .before .before .before .before .before in
+    let l = c .before .loop in
+    l .inv .1 ∙ ap (λ (x : ℕ). capped
+    (length (replyTexts (seen s) (s .args .n) (s .args .costs .now) (s .args .terms .now) x)))
+    (omega (arith, l .inv .0, c .loop-test .left))
 
 pub texts-length-spec : {M : Type 1} → statement M
 texts-length-spec =

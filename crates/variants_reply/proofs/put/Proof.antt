@@ -1,4 +1,5 @@
--- `variants_reply::put` meets its contract: a well-formed store can be read, and no term has a let name. Assumes nothing.
+-- `variants_reply::put` meets its contract: a well-formed store can be read, and no term has a let name.
+-- Assumes nothing.
 use Prim.Native.Nat.{ℕ, _≤_}
 use mathlib.Core.Path.{ap, _∙_}
 use mathlib.Core.List.{List}
@@ -25,7 +26,8 @@ use Rattle.widths.proofs.widths.Reads as widths-reads
 
 sound :
     (s : tie.Start) →
-    Sound (store (s .args .records .now) (s .args .literals .now) (s .args .names .now) (s .args .terms) (s .args .symbols))
+    Sound (store (s .args .records .now) (s .args .literals .now) (s .args .names .now) (s .args .terms)
+    (s .args .symbols))
 sound s =
     sound-of-wellFormed
     (store (s .args .records .now) (s .args .literals .now) (s .args .names .now) (s .args .terms) (s .args .symbols))
@@ -51,7 +53,10 @@ slice-aggregate-widths-2 c = search needs
 
 -- src/lib.rt:100:5
 widths-requires : tie.Need-widths-requires
-widths-requires c κs = let s = c .before .before .before .before .before .before .before in plain-tables (s .args .records .now) (s .args .literals .now) (s .args .names .now) (replicate 1024 0) (s .args .names .now) (s .args .terms) (readable s) (zeros-get 1024) (replicate 1024 0) (few s) (few s)
+widths-requires c κs =
+    let s = c .before .before .before .before .before .before .before in
+    plain-tables (s .args .records .now) (s .args .literals .now) (s .args .names .now) (replicate 1024 0)
+    (s .args .names .now) (s .args .terms) (readable s) (zeros-get 1024) (replicate 1024 0) (few s) (few s)
 
 -- src/lib.rt:116:9
 slice-aggregate-put-lines : tie.Need-slice-aggregate-put-lines
@@ -63,7 +68,19 @@ slice-aggregate-put-lines-2 c = search needs
 
 -- src/lib.rt:111:5
 put-lines-requires : tie.Need-put-lines-requires
-put-lines-requires c κs = let s = c .before .before .before .before .before .before .before .before .before .before .before .before in (record { readable = readable s; zeros = zeros-get 1024; inPlaces = few s; inWides = omega (arith, few s, c .before .before .before .before .widths .kept .0); widths = c .before .before .before .before .widths .ensures }, s .pre .1)
+put-lines-requires c κs =
+    let s = c .before .before .before .before .before .before .before .before .before .before .before .before in (
+      record {
+        readable = readable s;
+        zeros = zeros-get 1024;
+        inPlaces = few s;
+        inWides =
+            omega (arith, few s, c .before .before .before .before .widths .kept .0);
+        widths = c .before .before .before
+            .before .widths .ensures;
+      },
+      s .pre .1,
+    )
 
 -- src/lib.rt:74:1
 same-length : tie.Need-same-length
@@ -71,7 +88,14 @@ same-length c = search needs
 
 -- src/lib.rt:74:1
 returns : tie.Need-returns
-returns c = let s = c .before .before .before .before .before .before .before .before .before .before .before .before .before .before .before in c .before .before .put-lines .ensures ∙ ap (λ (text : List ℕ). putIn (inRoom (length (s .args .out .now)) (value text)) (s .args .out .now)) (text-is (s .args .records .now) (s .args .literals .now) (s .args .names .now) (s .args .terms) (s .args .symbols) (s .args .costs .now) (s .args .found .now) (s .args .k) (s .args .passes) (s .pre .1 .costs-long) (s .pre .1 .terms-long))
+returns c =
+    let s = c .before .before .before .before .before .before .before .before .before .before .before .before .before
+    .before .before in
+    c .before .before .put-lines .ensures
+    ∙ ap (λ (text : List ℕ). putIn (inRoom (length (s .args .out .now)) (value text)) (s .args .out .now))
+    (text-is (s .args .records .now) (s .args .literals .now) (s .args .names .now) (s .args .terms)
+    (s .args .symbols) (s .args .costs .now) (s .args .found .now) (s .args .k) (s .args .passes)
+    (s .pre .1 .costs-long) (s .pre .1 .terms-long))
 
 pub put-spec : {M : Type 1} → statement M
 put-spec =

@@ -26,7 +26,11 @@ variants-length-requires c κs = search needs
 
 -- src/lib.rt:42:9
 texts-length-requires : tie.Need-texts-length-requires
-texts-length-requires c κs = (c .before .before .before .before .before .before .before .before .pre .0, c .before .before .before .before .before .before .before .before .pre .1)
+texts-length-requires c κs = (
+  c .before .before .before .before .before .before .before .before .pre .0,
+  c .before .before .before .before
+      .before .before .before .before .pre .1,
+)
 
 -- src/lib.rt:53:29
 add-requires : tie.Need-add-requires
@@ -34,15 +38,52 @@ add-requires c κs = omega (arith, c .texts-length .ensures)
 
 -- src/lib.rt:54:9
 returns : tie.Need-returns
-returns c = let s = c .before .before .before .before .before .before .before .before .before .before .before in refuses (seenNodes s) (s .args .n) (s .args .costs .now) (s .args .terms .now) (s .args .k) (s .args .passes) (c .before .before .before .variants-length .result) (c .before .before .texts-length .result) (c .before .add .result) (c .before .before .before .variants-length .ensures) (c .before .before .texts-length .ensures) (c .before .add .ensures) (s .args .out .now) (c .if1 .taken)
+returns c =
+    let s = c .before .before .before .before .before .before .before .before .before .before .before in
+    refuses (seenNodes s) (s .args .n) (s .args .costs .now) (s .args .terms .now) (s .args .k) (s .args .passes)
+    (c .before .before .before .variants-length .result) (c .before .before .texts-length .result)
+    (c .before .add .result) (c .before .before .before .variants-length .ensures)
+    (c .before .before .texts-length .ensures) (c .before .add .ensures) (s .args .out .now) (c .if1 .taken)
 
 -- src/lib.rt:56:9
 put-variants-requires : tie.Need-put-variants-requires
-put-variants-requires c κs = let s = c .before .before .before .before .before .before .before .before .before .before .before .before in omega (arith, roomy (seenNodes s) (s .args .n) (s .args .costs .now) (s .args .terms .now) (s .args .k) (s .args .passes) (c .before .before .before .before .variants-length .result) (c .before .before .before .texts-length .result) (c .before .before .add .result) (c .before .before .before .before .variants-length .ensures) (c .before .before .before .texts-length .ensures) (c .before .before .add .ensures) (length (s .args .out .now)) (omega (arith, s .good)) (c .before .if1 .left))
+put-variants-requires c κs =
+    let s = c .before .before .before .before .before .before .before .before .before .before .before .before in
+    omega (
+      arith,
+      roomy (seenNodes s) (s .args .n) (s .args .costs .now) (s .args .terms .now) (s .args .k)
+          (s .args .passes) (c .before .before .before .before .variants-length .result)
+          (c .before .before .before .texts-length .result) (c .before .before .add .result)
+          (c .before .before .before .before .variants-length .ensures)
+          (c .before .before .before .texts-length .ensures) (c .before .before .add .ensures)
+          (length (s .args .out .now)) (omega (arith, s .good)) (c .before .if1 .left),
+    )
 
 -- src/lib.rt:57:9
 put-texts-requires : tie.Need-put-texts-requires
-put-texts-requires c κs = let s = c .before .before .before .before .before .before .before .before .before .before .before .before .before .before .before .before in (s .pre .0, (s .pre .1, omega (arith, c .before .before .before .put-variants .ensures .place, c .before .before .before .put-variants .kept .0, roomy (seenNodes s) (s .args .n) (s .args .costs .now) (s .args .terms .now) (s .args .k) (s .args .passes) (c .before .before .before .before .before .before .before .before .variants-length .result) (c .before .before .before .before .before .before .before .texts-length .result) (c .before .before .before .before .before .before .add .result) (c .before .before .before .before .before .before .before .before .variants-length .ensures) (c .before .before .before .before .before .before .before .texts-length .ensures) (c .before .before .before .before .before .before .add .ensures) (length (s .args .out .now)) (omega (arith, s .good)) (c .before .before .before .before .before .if1 .left))))
+put-texts-requires c κs =
+    let s = c .before .before .before .before .before .before .before .before .before .before .before .before .before
+    .before .before .before in (
+      s .pre .0,
+      (
+        s .pre .1,
+        omega (
+          arith,
+          c .before .before .before .put-variants .ensures .place,
+          c .before .before
+              .before .put-variants .kept .0,
+          roomy (seenNodes s) (s .args .n) (s .args .costs .now)
+              (s .args .terms .now) (s .args .k) (s .args .passes)
+              (c .before .before .before .before .before .before .before .before .variants-length .result)
+              (c .before .before .before .before .before .before .before .texts-length .result)
+              (c .before .before .before .before .before .before .add .result)
+              (c .before .before .before .before .before .before .before .before .variants-length .ensures)
+              (c .before .before .before .before .before .before .before .texts-length .ensures)
+              (c .before .before .before .before .before .before .add .ensures) (length (s .args .out .now))
+              (omega (arith, s .good)) (c .before .before .before .before .before .if1 .left),
+        ),
+      ),
+    )
 
 -- src/lib.rt:17:1
 same-length : tie.Need-same-length
@@ -50,7 +91,26 @@ same-length c = search needs
 
 -- src/lib.rt:17:1
 returns-2 : tie.Need-returns-2
-returns-2 c = let s = c .before .before .before .before .before .before .before .before .before .before .before .before .before .before .before .before .before .before .before in writes (seenNodes s) (s .args .n) (s .args .costs .now) (s .args .terms .now) (s .args .k) (s .args .passes) (s .args .out .now) (c .before .before .before .before .before .before .put-variants .last .0) (c .before .before .put-texts .last .0) (c .before .before .before .before .before .before .put-variants .result) (c .before .before .put-texts .result) (roomy (seenNodes s) (s .args .n) (s .args .costs .now) (s .args .terms .now) (s .args .k) (s .args .passes) (c .before .before .before .before .before .before .before .before .before .before .before .variants-length .result) (c .before .before .before .before .before .before .before .before .before .before .texts-length .result) (c .before .before .before .before .before .before .before .before .before .add .result) (c .before .before .before .before .before .before .before .before .before .before .before .variants-length .ensures) (c .before .before .before .before .before .before .before .before .before .before .texts-length .ensures) (c .before .before .before .before .before .before .before .before .before .add .ensures) (length (s .args .out .now)) (omega (arith, s .good)) (c .before .before .before .before .before .before .before .before .if1 .left)) (c .before .before .before .before .before .before .put-variants .ensures) (c .before .before .put-texts .ensures)
+returns-2 c =
+    let s = c .before .before .before .before .before .before .before .before .before .before .before .before .before
+    .before .before .before .before .before .before in
+    writes (seenNodes s) (s .args .n) (s .args .costs .now) (s .args .terms .now) (s .args .k) (s .args .passes)
+    (s .args .out .now) (c .before .before .before .before .before .before .put-variants .last .0)
+    (c .before .before .put-texts .last .0)
+    (c .before .before .before .before .before .before .put-variants .result) (c .before .before .put-texts .result)
+    (roomy (seenNodes s) (s .args .n) (s .args .costs .now) (s .args .terms .now) (s .args .k) (s .args .passes)
+    (c .before .before .before .before .before .before .before .before .before .before .before .variants-length
+    .result)
+    (c .before .before .before .before .before .before .before .before .before .before .texts-length .result)
+    (c .before .before .before .before .before .before .before .before .before .add .result)
+    (c .before .before .before .before .before .before .before .before .before .before .before .variants-length
+    .ensures)
+    (c .before .before .before .before .before .before .before .before .before .before .texts-length .ensures)
+    (c .before .before .before .before .before .before .before .before .before .add .ensures)
+    (length (s .args .out .now)) (omega (arith, s .good))
+    (c .before .before .before .before .before .before .before .before .if1 .left))
+    (c .before .before .before .before .before .before .put-variants .ensures)
+    (c .before .before .put-texts .ensures)
 
 pub put-lines-spec : {M : Type 1} → statement M
 put-lines-spec =

@@ -1,0 +1,2 @@
+-- The laws of the crate `refusals`.
+pub mod NumberLaws
