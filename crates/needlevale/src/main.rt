@@ -1,6 +1,7 @@
 // Document 01's program: a query and a table file on standard input, the answer on standard output.
-// The buffer has a place more than the longest valid input of 21,388 bytes, so that what is longer is seen to be so. An
-// input that is closed or cannot be read counts as empty.
+// The buffer has a place more than the 21,388 bytes that an input can have without being refused. What it holds has
+// the answer of the whole input: `same-reply` of front/specs/Promises.antt. An input that is closed or cannot be read
+// counts as empty.
 use libc::STDIN_FILENO;
 use libc::STDOUT_FILENO;
 

@@ -1,0 +1,2 @@
+-- The promises of the crate `front`.
+pub mod Promises
