@@ -48,7 +48,9 @@ module _ (input out : List ℕ) where
       leb (length text) (length out) ≡ b →
       replied input out ≡ putIn (roomed text b) out
   unfolding replied inRoom roomed
-  of-text text b e l = rw (e, l)
+  of-text text b e l =
+      ap (λ (x : Answer (List ℕ)). putIn (inRoom (length out) x) out) e
+      ∙ ap (λ (x : Bool). putIn (roomed text x) out) l
 
   of-refusal : (k : ℕ) → answerTo input ≡ refusal k → replied input out ≡ record { answer = refusal k; out = out }
   unfolding replied inRoom putIn
@@ -137,7 +139,9 @@ module _ (s : Store) (v : ℤ) where
         ]
       ])
   unfolding OnAdds findTerm
-  found-counts (At i) e = inl (first-at (λ (i : ℕ). sameNode (nodeAt s i) (literal v)) (s .terms) 0 i e .1 .0, refl)
+  found-counts (At i) e =
+      let found = first-at (λ (j : ℕ). sameNode (nodeAt s j) (literal v)) (s .terms) 0 i e in
+      inl (omega (arith, found .1), refl)
   found-counts Missing e = missing-counts (roomFor s (literal v))
 
   add-counts : OnAdds (add s (literal v))

@@ -33,7 +33,8 @@ cast-result c =
     let s = c .before .before .before .before .before .before .before .before .before .before .before in
     let a = c .before .before .before .before .before .before .add-literal in
     let t = c .before .added .given in
-    let l = term-within (lent s) (s .args .value) (a .last .0) (a .last .1 .0) (s .args .names .now) (s .args .terms) (s .args .symbols) (a .result)
+    let l = term-within (lent s) (s .args .value) (a .last .0) (a .last .1 .0) (s .args .names .now)
+    (s .args .terms) (s .args .symbols) (a .result)
     (rw (toZ-ofZ (s .fits .value)) at (a .ensures)) (t .0 .0) (t .0 .1 .0) (t .0 .1 .1 .0) (t .1) in
     sfits-of (omega (arith, l))
 
@@ -59,9 +60,11 @@ returns c =
     let s = c .before .before .before .before .before .before .before .before .before .before .before in
     let a = c .before .before .before .before .before .before .add-literal in
     let t = c .before .added .given in
-    let l = term-within (lent s) (s .args .value) (a .last .0) (a .last .1 .0) (s .args .names .now) (s .args .terms) (s .args .symbols) (a .result)
+    let l = term-within (lent s) (s .args .value) (a .last .0) (a .last .1 .0) (s .args .names .now)
+    (s .args .terms) (s .args .symbols) (a .result)
     (rw (toZ-ofZ (s .fits .value)) at (a .ensures)) (t .0 .0) (t .0 .1 .0) (t .0 .1 .1 .0) (t .1) in
-    adds-term (lent s) (s .args .value) (a .last .0) (a .last .1 .0) (s .args .names .now) (s .args .terms) (s .args .symbols) (a .result)
+    adds-term (lent s) (s .args .value) (a .last .0) (a .last .1 .0) (s .args .names .now)
+    (s .args .terms) (s .args .symbols) (a .result)
     (rw (toZ-ofZ (s .fits .value)) at (a .ensures)) (t .0 .0) (t .0 .1 .0) (t .0 .1 .1 .0) _ (t .1) (toZ-pos w64 (omega (arith, l)))
 
 -- src/lib.rt:28:1
@@ -78,7 +81,8 @@ returns-2 c =
     let s = c .before .before .before .before .before .before .before .before .before .before .before .before in
     let a = c .before .before .before .before .before .before .before .add-literal in
     let t = c .before .before .added2 .given in
-    adds-refused (lent s) (s .args .value) (a .last .0) (a .last .1 .0) (s .args .names .now) (s .args .terms) (s .args .symbols) (a .result)
+    adds-refused (lent s) (s .args .value) (a .last .0) (a .last .1 .0) (s .args .names .now)
+    (s .args .terms) (s .args .symbols) (a .result)
     (rw (toZ-ofZ (s .fits .value)) at (a .ensures)) (t .0 .0) _ (t .1) (toZ-ofZ (record { sfits = c .below-zero .ok }) ∙ c .below-zero .ensures)
 
 pub needlevale-add-literal-spec : {M : Type 1} → statement M
