@@ -72,6 +72,15 @@ pub fn few_passes() -> Vec<u8> {
 
 /// 512 classes and 1,024 rows in reverse, so that each pass prices one class more: 513 passes.
 pub fn reversed_chain() -> Vec<u8> {
+    chain(BEST_PLAIN)
+}
+
+/// The deepest term there is: each of its 512 classes stands on the next lower one. In each mode of the program.
+pub fn deepest() -> [(&'static str, Vec<u8>); 3] {
+    [("plain text", chain(BEST_PLAIN)), ("let text", chain(BEST_LET)), ("variants", chain(VARIANTS))]
+}
+
+fn chain(mode: u64) -> Vec<u8> {
     let mut table = Table { sorts: vec![Sort::Eq(512)], ..Table::default() };
     table.functions =
         vec![function(b"S", None, &[0], 0), function(b"T", Some(3), &[0], 0), function(b"Z", None, &[], 0)];
@@ -79,7 +88,7 @@ pub fn reversed_chain() -> Vec<u8> {
         table.rows.extend((1..512).rev().map(|class| row(f, &[class - 1, class])));
     }
     table.rows.extend([row(2, &[0]), row(2, &[0])]);
-    ask(BEST_PLAIN, 511, &table)
+    ask(mode, 511, &table)
 }
 
 /// 1,024 rows of one class, of which 255 are kept.

@@ -1,4 +1,5 @@
-//! Times the proved library and the crate's Rust in one process on the same inputs; prints a table in Markdown.
+//! Times the proved library and the crate's Rust in one process on the same inputs, and measures the library's stack;
+//! prints two tables in Markdown.
 //!
 //! Usage: bench ROUNDS. Both sides must give the same answer first; if they do not, one sentence and exit status 1.
 
@@ -6,6 +7,7 @@ mod inputs;
 mod library;
 mod original;
 mod rounds;
+mod stack;
 
 use rounds::{Side, Took, rounds};
 use std::hint::black_box;
@@ -131,6 +133,19 @@ fn table(count: usize) -> Result<(), String> {
     println!();
     for (row, why) in rows.iter().filter_map(|row| Some((row, row.fault()?))) {
         println!("- Not faster on '{}': {why}.", row.name);
+    }
+    println!();
+    stacks()
+}
+
+/// The stack of the call on the deepest term, on the longest file and on no input.
+fn stacks() -> Result<(), String> {
+    let deep = inputs::deepest().map(|(mode, input)| (format!("the deepest term, 512 classes: {mode}"), input));
+    let others = [("the longest file", inputs::longest()), ("no input", Vec::new())];
+    println!("| Input | Stack of `needlevale_answer`, bytes |");
+    println!("|---|---|");
+    for (name, input) in deep.into_iter().chain(others.map(|(name, input)| (name.to_string(), input))) {
+        println!("| {name} | {} |", stack::used(&input)?);
     }
     Ok(())
 }
