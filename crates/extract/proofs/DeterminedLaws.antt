@@ -25,13 +25,12 @@ use Rattle.refusals.specs.declared.Refusal.the-variants.{
   BadStore,
 }
 use Rattle.refusals.specs.Numbers.{refusalNo}
-use Rattle.store.specs.Lent.{Store, store}
 use Rattle.answers.specs.Answers.{After}
 use Rattle.answers.specs.Best.{BestTerm}
+use Rattle.variant_facts.proofs.OutcomeLaws.{not-refused, same-number, same-value}
 use Rattle.extract.specs.declared.BestAnswer.{BestAnswer}
 use Rattle.extract.specs.declared.BestAnswer.the-variants.{Found, Refused}
 use Rattle.extract.specs.Answered.{seenBest}
-use Rattle.extract.proofs.VerdictLaws.{not-refused, same-number, same-value}
 
 -- The refusals by their numbers, from 1.
 table : List Refusal
@@ -75,7 +74,7 @@ table-get Absent = refl
 table-get BadMode = refl
 table-get BadStore = refl
 
-number-once : (r q : Refusal) → refusalNo r ≡ refusalNo q → r ≡ q
+pub number-once : (r q : Refusal) → refusalNo r ≡ refusalNo q → r ≡ q
 number-once r q e = sym (table-get r) ∙ ap (λ (n : ℕ). getD table (n - 1) Short) e ∙ table-get q
 
 found-same :
