@@ -45,11 +45,11 @@ module _ (n m : ℕ) (rs : List ℕ) (ls : List ℤ) (ns ws us : List ℕ) where
   names-seen (Kept k p a b) = refl
   names-seen (Refused x) = refl
 
-  costs-seen : (r : VariantsAnswer) → seen r .costs ≡ ws
+  pub costs-seen : (r : VariantsAnswer) → seen r .costs ≡ ws
   costs-seen (Kept k p a b) = refl
   costs-seen (Refused x) = refl
 
-  terms-seen : (r : VariantsAnswer) → seen r .terms ≡ us
+  pub terms-seen : (r : VariantsAnswer) → seen r .terms ≡ us
   terms-seen (Kept k p a b) = refl
   terms-seen (Refused x) = refl
 
