@@ -28,9 +28,9 @@ use Rattle.refusals.specs.Numbers.{refusalNo}
 use Rattle.answers.specs.Answers.{After}
 use Rattle.answers.specs.Best.{BestTerm}
 use Rattle.variant_facts.proofs.OutcomeLaws.{not-refused, same-number, same-value}
-use Rattle.extract.specs.declared.BestAnswer.{BestAnswer}
-use Rattle.extract.specs.declared.BestAnswer.the-variants.{Found, Refused}
-use Rattle.extract.specs.Answered.{seenBest}
+use Rattle.single.specs.declared.BestAnswer.{BestAnswer}
+use Rattle.single.specs.declared.BestAnswer.the-variants.{Found, Refused}
+use Rattle.single.specs.Single.{seenBest}
 
 -- The refusals by their numbers, from 1.
 table : List Refusal

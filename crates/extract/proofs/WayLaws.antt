@@ -46,7 +46,7 @@ use Rattle.answers.proofs.BestLaws.{DemandThree, demand-three}
 use Rattle.variant_facts.proofs.OutcomeLaws.{not-refused, same-number, same-value}
 use Rattle.extract.specs.Promises.{Holding, ClassRoot, BaseRoot, PassCount, BaseOutcome}
 use Rattle.extract.proofs.RootLaws.{sort-below, value-in-sort, root-in, best-fault, best-bad, best-rooted}
-use Rattle.extract.proofs.CallLaws.{unformed-refuses, formed-is}
+use Rattle.single.proofs.SingleLaws.{unformed-refuses, formed-is}
 use Rattle.extract.proofs.VerdictLaws.{found-then, number-told}
 
 -- The ways that best takes: the first that the file, the root and the store allow.

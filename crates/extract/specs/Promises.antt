@@ -48,8 +48,8 @@ use Rattle.variant_facts.specs.Told.{
   NotFalling,
   OneLiteral,
 }
-use Rattle.extract.specs.declared.BestAnswer.{BestAnswer}
-use Rattle.extract.specs.Answered.{seenBest}
+use Rattle.single.specs.declared.BestAnswer.{BestAnswer}
+use Rattle.single.specs.Single.{seenBest}
 
 -- The file is accepted and holds table t.
 pub record Holding (file : List ℕ) (t : Table) : Type 0 where

@@ -10,7 +10,7 @@ use Rattle.answers.specs.Best.{BestTerm, bestAt}
 use Rattle.answers.specs.Variants.{VariantsAfter, variantsAt}
 use Rattle.variant_answers.specs.Kept.{lending}
 use Rattle.several.specs.declared.VariantsAnswer.{VariantsAnswer}
-use Rattle.extract.specs.declared.BestAnswer.{BestAnswer}
+use Rattle.single.specs.declared.BestAnswer.{BestAnswer}
 use Rattle.lent_extract.specs.Left.{LentBest, LentVariants}
 
 pub record Promises : Type 0 where
