@@ -5,10 +5,10 @@ ghost use lib.ListN.{length, take};
 ghost use Rattle.replies.specs.Reply.{callOf, replied, inRoom, putIn};
 ghost use Rattle.replies.specs.Seen.{seen};
 ghost use Rattle.answering.specs.Calls.{asked, bestCall, variantsCall, Responds};
-use extract::BestAnswer;
 use queries::Asked;
 use replies::Answered;
 use several::VariantsAnswer;
+use single::BestAnswer;
 
 // Best of a file into a store that starts empty, and its text.
 fn best_of(plain: bool, file: &[u8], sort: u64, value: u64, out: &mut [u8]) -> Answered

@@ -1,82 +1,16 @@
 -- What is seen the same is the same: refusals have different numbers. Assumes nothing.
 use mathlib.Core.Path.{_≡_, refl, ap, sym, _∙_}
-use mathlib.Core.List.{List, [], _∷_}
-use Prim.Native.Nat.{ℕ, _-_}
+use mathlib.Core.List.{List}
+use Prim.Native.Nat.{ℕ}
 use lib.IntN.{ℤ}
-use lib.ListN.{getD}
 use Rattle.refusals.specs.declared.Refusal.{Refusal}
-use Rattle.refusals.specs.declared.Refusal.the-variants.{
-  Short,
-  BadVersion,
-  BadSize,
-  BadName,
-  DupName,
-  BadSort,
-  BadFunction,
-  BadValue,
-  Trailing,
-  BadRoot,
-  NoTerm,
-  TooDear,
-  NoRoom,
-  BadTerm,
-  Absent,
-  BadMode,
-  BadStore,
-}
-use Rattle.refusals.specs.Numbers.{refusalNo}
-use Rattle.store.specs.Lent.{Store, store}
+use Rattle.refusals.proofs.NumberLaws.{number-once}
 use Rattle.answers.specs.Answers.{After}
 use Rattle.answers.specs.Best.{BestTerm}
-use Rattle.extract.specs.declared.BestAnswer.{BestAnswer}
-use Rattle.extract.specs.declared.BestAnswer.the-variants.{Found, Refused}
-use Rattle.extract.specs.Answered.{seenBest}
-use Rattle.extract.proofs.VerdictLaws.{not-refused, same-number, same-value}
-
--- The refusals by their numbers, from 1.
-table : List Refusal
-table =
-    Short
-    ∷ BadVersion
-    ∷ BadSize
-    ∷ BadName
-    ∷ DupName
-    ∷ BadSort
-    ∷ BadFunction
-    ∷ BadValue
-    ∷ Trailing
-    ∷ BadRoot
-    ∷ NoTerm
-    ∷ TooDear
-    ∷ NoRoom
-    ∷ BadTerm
-    ∷ Absent
-    ∷ BadMode
-    ∷ BadStore
-    ∷ []
-
-table-get : (r : Refusal) → getD table (refusalNo r - 1) Short ≡ r
-unfolding table
-table-get Short = refl
-table-get BadVersion = refl
-table-get BadSize = refl
-table-get BadName = refl
-table-get DupName = refl
-table-get BadSort = refl
-table-get BadFunction = refl
-table-get BadValue = refl
-table-get Trailing = refl
-table-get BadRoot = refl
-table-get NoTerm = refl
-table-get TooDear = refl
-table-get NoRoom = refl
-table-get BadTerm = refl
-table-get Absent = refl
-table-get BadMode = refl
-table-get BadStore = refl
-
-number-once : (r q : Refusal) → refusalNo r ≡ refusalNo q → r ≡ q
-number-once r q e = sym (table-get r) ∙ ap (λ (n : ℕ). getD table (n - 1) Short) e ∙ table-get q
+use Rattle.variant_facts.proofs.OutcomeLaws.{not-refused, same-number, same-value}
+use Rattle.single.specs.declared.BestAnswer.{BestAnswer}
+use Rattle.single.specs.declared.BestAnswer.the-variants.{Found, Refused}
+use Rattle.single.specs.Single.{seenBest}
 
 found-same :
     {w w′ i i′ p p′ n n′ m m′ : ℕ} →

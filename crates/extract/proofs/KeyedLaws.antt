@@ -1,5 +1,5 @@
 -- The lists that a loaded table leaves have what the variants are sorted by. Assumes nothing.
-use mathlib.Core.Path.{_≡_, refl, ap, sym, _∙_, subst}
+use mathlib.Core.Path.{_≡_, refl, ap, sym, _∙_}
 use mathlib.Core.List.{List, map}
 use Prim.{Dec, yes, no}
 use Prim.Native.Nat.{ℕ, _+_, _*_, _-_, _<_, _≤_}

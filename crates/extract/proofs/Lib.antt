@@ -8,4 +8,6 @@ pub mod VariantCallLaws
 pub mod VerdictLaws
 pub mod WayLaws
 pub mod DeterminedLaws
+pub mod VariantWayLaws
+pub mod VariantDeterminedLaws
 pub mod Promises

@@ -13,6 +13,37 @@ use Rattle.rules.specs.Terms.{literalOf}
 use Rattle.rules.specs.Choosing.{limit, answerFor}
 use Rattle.answers.specs.Answers.{value, After}
 use Rattle.answers.specs.Best.{BestTerm, bestAt}
+use Rattle.answers.specs.Variants.{keptRows, variantsAt}
+use Rattle.variant_facts.proofs.OutcomeLaws.{
+  dear-told,
+  dear-refused,
+  full-told,
+  full-refused,
+  literal-full,
+  literal-refused,
+}
+use Rattle.variant_facts.proofs.WayLaws.{at-fault}
+use Rattle.variant_facts.proofs.CallLaws.{
+  literal-after,
+  variants-returned,
+  variants-rest,
+  variants-unchanged,
+  variants-number,
+  variants-not-eleven,
+  bad-root-then as bad-root-told,
+  bad-root-when,
+  bad-store-then as bad-store-told,
+  bad-store-when,
+}
+use Rattle.variant_facts.proofs.FirstLaws.{first-rows}
+use Rattle.variant_facts.proofs.ClassLaws.{
+  class-full,
+  class-comes-back,
+  class-passes as kept-passes,
+  class-few,
+  class-not-falling,
+  class-none,
+}
 use Rattle.extract.specs.Promises.{ClassRoot, BaseRoot, BaseOutcome, PassCount, Promises}
 use Rattle.extract.proofs.RootLaws.{best-fault}
 use Rattle.extract.proofs.VerdictLaws.{
@@ -42,6 +73,8 @@ use Rattle.extract.proofs.WayLaws.{
   value-returned,
 }
 use Rattle.extract.proofs.DeterminedLaws.{best-once}
+use Rattle.extract.proofs.VariantDeterminedLaws.{variants-once}
+use Rattle.extract.proofs.VariantWayLaws.{class-known, class-reached, class-outcome, base-kept}
 
 told : {a b : After BestTerm} → a ≡ b → a .answer ≡ b .answer
 told e = ap (λ (x : After BestTerm). x .answer) e
@@ -103,4 +136,55 @@ promises = record {
   unchanged = refusal-unchanged;
   returned = value-returned;
   one-answer = best-once;
+  variants-kept = λ file root v n t l r f.
+      first-rows t (class-known file root v n t l r) root (r .sort) (flatClass t root v)
+      (class-reached file root v n t l r) n;
+  variants-come-back = λ file root v n t l r f.
+      class-comes-back t (class-known file root v n t l r) root (r .sort) (flatClass t root v)
+      (class-reached file root v n t l r) n l f (variantsAt file root v n l) (class-outcome file root v n t l r f);
+  variants-few = λ file root v n t l r f.
+      class-few t (class-known file root v n t l r) root (r .sort) (flatClass t root v)
+      (class-reached file root v n t l r) n l f (variantsAt file root v n l) (class-outcome file root v n t l r f);
+  variants-sorted = λ file root v n t l r f.
+      class-not-falling t (class-known file root v n t l r) root (r .sort) (flatClass t root v)
+      (class-reached file root v n t l r) n l f (variantsAt file root v n l) (class-outcome file root v n t l r f);
+  variants-none = λ file root v n t l r f.
+      class-none t (class-known file root v n t l r) root (r .sort) (flatClass t root v)
+      (class-reached file root v n t l r) n l f (variantsAt file root v n l) (class-outcome file root v n t l r f);
+  variants-passes = λ file root v n t l r f k e.
+      pass-count t (class-known file root v n t l r) root (k .passes) (r .sort)
+      (kept-passes t (class-known file root v n t l r) root (r .sort) (flatClass t root v)
+      (class-reached file root v n t l r) n l f (variantsAt file root v n l) (class-outcome file root v n t l r f) k e);
+  variants-base-root = λ file root v n t l r f k e.
+      literal-after l f (literalOf t v) (variantsAt file root v n l) k e (base-kept file root v n t l r f) .0;
+  variants-file-first = λ file root v n l x e. at-fault file root v n l x e;
+  variants-bad-root = λ file root v n t l h.
+      (bad-root-told file root v n l t (h .end) (h .is), bad-root-when file root v n l t (h .end) (h .is));
+  variants-bad-store = λ file root v n t l h p. (
+    bad-store-told file root v n l t (h .end) (h .is) p,
+    bad-store-when file root v n l t (h .end) (h .is) p,
+  );
+  variants-too-dear = λ file root v n t l r f.
+      let rows = keptRows t root (flatClass t root v) n in
+      let a = variantsAt file root v n l in
+      let o = class-outcome file root v n t l r f in
+      (dear-told t root l rows a o, dear-refused t root l rows a o);
+  variants-no-room = λ file root v n t l r f.
+      let rows = keptRows t root (flatClass t root v) n in
+      let a = variantsAt file root v n l in
+      let o = class-outcome file root v n t l r f in
+      (full-told t root l rows a o, λ q. full-refused t root l rows a o (q .0) (q .1));
+  variants-full = λ file root v n t l r f.
+      class-full t (class-known file root v n t l r) root (r .sort) (flatClass t root v)
+      (class-reached file root v n t l r) n l f (variantsAt file root v n l) (class-outcome file root v n t l r f);
+  variants-base-no-room = λ file root v n t l r f.
+      let a = variantsAt file root v n l in
+      let o = base-kept file root v n t l r f in
+      (literal-full l (literalOf t v) a o, literal-refused l (literalOf t v) a o);
+  variants-numbers = λ file root v n l. variants-number l file root v n;
+  variants-not-eleven = λ file root v n l. variants-not-eleven l file root v n;
+  variants-unchanged = λ file root v n l. variants-unchanged l file root v n;
+  variants-returned = λ file root v n l. variants-returned l file root v n;
+  variants-rest = λ file root v n l. variants-rest l file root v n;
+  variants-one-answer = variants-once;
 }

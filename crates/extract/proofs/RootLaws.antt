@@ -1,6 +1,6 @@
 -- What a root is, and what best answers for it. Assumes nothing.
 use mathlib.Core.Path.{_≡_, refl, ap, sym, _∙_, subst}
-use mathlib.Core.Bool.{true, false, _&&_}
+use mathlib.Core.Bool.{true, false}
 use mathlib.Core.List.{List}
 use Prim.Native.Nat.{ℕ, _<_}
 use native.Mathlib.Omega.{arith}
@@ -22,13 +22,12 @@ use Rattle.rules.specs.Terms.{literalOf}
 use Rattle.rules.proofs.ClassLaws.{flatClass-below}
 use Rattle.rules.proofs.CoverLaws.{rangeOf-eq}
 use Rattle.prepare.specs.Rooted.{rootOf}
-use Rattle.prepare.specs.declared.Root.{Root}
 use Rattle.prepare.specs.declared.Root.the-variants.{Bad, Class as RootClass, Literal as RootLiteral}
-use Rattle.loading.specs.Loading.{Asked, fault as asFault, literal as asLiteral, class as asClass, askedOf, asked}
-use Rattle.answers.specs.Answers.{After, refused}
+use Rattle.loading.specs.Loading.{fault as asFault, literal as asLiteral, class as asClass, askedOf, asked}
+use Rattle.answers.specs.Answers.{refused}
 use Rattle.rules.specs.Choosing.{answerFor}
-use Rattle.answers.specs.Best.{BestTerm, bestLiteral, bestClass, bestOf, bestAt}
-use Rattle.extract.specs.Answered.{ifFormed, literalAnswer, classAnswer}
+use Rattle.answers.specs.Best.{bestLiteral, bestClass, bestOf, bestAt}
+use Rattle.single.specs.Single.{ifFormed, literalAnswer, classAnswer}
 
 pub differ : {P : Type 0} → _≡_ {A = ℕ} 0 1 → P
 differ z = absurd (omega arith)

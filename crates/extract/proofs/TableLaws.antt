@@ -26,7 +26,7 @@ use Rattle.loading.specs.Loading.{OnClass, Standing}
 use Rattle.loading.specs.declared.Loaded.{Loaded}
 use Rattle.loading.specs.declared.Loaded.the-variants.{Class}
 use Rattle.best.specs.Flat.{FlatTable}
-use Rattle.extract.specs.Answered.{FlatClass}
+use Rattle.single.specs.Single.{FlatClass}
 
 -- The functions' names in an array of n bytes, 32 for each.
 module _

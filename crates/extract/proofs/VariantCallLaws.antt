@@ -1,12 +1,10 @@
 -- Each answer of `variants` is the definition's, by what was loaded. Assumes nothing.
-use mathlib.Core.Path.{_≡_, ap, sym, _∙_, subst}
+use mathlib.Core.Path.{_≡_, ap, sym, _∙_}
 use mathlib.Core.List.{List}
-use Prim.Native.Nat.{ℕ, _<_}
-use native.Mathlib.Omega.{arith}
+use Prim.Native.Nat.{ℕ}
 use lib.IntN.{ℤ, pos}
 use lib.ListN.{length, getD}
 use Rattle.refusals.specs.declared.Refusal.{Refusal}
-use Rattle.format.specs.Table.{Table}
 use Rattle.format.specs.File.{tableAt}
 use Rattle.rules.specs.Facts.{Known}
 use Rattle.held.proofs.KnownLaws.{known-of-accepted}
@@ -16,7 +14,7 @@ use Rattle.loading.specs.declared.Loaded.the-variants.{Refused as NotLoaded, Cl
 use Rattle.loading.proofs.LoadLaws.{accepted-of}
 use Rattle.answers.specs.Variants.{VariantsAfter, Lending, variantsRefused, variantsAt}
 use Rattle.several.specs.Several.{literalAnswer, KeyedTable, SomeTable, ClassAnswers}
-use Rattle.extract.proofs.TableLaws.{functions-length, labels-length, values-length, value-is}
+use Rattle.extract.proofs.TableLaws.{value-is}
 use Rattle.extract.proofs.KeyedLaws.{arities-length, cells-length, keyed-table}
 use Rattle.extract.proofs.VariantRootLaws.{LiteralRoot, ClassRoot, variants-refuse, literal-root, class-root}
 use Rattle.extract.proofs.CallLaws.{standing}

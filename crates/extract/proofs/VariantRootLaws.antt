@@ -1,5 +1,5 @@
 -- What a root is, and what variants answer for it. Assumes nothing.
-use mathlib.Core.Path.{_≡_, refl, ap, sym, _∙_, subst}
+use mathlib.Core.Path.{_≡_, refl, ap, sym, _∙_}
 use mathlib.Core.Bool.{true, false}
 use mathlib.Core.List.{List}
 use Prim.Native.Nat.{ℕ, _<_}
@@ -16,7 +16,7 @@ use Rattle.format.specs.File.{tableAt}
 use Rattle.rules.specs.Classes.{sortOf, flatClass, isRoot}
 use Rattle.rules.specs.Terms.{literalOf}
 use Rattle.prepare.specs.Rooted.{rootOf}
-use Rattle.loading.specs.Loading.{Asked, fault as asFault, literal as asLiteral, class as asClass, askedOf, asked}
+use Rattle.loading.specs.Loading.{fault as asFault, literal as asLiteral, class as asClass, askedOf, asked}
 use Rattle.answers.specs.Variants.{
   Lending,
   keptRows,
@@ -27,19 +27,12 @@ use Rattle.answers.specs.Variants.{
   variantsAt,
 }
 use Rattle.several.specs.Several.{ifFormed, literalAnswer, classAnswer}
+use Rattle.variant_facts.proofs.WayLaws.{at-fault, at-bad}
 use Rattle.extract.proofs.RootLaws.{differ, root-bad, root-literal, root-class, sort-below, literal-below}
 
 -- What variants answer, by the file, the root and its kind.
 module _ (file : List ℕ) (s v most : ℕ) (l : Lending) where
-  at-fault : (x : Refusal) → tableAt file ≡ fault x → variantsAt file s v most l ≡ variantsRefused x l
-  unfolding variantsAt
-  at-fault x e = rw (e, variantsAt)
-
   module _ (t : Table) (k : ℕ) (e : tableAt file ≡ got t k) where
-    at-bad : isRoot t s v ≡ false → variantsAt file s v most l ≡ variantsRefused BadRoot l
-    unfolding variantsAt
-    at-bad p = rw (e, p, variantsAt)
-
     module _ (p : isRoot t s v ≡ true) where
       at-root : variantsAt file s v most l ≡ ifFormed l (variantsOf t s v most l)
       unfolding variantsAt ifFormed

@@ -12,19 +12,8 @@ use Rattle.rules.specs.Rows.{tableRows, usable}
 use Rattle.answers.specs.Answers.{Answer, value, refusal, After}
 use Rattle.answers.specs.Best.{BestTerm}
 use Rattle.answers.specs.Demand.{ComesBack, HasNoRoom, BestOutcome, Kept}
+use Rattle.variant_facts.proofs.OutcomeLaws.{not-refused, same-number, same-value}
 use Rattle.extract.specs.Promises.{Derivation}
-
--- A value is no refusal, and refusals differ where their numbers do.
-pub not-refused : {P A : Type 0} {b : A} {k : ℕ} → value b ≡ refusal k → P
-not-refused e =
-    let z : _≡_ {A = ℕ} 0 1 = cc in
-    absurd (omega arith)
-
-pub same-number : {A : Type 0} {j k : ℕ} → _≡_ {A = Answer A} (refusal j) (refusal k) → j ≡ k
-same-number e = cc
-
-pub same-value : {A : Type 0} {b d : A} → value b ≡ value d → b ≡ d
-same-value e = cc
 
 -- The outcome of a best verdict, by its answer.
 module _ (t : Table) (c w : ℕ) (s s′ : Store) where

@@ -43,10 +43,11 @@ use Rattle.answers.specs.Best.{BestTerm, bestLiteral, bestBuilt, bestClass, bes
 use Rattle.answers.specs.Plan.{planFor, rankFor}
 use Rattle.answers.specs.Demand.{HasNoRoom, Kept}
 use Rattle.answers.proofs.BestLaws.{DemandThree, demand-three}
+use Rattle.variant_facts.proofs.OutcomeLaws.{not-refused, same-number, same-value}
 use Rattle.extract.specs.Promises.{Holding, ClassRoot, BaseRoot, PassCount, BaseOutcome}
 use Rattle.extract.proofs.RootLaws.{sort-below, value-in-sort, root-in, best-fault, best-bad, best-rooted}
-use Rattle.extract.proofs.CallLaws.{unformed-refuses, formed-is}
-use Rattle.extract.proofs.VerdictLaws.{not-refused, same-number, same-value, found-then, number-told}
+use Rattle.single.proofs.SingleLaws.{unformed-refuses, formed-is}
+use Rattle.extract.proofs.VerdictLaws.{found-then, number-told}
 
 -- The ways that best takes: the first that the file, the root and the store allow.
 pub data Way (file : List ℕ) (root v : ℕ) (s : Store) : Type 0 where
@@ -96,11 +97,11 @@ module _ (file : List ℕ) (root v : ℕ) (s : Store) where
           best-is f ∙ d
 
     -- a class, and a base root, are roots
-    class-root-in : ClassRoot file root v t → isRoot t root v ≡ true
+    pub class-root-in : ClassRoot file root v t → isRoot t root v ≡ true
     class-root-in r =
         root-in t root v (r .sort) (subst (λ (n : ℕ). v < n) (sym (rangeOf-eq t root (r .eq))) (r .inside))
 
-    base-root-in : BaseRoot file root v t → isRoot t root v ≡ true
+    pub base-root-in : BaseRoot file root v t → isRoot t root v ≡ true
     unfolding rangeOf
     base-root-in r =
         let e : rangeOf t root ≡ length (t .literals) = rw (eq-eqb (sortOf t root .kind) 0 (r .base), rangeOf) in

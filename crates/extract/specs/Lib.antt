@@ -1,3 +1,2 @@
--- The definitions of the crate `extract`: how the calls' answers are read, and what their parts ask.
-pub mod Answered
+-- The definitions of the crate `extract`: what its calls promise.
 pub mod Promises

@@ -1,5 +1,6 @@
--- What best promises beside its contract: demand 3 of document 00, and document 01, 'Costs and choice' and 'Refusal
--- numbers'. `bestAt` is the definition that `best` equals: an answer, and the lent store as it is left.
+-- What best and variants promise beside their contracts: demand 3 of document 00, and document 01, 'Costs and choice'
+-- and 'Refusal numbers'. `bestAt` is the definition that `best` equals: an answer, and the lent store as it is left.
+-- `variantsAt` is that of `variants`, which leaves two lists of results besides.
 -- Assumes nothing: statements, kept by `promises` of proofs/Promises.antt.
 use mathlib.Core.Path.{_≡_}
 use mathlib.Core.Bool.{true, false}
@@ -9,11 +10,10 @@ use Prim.Native.Nat.{ℕ, _+_, _<_, _≤_}
 use lib.IntN.{ℤ}
 use lib.ListN.{length}
 use Rattle.refusals.specs.declared.Refusal.{Refusal}
-use Rattle.refusals.specs.declared.Refusal.the-variants.{BadRoot, BadStore}
 use Rattle.fields.specs.Got.{got, refused as fault}
 use Rattle.store.specs.Lent.{Store}
 use Rattle.store.specs.WellFormed.{wellFormed}
-use Rattle.store.specs.Nodes.{Node, literal}
+use Rattle.store.specs.Nodes.{literal}
 use Rattle.store.specs.Adding.{add, noRoom}
 use Rattle.adding.specs.Growing.{Grows, Takes}
 use Rattle.choice.specs.Deriving.{Tree, treeCost}
@@ -29,8 +29,27 @@ use Rattle.rules.specs.Choosing.{limit}
 use Rattle.answers.specs.Answers.{Answer, value, refusal, After, refused}
 use Rattle.answers.specs.Best.{BestTerm, bestAt}
 use Rattle.answers.specs.Demand.{ComesBack, HasNoRoom, BestOutcome}
-use Rattle.extract.specs.declared.BestAnswer.{BestAnswer}
-use Rattle.extract.specs.Answered.{seenBest}
+use Rattle.answers.specs.Variants.{keptRows, Kept, VariantsAfter, Lending, variantsRefused, variantsAt}
+use Rattle.ranking.specs.Arrays.{AllBelow}
+use Rattle.several.specs.declared.VariantsAnswer.{VariantsAnswer}
+use Rattle.several.specs.Several.{seenVariants}
+use Rattle.variant_facts.specs.Returned.{Returned}
+use Rattle.variant_facts.specs.First.{FirstRows, keptFileRows, keptCosts, ComeBack}
+use Rattle.variant_facts.specs.Told.{
+  OneOf,
+  HasDear,
+  NoPlaces,
+  NoRoomFor,
+  NoRoomForLiteral,
+  FullAfter,
+  Unchanged,
+  EmptyList,
+  RestStays,
+  NotFalling,
+  OneLiteral,
+}
+use Rattle.single.specs.declared.BestAnswer.{BestAnswer}
+use Rattle.single.specs.Single.{seenBest}
 
 -- The file is accepted and holds table t.
 pub record Holding (file : List ℕ) (t : Table) : Type 0 where
@@ -74,6 +93,22 @@ pub record PassCount (t : Table) (root p : ℕ) : Type 0 where
 abbrev pub BaseOutcome : ℤ → Store → Store → Answer BestTerm → Type 0
 BaseOutcome z s s′ (value b) = (b .cost ≡ 1) × (b .passes ≡ 1) × Takes s (literal z) (b .term) s′
 BaseOutcome z s s′ (refusal k) = (k ≡ 13) × (s′ ≡ s) × (add s (literal z) ≡ noRoom)
+
+-- P of what variants answer: of the table, the root sort, the class, the number asked for, what is lent and the answer.
+abbrev pub OfVariants : (Table → ℕ → ℕ → ℕ → Lending → VariantsAfter → Type 0) → Type 0
+OfVariants P =
+    (file : List ℕ) (root v n : ℕ) (t : Table) (l : Lending) →
+    ClassRoot file root v t →
+    wellFormed (l .store) ≡ true →
+    P t root (flatClass t root v) n l (variantsAt file root v n l)
+
+-- The same of a base root: of its literal, what is lent and the answer.
+abbrev pub OfBaseRoots : (ℤ → Lending → VariantsAfter → Type 0) → Type 0
+OfBaseRoots P =
+    (file : List ℕ) (root v n : ℕ) (t : Table) (l : Lending) →
+    BaseRoot file root v t →
+    wellFormed (l .store) ≡ true →
+    P (literalOf t v) l (variantsAt file root v n l)
 
 pub record Promises : Type 0 where
   -- "If none derives the root, and only then, the answer is NoTerm."
@@ -142,3 +177,84 @@ pub record Promises : Type 0 where
       (r q : BestAnswer) (rs rs′ : List ℕ) (ls ls′ : List ℤ) (ns ns′ : List ℕ) (n m : ℕ) →
       seenBest r rs ls ns n m ≡ seenBest q rs′ ls′ ns′ n m →
       (r ≡ q) × (rs ≡ rs′) × (ls ≡ ls′) × (ns ≡ ns′)
+  -- Variants, "every usable row of it with a cost, sorted by cost, function name bytes, row cells as numbers (literal
+  -- indices, not values), then the first n": the rows that are kept are these, at these costs.
+  pub variants-kept : OfVariants (λ t root c n l a. FirstRows t c n (keptFileRows t root c n) (keptCosts t root c n))
+  -- What comes back is a term for each of them in the returned store: it derives the class, its exact cost is the
+  -- number told, and that is below 2^64-1.
+  pub variants-come-back :
+      OfVariants
+      (λ t root c n l a.
+      (k : Kept) → a .answer ≡ value k → ComeBack t c (keptFileRows t root c n) (keptCosts t root c n) a k)
+  -- "then the first n": at most n,
+  pub variants-few : OfVariants (λ t root c n l a. (k : Kept) → a .answer ≡ value k → k .count ≤ n)
+  -- "sorted by cost": the costs told do not fall.
+  pub variants-sorted :
+      OfVariants (λ t root c n l a. (k : Kept) → a .answer ≡ value k → NotFalling (a .costs) (k .count))
+  -- "None is an empty list", where no term derives the class.
+  pub variants-none : OfVariants (λ t root c n l a. ((u : Tree) → Derivation t c u → ⊥) → EmptyList l a)
+  -- "The answer carries the number of passes", as best's does.
+  pub variants-passes : OfVariants (λ t root c n l a. (k : Kept) → a .answer ≡ value k → PassCount t root (k .passes))
+  -- "A base root gives one variant, even for n = 0."
+  pub variants-base-root :
+      OfBaseRoots (λ z l a. (k : Kept) → a .answer ≡ value k → OneLiteral z l a (k .count) (k .passes))
+  -- "Best and variants: file, 10, 17, 11, 12, 13": the file's first fault comes before all,
+  pub variants-file-first :
+      (file : List ℕ) (root v n : ℕ) (l : Lending) (x : Refusal) →
+      tableAt file ≡ fault x →
+      variantsAt file root v n l ≡ variantsRefused x l
+  -- then BadRoot: "asked sort not below S, or value out of its range",
+  pub variants-bad-root :
+      (file : List ℕ) (root v n : ℕ) (t : Table) (l : Lending) →
+      Holding file t →
+      (variantsAt file root v n l .answer ≡ refusal 10) ↔ (isRoot t root v ≡ false)
+  -- then BadStore: "the lent store is not well formed",
+  pub variants-bad-store :
+      (file : List ℕ) (root v n : ℕ) (t : Table) (l : Lending) →
+      Holding file t →
+      isRoot t root v ≡ true →
+      (variantsAt file root v n l .answer ≡ refusal 17) ↔ (wellFormed (l .store) ≡ false)
+  -- then TooDear: "variants: a kept one costs 2^64-1 after saturation",
+  pub variants-too-dear :
+      OfVariants (λ t root c n l a. (a .answer ≡ refusal 12) ↔ HasDear (keptCosts t root c n))
+  -- then NoRoom: "new terms or names exceed the store's room .., or the result its lent buffer".
+  pub variants-no-room :
+      OfVariants
+      (λ t root c n l a.
+      (a .answer ≡ refusal 13)
+      ↔ (AllBelow limit (keptCosts t root c n) × NoRoomFor t root (keptRows t root c n) l))
+  -- If the results have their places, some store that grew from the lent one had no room for a term.
+  pub variants-full :
+      OfVariants
+      (λ t root c n l a.
+      a .answer ≡ refusal 13 → NoPlaces l (length (keptRows t root c n)) ⊎ FullAfter (l .store))
+  pub variants-base-no-room : OfBaseRoots (λ z l a. (a .answer ≡ refusal 13) ↔ NoRoomForLiteral z l)
+  -- No other number is told: the file's own, 10, 17, 12 and 13,
+  pub variants-numbers :
+      (file : List ℕ) (root v n : ℕ) (l : Lending) (k : ℕ) →
+      variantsAt file root v n l .answer ≡ refusal k →
+      OneOf file k
+  -- never 11, "best only".
+  pub variants-not-eleven :
+      (file : List ℕ) (root v n : ℕ) (l : Lending) → variantsAt file root v n l .answer ≡ refusal 11 → ⊥
+  -- "Nothing lent is changed" by a refusal: the store and both lists are as they were.
+  pub variants-unchanged :
+      (file : List ℕ) (root v n : ℕ) (l : Lending) (k : ℕ) →
+      variantsAt file root v n l .answer ≡ refusal k →
+      Unchanged l (variantsAt file root v n l)
+  -- A store that comes back is well formed, keeps every term under its number, and has every term that is told,
+  pub variants-returned :
+      (file : List ℕ) (root v n : ℕ) (l : Lending) (k : Kept) →
+      variantsAt file root v n l .answer ≡ value k →
+      Returned (l .store) (variantsAt file root v n l .store) (variantsAt file root v n l .costs)
+      (variantsAt file root v n l .terms) (k .count)
+  -- and what is past the results stays in both lists.
+  pub variants-rest :
+      (file : List ℕ) (root v n : ℕ) (l : Lending) (k : Kept) →
+      variantsAt file root v n l .answer ≡ value k →
+      RestStays l (variantsAt file root v n l) (k .count)
+  -- Any two answers that the contract of `variants` allows coincide, and so do all lists that it leaves.
+  pub variants-one-answer :
+      (r q : VariantsAnswer) (n m : ℕ) (rs rs′ : List ℕ) (ls ls′ : List ℤ) (ns ns′ ws ws′ us us′ : List ℕ) →
+      seenVariants r n m rs ls ns ws us ≡ seenVariants q n m rs′ ls′ ns′ ws′ us′ →
+      (r ≡ q) × (rs ≡ rs′) × (ls ≡ ls′) × (ns ≡ ns′) × (ws ≡ ws′) × (us ≡ us′)

@@ -23,9 +23,9 @@ use Rattle.lent.proofs.StoreLaws.{
 use Rattle.answers.specs.Answers.{After}
 use Rattle.answers.specs.Best.{BestTerm}
 use Rattle.answers.specs.Variants.{VariantsAfter}
-use Rattle.extract.specs.Answered.{seenBest}
-use Rattle.extract.specs.declared.BestAnswer.{BestAnswer}
-use Rattle.extract.specs.declared.BestAnswer.the-variants.{Found, Refused}
+use Rattle.single.specs.Single.{seenBest}
+use Rattle.single.specs.declared.BestAnswer.{BestAnswer}
+use Rattle.single.specs.declared.BestAnswer.the-variants.{Found, Refused}
 use Rattle.several.specs.Several.{seenVariants}
 use Rattle.several.specs.declared.VariantsAnswer.{VariantsAnswer}
 use Rattle.several.specs.declared.VariantsAnswer.the-variants.{Kept, Refused as NotKept}

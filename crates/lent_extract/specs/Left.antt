@@ -12,8 +12,8 @@ use Rattle.lent.specs.declared.Flat.{Flat}
 use Rattle.answers.specs.Answers.{After}
 use Rattle.answers.specs.Best.{BestTerm}
 use Rattle.answers.specs.Variants.{VariantsAfter}
-use Rattle.extract.specs.declared.BestAnswer.{BestAnswer}
-use Rattle.extract.specs.Answered.{seenBest}
+use Rattle.single.specs.declared.BestAnswer.{BestAnswer}
+use Rattle.single.specs.Single.{seenBest}
 use Rattle.several.specs.declared.VariantsAnswer.{VariantsAnswer}
 use Rattle.several.specs.Several.{seenVariants}
 use Rattle.lent_extract.specs.declared.Chosen.{Chosen}

@@ -1,5 +1,5 @@
--- What the calls on lent lists promise beside their contracts. Assumes nothing: a record, with one field for each
--- theorem.
+-- What the calls on lent lists promise beside their contracts: document 01, 'Refusal numbers' and 'How tightly the
+-- answers are fixed'. Assumes nothing: a record, with one field for each theorem.
 use Prim.Native.Nat.{ℕ}
 use mathlib.Core.Path.{_≡_}
 use mathlib.Core.List.{List}
@@ -7,8 +7,11 @@ use Rattle.store.specs.declared.Term.{Term}
 use Rattle.lent.specs.Records.{lentStore}
 use Rattle.answers.specs.Answers.{After, refusal}
 use Rattle.answers.specs.Best.{BestTerm, bestAt}
-use Rattle.extract.specs.declared.BestAnswer.{BestAnswer}
-use Rattle.lent_extract.specs.Left.{LentBest}
+use Rattle.answers.specs.Variants.{VariantsAfter, variantsAt}
+use Rattle.variant_answers.specs.Kept.{lending}
+use Rattle.several.specs.declared.VariantsAnswer.{VariantsAnswer}
+use Rattle.single.specs.declared.BestAnswer.{BestAnswer}
+use Rattle.lent_extract.specs.Left.{LentBest, LentVariants}
 
 pub record Promises : Type 0 where
   -- "Each returns its number alone. Nothing lent is changed": both lent lists are as they were, whatever they hold.
@@ -23,3 +26,16 @@ pub record Promises : Type 0 where
       LentBest ts ns n m wanted r ts′ ns′ →
       LentBest ts ns n m wanted r′ ts″ ns″ →
       (r ≡ r′) × ((ts′ ≡ ts″) × (ns′ ≡ ns″))
+  -- The same of variants: both lent lists and both lists of results.
+  pub variantsKept :
+      (file : List ℕ) (root v most : ℕ) (ts ts′ : List Term) (ns ns′ : List (List ℕ)) (n m : ℕ)
+      (costs found ws us : List ℕ) (k : ℕ) (r : VariantsAnswer) →
+      LentVariants ts ns n m (variantsAt file root v most (lending (lentStore ts ns n m) costs found)) r ts′ ns′ ws us →
+      variantsAt file root v most (lending (lentStore ts ns n m) costs found) .answer ≡ refusal k →
+      (ts′ ≡ ts) × ((ns′ ≡ ns) × ((ws ≡ costs) × (us ≡ found)))
+  pub variantsDetermined :
+      (ts ts′ ts″ : List Term) (ns ns′ ns″ : List (List ℕ)) (n m : ℕ) (wanted : VariantsAfter)
+      (r r′ : VariantsAnswer) (ws ws′ us us′ : List ℕ) →
+      LentVariants ts ns n m wanted r ts′ ns′ ws us →
+      LentVariants ts ns n m wanted r′ ts″ ns″ ws′ us′ →
+      (r ≡ r′) × ((ts′ ≡ ts″) × ((ns′ ≡ ns″) × ((ws ≡ ws′) × (us ≡ us′))))

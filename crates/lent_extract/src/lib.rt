@@ -9,9 +9,9 @@ ghost use Rattle.lent.specs.Records.{lentStore};
 ghost use Rattle.lent.specs.Copies.{Whole, storeIn};
 ghost use Rattle.lent_extract.specs.Left.{LentBest, BestIn, LentVariants, VariantsIn};
 use entries::Name;
-use extract::BestAnswer;
 use lent::Flat;
 use several::VariantsAnswer;
+use single::BestAnswer;
 use store::Term;
 
 // A call's own copy of the records after it, and what it answers.

@@ -3,11 +3,11 @@
 // the oracle answers them (oracle/lent-runs). Last the best terms and variants of document 01's tables, as its program
 // writes them. Assumes nothing.
 use entries::Name;
-use extract::BestAnswer;
 use libc::STDOUT_FILENO;
 use orders::Ordering;
 use refusals::Refusal;
 use several::VariantsAnswer;
+use single::BestAnswer;
 use store::Term;
 use terms::Added;
 use terms::Compared;

@@ -1,8 +1,8 @@
 // Each call on lent structs as a step of a run: an array of 40 records is lent to it, and comes back by value where
 // the call adds. Assumes nothing.
 use entries::Name;
-use extract::BestAnswer;
 use several::VariantsAnswer;
+use single::BestAnswer;
 use store::Term;
 use terms::Added;
 use terms::Compared;

@@ -1,3 +1,2 @@
 -- The laws of the crate `several`.
-pub mod ZeroLaws
 pub mod SeveralLaws

@@ -1,2 +1,3 @@
 -- The laws of the crate `solving`.
 pub mod SolveLaws
+pub mod ZeroLaws

@@ -1,240 +1,375 @@
--- What variants give back for any file, root and store: the store has grown and has every term that is told.
--- Assumes nothing.
+-- What variants give back for any file, root and store, and what a refusal tells. Assumes nothing.
 use mathlib.Core.Path.{_≡_, refl, ap, sym, subst, _∙_}
-use mathlib.Core.Bool.{Bool, true, false, _&&_}
+use mathlib.Core.Bool.{true, false}
 use mathlib.Core.List.{List, [], _∷_, _++_, map}
-use Prim.Native.Nat.{ℕ, zero, suc, _+_, _<_, _≤_}
-use native.Mathlib.Nat.{zero-add}
+use mathlib.Core.Logic.{_⊎_, inl, inr}
+use Prim.Native.Nat.{ℕ, _+_, _<_, _≤_}
 use native.Mathlib.Omega.{arith}
-use borrow.Author.Tests.{leb-true}
-use lib.Dec.{eqb, leb}
+use lib.Dec.{eqb}
 use lib.IntN.{ℤ}
 use lib.ListN.{length, getD, drop, replicate, List·getD-append}
 use lib.Seq.{paste, length-paste, take-length}
-use Rattle.refusals.specs.declared.Refusal.{Refusal}
-use Rattle.refusals.specs.declared.Refusal.the-variants.{BadRoot, TooDear, NoRoom, BadStore}
+use Rattle.refusals.specs.declared.Refusal.the-variants.{BadRoot, BadStore}
+use Rattle.orders.proofs.OrderLaws.{cases}
 use Rattle.store.specs.Lent.{Store}
 use Rattle.store.specs.WellFormed.{wellFormed}
 use Rattle.store.specs.Nodes.{literal}
-use Rattle.store.specs.Adding.{Adds, at, noRoom, add}
-use Rattle.store.proofs.TestLaws.{and-first, and-second}
+use Rattle.store.specs.Adding.{at, add}
 use Rattle.adding.specs.Growing.{Grows, Takes, Gives}
-use Rattle.adding.proofs.AddingLaws.{add-gives}
+use Rattle.adding.proofs.AddingLaws.{grows-refl, add-gives}
 use Rattle.choice.proofs.ListLaws.{Each, each-get}
-use Rattle.demand.proofs.OrderLaws.{map-length}
-use Rattle.fields.specs.Got.{Got, got, refused as fault}
+use Rattle.demand.proofs.OrderLaws.{map-length, map-get}
+use Rattle.fields.specs.Got.{got}
 use Rattle.build.specs.Building.{State, state, Out, done, full}
+use Rattle.build.specs.Standing.{Stuck}
 use Rattle.build.proofs.BuildingLaws.{tracks-of-zeros}
 use Rattle.format.specs.Table.{Table}
 use Rattle.format.specs.File.{tableAt}
-use Rattle.loading.proofs.LoadLaws.{accepted-of}
-use Rattle.held.proofs.KnownLaws.{known-of-accepted}
 use Rattle.rules.specs.Classes.{sortOf, flatClass, isRoot}
-use Rattle.rules.specs.Terms.{literalOf}
 use Rattle.rules.specs.Choosing.{runOf}
+use Rattle.rules.specs.Terms.{literalOf}
 use Rattle.rules.specs.Facts.{Known}
-use Rattle.answers.specs.Answers.{Answer, value, refusal}
+use Rattle.answers.specs.Answers.{value, refusal}
 use Rattle.answers.specs.Plan.{planFor}
 use Rattle.answers.specs.Variants.{
   costFor,
   keptRows,
   anyDear,
-  variantsIn,
   Kept,
   VariantsAfter,
   Lending,
-  variantsRefused,
   variantsKept,
   roomForResults,
-  variantLiteral,
-  variantsBuilt,
-  variantsOfRows,
-  variantsOf,
   variantsAt,
 }
-use Rattle.variant_facts.proofs.RootLaws.{sort-below}
 use Rattle.variant_facts.specs.Returned.{Returned}
+use Rattle.variant_facts.specs.Terms.{RowTerm, noTerms}
+use Rattle.variant_facts.specs.Told.{
+  OneOf,
+  builtRows,
+  FullAfter,
+  Unchanged,
+  RestStays,
+  OneLiteral,
+}
+use Rattle.variant_facts.proofs.TermLaws.{terms-length, terms-below, terms-get}
 use Rattle.variant_facts.proofs.ReturnLaws.{AllMade, RowsRight, rows-right, kept-sound}
+use Rattle.variant_facts.proofs.OutcomeLaws.{
+  not-refused,
+  told,
+  same-number,
+  places,
+  refused-unchanged,
+  kept-is,
+  kept-rest,
+  kept,
+  KeptRows,
+  rows-kept,
+  rows-number,
+  rows-unchanged,
+  LiteralOutcome,
+  noRoomHere,
+  noPlaceHere,
+  keptHere,
+  literal-number,
+  literal-unchanged,
+}
+use Rattle.variant_facts.proofs.FaultLaws.{fault-number}
+use Rattle.variant_facts.proofs.WayLaws.{
+  at-bad,
+  at-unformed,
+  at-literal,
+  at-class,
+  Way,
+  byFault,
+  byRoot,
+  byStore,
+  byLiteral,
+  byClass,
+  way,
+}
 
--- Of an answer: nothing where it is a refusal.
-abbrev pub OnKept : Lending → VariantsAfter → Answer Kept → Type 0
-OnKept l a (value k) = Returned (l .store) (a .store) (a .costs) (a .terms) (k .count)
-OnKept l a (refusal n) = Unit {0}
+-- Results at the front of a list.
+module _ (d s : List ℕ) (l : length s ≤ length d) where
+  pasted-length : length s ≤ length (paste d 0 s (length s))
+  pasted-length = omega (arith, length-paste d 0 s (length s) (omega arith) (omega arith))
 
-abbrev pub Right : Lending → VariantsAfter → Type 0
-Right l a = OnKept l a (a .answer)
+  pub pasted-get : (j : ℕ) → j < length s → getD (paste d 0 s (length s)) j 0 ≡ getD s j 0
+  pasted-get j h =
+      ap (λ (x : List ℕ). getD (x ++ drop (0 + length s) d) j 0) (take-length s)
+      ∙ List·getD-append s (drop (0 + length s) d) 0 j h
 
--- results at the front of a list
-pasted-length : (d s : List ℕ) → length s ≤ length d → length s ≤ length (paste d 0 s (length s))
-pasted-length d s l = omega (arith, l, length-paste d 0 s (length s) (omega (arith, l)) (omega arith))
+-- The store and the lists that come back with m results.
+abbrev Back : Lending → VariantsAfter → ℕ → Type 0
+Back l a m = Returned (l .store) (a .store) (a .costs) (a .terms) m
 
-pasted-get :
-    (d s : List ℕ) (j : ℕ) → length s ≤ length d → j < length s → getD (paste d 0 s (length s)) j 0 ≡ getD s j 0
-pasted-get d s j l h =
-    ap (λ (x : List ℕ). getD (x ++ drop (0 + length s) d) j 0) (take-length s) ∙ List·getD-append s
-    (drop (0 + length s) d) 0 j h
+-- What is kept comes back.
+module _ (l : Lending) (ws ts : List ℕ) (p : ℕ) (s : Store) (same : length ts ≡ length ws)
+    (room : roomForResults l (length ws) ≡ true) where
+  pub kept-cost :
+      (j : ℕ) → j < length ws → getD (variantsKept l ws ts p s .costs) j 0 ≡ getD ws j 0
+  unfolding variantsKept
+  kept-cost j h = pasted-get (l .costs) ws (places l (length ws) room .0) j h
 
-module _ (l : Lending) where
-  kept-right :
-      (ws ts : List ℕ) (p : ℕ) (s : Store) →
-      length ts ≡ length ws →
-      Grows (l .store) s →
-      Each (λ (u : ℕ). u < s .terms) ts →
-      roomForResults l (length ws) ≡ true →
-      Right l (variantsKept l ws ts p s)
-  unfolding variantsKept roomForResults
-  kept-right ws ts p s e g b r =
-      let a : length ws ≤ length (l .costs) =
-      leb-true (length ws) (length (l .costs))
-      (and-first (leb (length ws) (length (l .costs))) (leb (length ws) (length (l .terms))) r) in
-      let z : length ws ≤ length (l .terms) =
-      leb-true (length ws) (length (l .terms))
-      (and-second (leb (length ws) (length (l .costs))) (leb (length ws) (length (l .terms))) r) in
-      record {
-        grows = g;
-        costs-long = pasted-length (l .costs) ws a;
-        terms-long = omega (arith, e, pasted-length (l .terms) ts (omega (arith, e, z)));
-        below = λ j h.
-            subst (λ (x : ℕ). x < s .terms)
-            (sym (pasted-get (l .terms) ts j (omega (arith, e, z)) (omega (arith, e, h))))
-            (each-get (λ (u : ℕ). u < s .terms) ts 0 b j (omega (arith, e, h)));
-      }
+  pub kept-term :
+      (j : ℕ) → j < length ws → getD (variantsKept l ws ts p s .terms) j 0 ≡ getD ts j 0
+  unfolding variantsKept
+  kept-term j h =
+      pasted-get (l .terms) ts (omega (arith, same, places l (length ws) room .1)) j (omega (arith, same))
 
-  literal-right : (a : Adds) (z : ℤ) → Gives (l .store) (literal z) a → Right l (variantLiteral l a)
-  unfolding variantLiteral
-  literal-right (at i s) z g = go (roomForResults l 1) refl
-    where
-      go :
-          (b : Bool) →
-          roomForResults l 1 ≡ b →
-          Right l (elim b [ true ↦ variantsKept l (1 ∷ []) (i ∷ []) 1 s | false ↦ variantsRefused NoRoom l ])
-      go true e = kept-right (1 ∷ []) (i ∷ []) 1 s refl (g .grows) (g .below, tt) e
-      go false e = tt
-  literal-right noRoom z g = tt
+  kept-returned :
+      Grows (l .store) s → Each (λ (u : ℕ). u < s .terms) ts → Back l (variantsKept l ws ts p s) (length ws)
+  unfolding variantsKept
+  kept-returned g b = record {
+    grows = g;
+    costs-long = pasted-length (l .costs) ws (places l (length ws) room .0);
+    terms-long =
+        omega (
+          arith,
+          same,
+          pasted-length (l .terms) ts (omega (arith, same, places l (length ws) room .1)),
+        );
+    below = λ j h.
+        subst (λ (x : ℕ). x < s .terms) (sym (kept-term j h))
+        (each-get (λ (u : ℕ). u < s .terms) ts 0 b j (omega (arith, same)));
+  }
 
+-- The kept rows of a class, built in a well-formed store.
+module _ (t : Table) (k : Known t) (root : ℕ) (h : root < length (t .sorts)) (c n : ℕ) (s : Store)
+    (f : wellFormed s ≡ true) (cheap : anyDear t root (keptRows t root c n) ≡ false) where
   built-right :
-      (t : Table) (k : Known t) (root : ℕ) (h : root < length (t .sorts)) (rows : List ℕ) (m : List ℕ) →
-      roomForResults l (length rows) ≡ true →
-      (o : Out (List ℕ)) →
-      RowsRight t k root h (state m (l .store)) (length rows) o →
-      Right l (variantsBuilt t root l rows o)
-  unfolding variantsBuilt
-  built-right t k root h rows m r (done ts s) a =
-      let e : length (map (costFor t root) rows) ≡ length rows = map-length (costFor t root) rows in
-      kept-right (map (costFor t root) rows) ts (runOf t root .passes) (s .lent) (a .long ∙ sym e) (a .grows) (a .below)
-      (subst (λ (n : ℕ). roomForResults l n ≡ true) (sym e) r)
-  built-right t k root h rows m r (full me rs ls ns) a = tt
+      RowsRight t k root h (state (replicate 512 0) s) (keptRows t root c n)
+      (builtRows t root (keptRows t root c n) s)
+  built-right =
+      rows-right t k root h (keptRows t root c n) (kept-sound t k root h c n cheap) []
+      (state (replicate 512 0) s) (state (replicate 512 0) s) []
+      (tracks-of-zeros (planFor t root) 512 s f)
+      (record { grows = grows-refl s f; are = noTerms })
 
-  rows-of-right :
-      (t : Table) (k : Known t) (root : ℕ) (h : root < length (t .sorts)) (c n : ℕ) →
-      wellFormed (l .store) ≡ true →
-      Right l (variantsOfRows t root l (keptRows t root c n))
-  unfolding variantsOfRows
-  rows-of-right t k root h c n f = dear (anyDear t root (keptRows t root c n)) refl
-    where
-      room :
-          anyDear t root (keptRows t root c n) ≡ false →
-          (b : Bool) →
-          roomForResults l (length (keptRows t root c n)) ≡ b →
-          Right l (elim b [
-            | false ↦ variantsRefused NoRoom l
-            | true ↦ variantsBuilt t root l (keptRows t root c n)
-                (variantsIn t root (suc (runOf t root .state .last)) (state (replicate 512 0) (l .store)) []
-                (keptRows t root c n))
-          ])
-      room d true e =
-          built-right t k root h (keptRows t root c n) (replicate 512 0) e
-          (variantsIn t root (suc (runOf t root .state .last)) (state (replicate 512 0) (l .store)) []
-          (keptRows t root c n))
-          (subst
-          (λ (m : ℕ).
-          RowsRight t k root h (state (replicate 512 0) (l .store)) m
-          (variantsIn t root (suc (runOf t root .state .last)) (state (replicate 512 0) (l .store)) []
-          (keptRows t root c n)))
-          (zero-add (length (keptRows t root c n)))
-          (rows-right t k root h (keptRows t root c n) (kept-sound t k root h c n d)
-          (state (replicate 512 0) (l .store)) []
-          (tracks-of-zeros (planFor t root) 512 (l .store) f) tt))
-      room d false e = tt
+  pub built-made :
+      (ts : List ℕ) (st : State) →
+      builtRows t root (keptRows t root c n) s ≡ done ts st →
+      AllMade t k root h (state (replicate 512 0) s) (keptRows t root c n) ts st
+  built-made ts st e =
+      subst (λ (o : Out (List ℕ)). RowsRight t k root h (state (replicate 512 0) s) (keptRows t root c n) o) e
+      built-right
 
-      dear :
-          (b : Bool) →
-          anyDear t root (keptRows t root c n) ≡ b →
-          Right l
-          (elim b [
-            | true ↦ variantsRefused TooDear l
-            | false ↦ elim (roomForResults l (length (keptRows t root c n))) [
-              | false ↦ variantsRefused NoRoom l
-              | true ↦ variantsBuilt t root l (keptRows t root c n)
-                  (variantsIn t root (suc (runOf t root .state .last)) (state (replicate 512 0) (l .store)) []
-                  (keptRows t root c n))
-            ]
-          ])
-      dear true e = tt
-      dear false e = room e (roomForResults l (length (keptRows t root c n))) refl
+  pub built-full :
+      (me rs : List ℕ) (ls : List ℤ) (ns : List ℕ) →
+      builtRows t root (keptRows t root c n) s ≡ full me rs ls ns →
+      FullAfter s
+  built-full me rs ls ns e =
+      let q : Stuck s rs ls ns =
+      subst (λ (o : Out (List ℕ)). RowsRight t k root h (state (replicate 512 0) s) (keptRows t root c n) o) e
+      built-right in
+      record { last = q .last; node = q .node; grown = q .grows; refused = q .refused }
 
-  of-right :
-      (t : Table) (k : Known t) (root v n : ℕ) (h : root < length (t .sorts)) →
-      wellFormed (l .store) ≡ true →
-      Right l (variantsOf t root v n l)
-  unfolding variantsOf
-  of-right t k root v n h f = go (eqb (sortOf t root .kind) 0)
-    where
-      go :
-          (b : Bool) →
-          Right l
-          (elim b [
-            | true ↦ variantLiteral l (add (l .store) (literal (literalOf t v)))
-            | false ↦ variantsOfRows t root l (keptRows t root (flatClass t root v) n)
-          ])
-      go true =
-          literal-right (add (l .store) (literal (literalOf t v))) (literalOf t v)
-          (add-gives (l .store) (literal (literalOf t v)) f tt)
-      go false = rows-of-right t k root h (flatClass t root v) n f
+-- What is told of the kept rows of a class.
+module _ (t : Table) (known : Known t) (root : ℕ) (h : root < length (t .sorts)) (c n : ℕ) (l : Lending)
+    (f : wellFormed (l .store) ≡ true) (a : VariantsAfter) (k : Kept)
+    (q : KeptRows t root l (keptRows t root c n) a k) where
+  abbrev rows : List ℕ
+  rows = keptRows t root c n
 
-  -- For any file, root, number of variants, store and lists.
-  pub variants-right : (file : List ℕ) (root v n : ℕ) → Right l (variantsAt file root v n l)
-  unfolding variantsAt
-  variants-right file root v n = read (tableAt file) refl
-    where
-      formed :
-          (t : Table) (k : Known t) (h : root < length (t .sorts)) (b : Bool) →
-          wellFormed (l .store) ≡ b →
-          Right l (elim b [ false ↦ variantsRefused BadStore l | true ↦ variantsOf t root v n l ])
-      formed t k h true e = of-right t k root v n h e
-      formed t k h false e = tt
+  abbrev paid : List ℕ
+  paid = map (costFor t root) rows
 
-      rooted :
-          (t : Table) (k : Known t) (b : Bool) →
-          isRoot t root v ≡ b →
-          Right l
-          (elim b [
-            | false ↦ variantsRefused BadRoot l
-            | true ↦ elim (wellFormed (l .store))
-                [ false ↦ variantsRefused BadStore l | true ↦ variantsOf t root v n l ]
-          ])
-      rooted t k true e = formed t k (sort-below t root v e) (wellFormed (l .store)) refl
-      rooted t k false e = tt
+  made : AllMade t known root h (state (replicate 512 0) (l .store)) rows (q .numbers) (q .state)
+  made = built-made t known root h c n (l .store) f (q .not-dear-any) (q .numbers) (q .state) (q .built)
 
-      read :
-          (g : Got Table) →
-          tableAt file ≡ g →
-          Right l
-          (elim g [
-            | fault r ↦ variantsRefused r l
-            | got t p ↦ elim (isRoot t root v) [
-              | false ↦ variantsRefused BadRoot l
-              | true ↦ elim (wellFormed (l .store))
-                  [ false ↦ variantsRefused BadStore l | true ↦ variantsOf t root v n l ]
-            ]
-          ])
-      read (fault r) e = tt
-      read (got t p) e = rooted t (known-of-accepted t (accepted-of file e)) (isRoot t root v) refl
+  paid-length : length paid ≡ length rows
+  paid-length = map-length (costFor t root) rows
+
+  as-many : length (q .numbers) ≡ length paid
+  as-many = terms-length (made .are) ∙ sym paid-length
+
+  paid-places : roomForResults l (length paid) ≡ true
+  paid-places = subst (λ (m : ℕ). roomForResults l m ≡ true) (sym paid-length) (q .has-places)
+
+  counted : length paid ≡ k .count
+  counted = paid-length ∙ sym (q .count-is)
+
+  pub told-cost : (j : ℕ) → j < k .count → getD (a .costs) j 0 ≡ costFor t root (getD rows j 0)
+  told-cost j b =
+      subst (λ (x : VariantsAfter). getD (x .costs) j 0 ≡ costFor t root (getD rows j 0)) (sym (q .is))
+      (kept-cost l paid (q .numbers) (runOf t root .passes) (q .state .lent) as-many paid-places j
+      (omega (arith, counted))
+      ∙ map-get (costFor t root) rows j 0 0 (omega (arith, q .count-is)))
+
+  pub told-term : (j : ℕ) → j < k .count → RowTerm t root (a .store) (getD rows j 0) (getD (a .terms) j 0)
+  unfolding variantsKept
+  told-term j b =
+      subst (λ (x : VariantsAfter). RowTerm t root (x .store) (getD rows j 0) (getD (x .terms) j 0)) (sym (q .is))
+      (subst (λ (u : ℕ). RowTerm t root (q .state .lent) (getD rows j 0) u)
+      (sym
+      (kept-term l paid (q .numbers) (runOf t root .passes) (q .state .lent) as-many paid-places j
+      (omega (arith, counted))))
+      (terms-get (made .are) j (omega (arith, q .count-is))))
+
+  rows-returned : Back l a (k .count)
+  rows-returned =
+      subst (λ (x : VariantsAfter). Back l x (k .count)) (sym (q .is))
+      (subst
+      (λ (m : ℕ). Back l (variantsKept l paid (q .numbers) (runOf t root .passes) (q .state .lent)) m)
+      counted
+      (kept-returned l paid (q .numbers) (runOf t root .passes) (q .state .lent) as-many paid-places (made .grows)
+      (terms-below (made .are))))
+
+  rows-rest : RestStays l a (k .count)
+  rows-rest =
+      subst (λ (x : VariantsAfter). RestStays l x (k .count)) (sym (q .is))
+      (subst
+      (λ (m : ℕ). RestStays l (variantsKept l paid (q .numbers) (runOf t root .passes) (q .state .lent)) m)
+      counted
+      (kept-rest l paid (q .numbers) (runOf t root .passes) (q .state .lent) as-many))
+
+-- What is told of a literal.
+module _ (l : Lending) (f : wellFormed (l .store) ≡ true) (z : ℤ) (a : VariantsAfter) (k : Kept)
+    (e : a .answer ≡ value k) where
+  abbrev After : Type 0
+  After = OneLiteral z l a (k .count) (k .passes) × (Back l a (k .count) × RestStays l a (k .count))
+
+  literal-kept :
+      (i : ℕ) (s : Store) →
+      add (l .store) (literal z) ≡ at i s →
+      roomForResults l 1 ≡ true →
+      a ≡ variantsKept l (1 ∷ []) (i ∷ []) 1 s →
+      After
+  unfolding variantsKept
+  literal-kept i s d r q =
+      let g : Takes (l .store) (literal z) i s =
+      subst (Gives (l .store) (literal z)) d (add-gives (l .store) (literal z) f tt) in
+      let c = kept-is l (1 ∷ []) (i ∷ []) 1 s a k q e in
+      let x : VariantsAfter = variantsKept l (1 ∷ []) (i ∷ []) 1 s in (
+        record {
+          one = c .0;
+          one-pass = c .1;
+          cost = subst (λ (y : VariantsAfter). getD (y .costs) 0 0 ≡ 1) (sym q)
+              (kept-cost l (1 ∷ []) (i ∷ []) 1 s refl r 0 (omega arith));
+          takes = subst (λ (y : VariantsAfter). Takes (l .store) (literal z) (getD (y .terms) 0 0) (y .store)) (sym q)
+              (subst (λ (u : ℕ). Takes (l .store) (literal z) u s)
+              (sym (kept-term l (1 ∷ []) (i ∷ []) 1 s refl r 0 (omega arith))) g);
+        },
+        (
+          subst (λ (y : VariantsAfter). Back l y (k .count)) (sym q)
+              (subst (λ (m : ℕ). Back l x m) (sym (c .0))
+              (kept-returned l (1 ∷ []) (i ∷ []) 1 s refl r (g .grows) (g .below, tt))),
+          subst (λ (y : VariantsAfter). RestStays l y (k .count)) (sym q)
+              (subst (λ (m : ℕ). RestStays l x m) (sym (c .0)) (kept-rest l (1 ∷ []) (i ∷ []) 1 s refl)),
+        ),
+      )
+
+  pub literal-after : LiteralOutcome l z a → After
+  literal-after (noRoomHere d q) = not-refused (sym (told q e))
+  literal-after (noPlaceHere i s d r q) = not-refused (sym (told q e))
+  literal-after (keptHere i s d r q) = literal-kept i s d r q
+
+-- For any file, root, number of variants, store and lists.
+module _ (l : Lending) (file : List ℕ) (root v n : ℕ) where
+  abbrev after : VariantsAfter
+  after = variantsAt file root v n l
 
   pub variants-returned :
-      (file : List ℕ) (root v n : ℕ) (k : Kept) →
-      variantsAt file root v n l .answer ≡ value k →
-      Returned (l .store) (variantsAt file root v n l .store) (variantsAt file root v n l .costs)
-      (variantsAt file root v n l .terms) (k .count)
-  variants-returned file root v n k e =
-      subst (OnKept l (variantsAt file root v n l)) e (variants-right file root v n)
+      (k : Kept) → after .answer ≡ value k → Returned (l .store) (after .store) (after .costs) (after .terms) (k .count)
+  variants-returned k e = go (way file root v n l)
+    where
+      go : Way file root v n l → Back l after (k .count)
+      go (byFault x d q) = not-refused (sym (told q e))
+      go (byRoot q) = not-refused (sym (told q e))
+      go (byStore q) = not-refused (sym (told q e))
+      go (byLiteral t f o) = literal-after l f (literalOf t v) after k e o .1 .0
+      go (byClass t kn h f o) =
+          let c : ℕ = flatClass t root v in
+          rows-returned t kn root h c n l f after k (rows-kept t root l (keptRows t root c n) after o k e)
+
+  pub variants-rest : (k : Kept) → after .answer ≡ value k → RestStays l after (k .count)
+  variants-rest k e = go (way file root v n l)
+    where
+      go : Way file root v n l → RestStays l after (k .count)
+      go (byFault x d q) = not-refused (sym (told q e))
+      go (byRoot q) = not-refused (sym (told q e))
+      go (byStore q) = not-refused (sym (told q e))
+      go (byLiteral t f o) = literal-after l f (literalOf t v) after k e o .1 .1
+      go (byClass t kn h f o) =
+          let c : ℕ = flatClass t root v in
+          rows-rest t kn root h c n l f after k (rows-kept t root l (keptRows t root c n) after o k e)
+
+  pub variants-unchanged : (k : ℕ) → after .answer ≡ refusal k → Unchanged l after
+  variants-unchanged k e = go (way file root v n l)
+    where
+      go : Way file root v n l → Unchanged l after
+      go (byFault x d q) = refused-unchanged l x after q
+      go (byRoot q) = refused-unchanged l BadRoot after q
+      go (byStore q) = refused-unchanged l BadStore after q
+      go (byLiteral t f o) = literal-unchanged l (literalOf t v) after o k e
+      go (byClass t kn h f o) =
+          rows-unchanged t root l (keptRows t root (flatClass t root v) n) after o k e
+
+  pub variants-number : (k : ℕ) → after .answer ≡ refusal k → OneOf file k
+  variants-number k e = go (way file root v n l)
+    where
+      late : (k ≡ 12) ⊎ (k ≡ 13) → OneOf file k
+      late (inl d) = inr (inr (inr (inl d)))
+      late (inr d) = inr (inr (inr (inr d)))
+
+      go : Way file root v n l → OneOf file k
+      go (byFault x d q) = inl (x, (d, sym (same-number (told q e))))
+      go (byRoot q) = inr (inl (sym (same-number (told q e))))
+      go (byStore q) = inr (inr (inl (sym (same-number (told q e)))))
+      go (byLiteral t f o) = late (inr (literal-number l (literalOf t v) after o k e))
+      go (byClass t kn h f o) =
+          late (rows-number t root l (keptRows t root (flatClass t root v) n) after o k e)
+
+  -- "best only"
+  pub variants-not-eleven : after .answer ≡ refusal 11 → ⊥
+  variants-not-eleven e = go (variants-number 11 e)
+    where
+      go : OneOf file 11 → ⊥
+      go (inl (x, (d, q))) = omega (arith, fault-number file x d)
+      go (inr (inl q)) = omega arith
+      go (inr (inr (inl q))) = omega arith
+      go (inr (inr (inr (inl q)))) = omega arith
+      go (inr (inr (inr (inr q)))) = omega arith
+
+-- "10, 17": exactly when, of an accepted file.
+module _ (file : List ℕ) (root v n : ℕ) (l : Lending) (t : Table) (p : ℕ) (e : tableAt file ≡ got t p) where
+  abbrev Told : ℕ → Type 0
+  Told k = variantsAt file root v n l .answer ≡ refusal k
+
+  -- a root is refused by 17, where the store is not well formed, or by 12 or 13
+  module _ (q : isRoot t root v ≡ true) where
+    formed-number : wellFormed (l .store) ≡ true → (k : ℕ) → Told k → (k ≡ 12) ⊎ (k ≡ 13)
+    formed-number f k h =
+        cases (eqb (sortOf t root .kind) 0)
+        (λ b.
+        inr
+        (literal-number l (literalOf t v) (variantsAt file root v n l) (at-literal file root v n l t p e q f b) k h))
+        (λ b.
+        rows-number t root l (keptRows t root (flatClass t root v) n) (variantsAt file root v n l)
+        (at-class file root v n l t p e q f b) k h)
+
+    late : {P : Type 0} (k : ℕ) → (k ≡ 12 → ⊥) → (k ≡ 13 → ⊥) → (k ≡ 12) ⊎ (k ≡ 13) → P
+    late k a b (inl d) = absurd (a d)
+    late k a b (inr d) = absurd (b d)
+
+    pub bad-store-then : Told 17 → wellFormed (l .store) ≡ false
+    bad-store-then h =
+        cases (wellFormed (l .store))
+        (λ f. late 17 (λ d. omega arith) (λ d. omega arith) (formed-number f 17 h)) (λ f. f)
+
+    pub bad-store-when : wellFormed (l .store) ≡ false → Told 17
+    bad-store-when f = ap (λ (y : VariantsAfter). y .answer) (at-unformed file root v n l t p e q f)
+
+    root-told : {P : Type 0} → Told 10 → P
+    root-told h =
+        cases (wellFormed (l .store))
+        (λ f. late 10 (λ d. omega arith) (λ d. omega arith) (formed-number f 10 h))
+        (λ f.
+        let d : 17 ≡ 10 = same-number (told (at-unformed file root v n l t p e q f) h) in
+        absurd (omega arith))
+
+  pub bad-root-then : Told 10 → isRoot t root v ≡ false
+  bad-root-then h = cases (isRoot t root v) (λ q. root-told q h) (λ q. q)
+
+  pub bad-root-when : isRoot t root v ≡ false → Told 10
+  bad-root-when q = ap (λ (y : VariantsAfter). y .answer) (at-bad file root v n l t p e q)

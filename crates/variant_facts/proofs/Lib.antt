@@ -1,6 +1,14 @@
 -- The laws of the crate `variant_facts`.
 pub mod RowLaws
+pub mod TermLaws
 pub mod TurnLaws
 pub mod ReturnLaws
 pub mod RootLaws
+pub mod FaultLaws
+pub mod OutcomeLaws
+pub mod WayLaws
 pub mod CallLaws
+pub mod GrownLaws
+pub mod FirstLaws
+pub mod VariantLaws
+pub mod ClassLaws

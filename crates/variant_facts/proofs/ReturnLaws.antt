@@ -1,29 +1,23 @@
 -- The terms of all kept rows: the store has grown and has each of them. Assumes nothing.
-use mathlib.Core.Path.{_≡_, refl, ap, sym, subst, _∙_}
-use mathlib.Core.Bool.{Bool, true, false, _&&_, _||_}
-use mathlib.Core.List.{List, [], _∷_, _++_, map}
-use Prim.Native.Nat.{ℕ, zero, suc, _+_, _<_, _≤_}
+use mathlib.Core.Path.{_≡_, subst}
+use mathlib.Core.Bool.{true, false}
+use mathlib.Core.List.{List, [], _∷_, _++_, append-nil, append-assoc}
+use Prim.Native.Nat.{ℕ, suc, _<_, _≤_}
 use native.Mathlib.Omega.{arith}
 use borrow.Author.Tests.{leb-false}
 use lib.Dec.{eqb, leb}
-use lib.ListN.{length, getD, replicate, length-append}
-use lib.IntN.{ℤ}
+use lib.ListN.{length, getD}
 use Rattle.names.specs.Name.{valid}
-use Rattle.store.specs.Lent.{Store}
-use Rattle.store.specs.WellFormed.{wellFormed}
-use Rattle.store.proofs.TestLaws.{and-first, and-second}
+use Rattle.store.proofs.TestLaws.{and-second}
 use Rattle.adding.specs.Growing.{Grows}
-use Rattle.adding.proofs.AddingLaws.{grows-refl, grows-trans}
+use Rattle.adding.proofs.AddingLaws.{grows-trans}
 use Rattle.choice.specs.Rows.{rowAt}
 use Rattle.choice.specs.Run.{rowPriced}
-use Rattle.choice.proofs.ListLaws.{or-fails, Each, each-map, each-get, each-both}
-use Rattle.scan.specs.Order.{picked}
+use Rattle.choice.proofs.ListLaws.{or-fails, Each, each-both}
 use Rattle.scan.proofs.PickedLaws.{Passes}
 use Rattle.demand.proofs.OrderLaws.{map-length, inOrder-length}
-use Rattle.build.specs.Building.{State, state, Out, done, full}
-use Rattle.build.specs.Standing.{Tracks}
-use Rattle.build.specs.Ready.{AllLower}
-use Rattle.build.proofs.BuildingLaws.{tracks-of-zeros}
+use Rattle.build.specs.Building.{State, Out, done, full}
+use Rattle.build.specs.Standing.{Tracks, Stuck}
 use Rattle.format.specs.Table.{Table}
 use Rattle.rules.specs.Rows.{tableRowOf, tableRows}
 use Rattle.rules.specs.Order.{scanOrder, scanned}
@@ -46,15 +40,24 @@ use Rattle.answers.specs.Variants.{
 use Rattle.answers.proofs.PlanLaws.{buildRank, plan-ranked}
 use Rattle.variants.proofs.SortLaws.{kept-passes}
 use Rattle.variant_facts.proofs.RowLaws.{row-lower}
-use Rattle.variant_facts.proofs.TurnLaws.{Made, RowRight, row-made}
-
-each-snoc : (P : ℕ → Type 0) (xs : List ℕ) (y : ℕ) → Each P xs → P y → Each P (xs ++ (y ∷ []))
-each-snoc P [] y e p = (p, tt)
-each-snoc P (x ∷ xs) y e p = (e .0, each-snoc P xs y (e .1) p)
+use Rattle.variant_facts.specs.Terms.{RowTerm, RowTerms}
+use Rattle.variant_facts.proofs.TermLaws.{terms-grow, terms-append}
+use Rattle.variant_facts.proofs.TurnLaws.{RowRight, row-made}
 
 each-of-get : (P : ℕ → Type 0) (xs : List ℕ) → ((j : ℕ) → j < length xs → P (getD xs j 0)) → Each P xs
 each-of-get P [] f = tt
 each-of-get P (x ∷ xs) f = (f 0 (omega arith), each-of-get P xs (λ j l. f (suc j) (omega (arith, l))))
+
+-- No kept row is dear.
+pub not-dear :
+    (t : Table) (root : ℕ) (rows : List ℕ) →
+    anyDear t root rows ≡ false →
+    Each (λ (i : ℕ). costFor t root i < limit) rows
+unfolding anyDear
+not-dear t root [] e = tt
+not-dear t root (i ∷ rows) e =
+    let q = or-fails (leb limit (costFor t root i)) (anyDear t root rows) e in
+    (leb-false limit (costFor t root i) (q .0), not-dear t root rows (q .1))
 
 module _ (t : Table) (k : Known t) (root : ℕ) (h : root < length (t .sorts)) where
   abbrev depth : ℕ
@@ -90,7 +93,8 @@ module _ (t : Table) (k : Known t) (root : ℕ) (h : root < length (t .sorts)) w
       (s : State) (i : ℕ) →
       Tracks (planFor t root) s →
       Sound i →
-      RowRight (planFor t root) (buildRank t root) (plan-ranked t k root h) depth s (variantIn t root depth s i)
+      RowRight (planFor t root) (buildRank t root) (plan-ranked t k root h) depth (nameOf t (fileRow t root i))
+      (planChildren t (fileRow t root i)) s (variantIn t root depth s i)
   unfolding variantIn
   row-right s i tr q =
       row-made (planFor t root) (buildRank t root) (plan-ranked t k root h) depth (nameOf t (fileRow t root i))
@@ -98,65 +102,59 @@ module _ (t : Table) (k : Known t) (root : ℕ) (h : root < length (t .sorts)) w
       (row-lower t k root h i (q .place) (q .priced) (q .cheap)) tr
 
   -- what all of them leave
-  pub record AllMade (s : State) (n : ℕ) (us : List ℕ) (s′ : State) : Type 0 where
+  pub record AllMade (s : State) (rows us : List ℕ) (s′ : State) : Type 0 where
     pub grows : Grows (s .lent) (s′ .lent)
-    pub long : length us ≡ n
-    pub below : Each (λ (u : ℕ). u < s′ .lent .terms) us
+    pub are : RowTerms t root (s′ .lent) rows us
 
-  abbrev pub RowsRight : State → ℕ → Out (List ℕ) → Type 0
-  RowsRight s n (done us s′) = AllMade s n us s′
-  RowsRight s n (full me rs ls ns) = Unit {0}
+  abbrev pub RowsRight : State → List ℕ → Out (List ℕ) → Type 0
+  RowsRight s rows (done us s′) = AllMade s rows us s′
+  RowsRight s rows (full me rs ls ns) = Stuck (s .lent) rs ls ns
 
-  later : (s s′ : State) (n : ℕ) → Grows (s .lent) (s′ .lent) → (o : Out (List ℕ)) → RowsRight s′ n o → RowsRight s n o
-  later s s′ n g (done us s″) m = record { grows = grows-trans g (m .grows); long = m .long; below = m .below }
-  later s s′ n g (full me rs ls ns) m = tt
-
-  pub rows-right :
-      (rows : List ℕ) →
-      Each Sound rows →
-      (s : State) (ts : List ℕ) →
+  -- the rows, after others
+  abbrev RightOn : List ℕ → Type 0
+  RightOn rows =
+      (ys : List ℕ) (s₀ s : State) (ts : List ℕ) →
       Tracks (planFor t root) s →
-      Each (λ (u : ℕ). u < s .lent .terms) ts →
-      RowsRight s (length ts + length rows) (variantsIn t root depth s ts rows)
-  unfolding variantsIn
-  rows-right [] q s ts tr b =
-      record { grows = grows-refl (s .lent) (tr .formed); long = omega arith; below = b }
-  rows-right (i ∷ rows) q s ts tr b =
-      go (variantIn t root depth s i) (row-right s i tr (q .0))
-      (λ s′ us tr′ b′. rows-right rows (q .1) s′ us tr′ b′)
-    where
-      go :
-          (o : Out ℕ) →
-          RowRight (planFor t root) (buildRank t root) (plan-ranked t k root h) depth s o →
-          ((s′ : State) (us : List ℕ) →
-          Tracks (planFor t root) s′ →
-          Each (λ (u : ℕ). u < s′ .lent .terms) us →
-          RowsRight s′ (length us + length rows) (variantsIn t root depth s′ us rows)) →
-          RowsRight s (length ts + length (i ∷ rows))
-          (elim o as (λ _. Out (List ℕ)) [
-            | done u s′ ↦ variantsIn t root depth s′ (ts ++ (u ∷ [])) rows
-            | full me rs ls ns ↦ full me rs ls ns
-          ])
-      go (done u s′) m rest =
-          let sum : length (ts ++ (u ∷ [])) + length rows ≡ length ts + length (i ∷ rows) =
-          rw length-append (omega arith) in
-          later s s′ (length ts + length (i ∷ rows)) (m .grows) (variantsIn t root depth s′ (ts ++ (u ∷ [])) rows)
-          (subst
-          (λ (n : ℕ). RowsRight s′ n (variantsIn t root depth s′ (ts ++ (u ∷ [])) rows))
-          sum
-          (rest s′ (ts ++ (u ∷ [])) (m .tracks)
-          (each-snoc (λ (x : ℕ). x < s′ .lent .terms) ts u
-          (each-map (λ (x : ℕ). x < s .lent .terms) (λ (x : ℕ). x < s′ .lent .terms)
-          (λ x l. omega (arith, l, m .grows .more)) ts b) (m .below))))
-      go (full me rs ls ns) m rest = tt
+      AllMade s₀ ys ts s →
+      RowsRight s₀ (ys ++ rows) (variantsIn t root depth s ts rows)
 
-  -- no kept row is dear
-  not-dear : (rows : List ℕ) → anyDear t root rows ≡ false → Each (λ (i : ℕ). costFor t root i < limit) rows
-  unfolding anyDear
-  not-dear [] e = tt
-  not-dear (i ∷ rows) e =
-      let q = or-fails (leb limit (costFor t root i)) (anyDear t root rows) e in
-      (leb-false limit (costFor t root i) (q .0), not-dear rows (q .1))
+  row-then :
+      (i : ℕ) (rows ys : List ℕ) (s₀ s : State) (ts : List ℕ) →
+      RightOn rows →
+      AllMade s₀ ys ts s →
+      (o : Out ℕ) →
+      RowRight (planFor t root) (buildRank t root) (plan-ranked t k root h) depth (nameOf t (fileRow t root i))
+      (planChildren t (fileRow t root i)) s o →
+      RowsRight s₀ (ys ++ (i ∷ rows))
+      (elim o as (λ _. Out (List ℕ)) [
+        | done u s′ ↦ variantsIn t root depth s′ (ts ++ (u ∷ [])) rows
+        | full me rs ls ns ↦ full me rs ls ns
+      ])
+  row-then i rows ys s₀ s ts on a (done u s′) m =
+      let own : RowTerm t root (s′ .lent) i u =
+      record { below = m .below; trees = m .trees; of = m .of; means = m .means } in
+      subst (λ (x : List ℕ). RowsRight s₀ x (variantsIn t root depth s′ (ts ++ (u ∷ [])) rows))
+      (append-assoc ys (i ∷ []) rows)
+      (on (ys ++ (i ∷ [])) s₀ s′ (ts ++ (u ∷ [])) (m .tracks)
+      (record {
+        grows = grows-trans (a .grows) (m .grows);
+        are = terms-append (terms-grow (m .grows) (a .are)) own;
+      }))
+  row-then i rows ys s₀ s ts on a (full me rs ls ns) m = record {
+    last = m .last;
+    node = m .node;
+    grows = grows-trans (a .grows) (m .grows);
+    refused = m .refused;
+    records = m .records;
+    literals = m .literals;
+    names = m .names;
+  }
+
+  pub rows-right : (rows : List ℕ) → Each Sound rows → RightOn rows
+  unfolding variantsIn
+  rows-right [] q ys s₀ s ts tr a = rw append-nil a
+  rows-right (i ∷ rows) q ys s₀ s ts tr a =
+      row-then i rows ys s₀ s ts (rows-right rows (q .1)) a (variantIn t root depth s i) (row-right s i tr (q .0))
 
   variant-priced :
       (c i : ℕ) →
@@ -179,8 +177,7 @@ module _ (t : Table) (k : Known t) (root : ℕ) (h : root < length (t .sorts)) w
       (c n : ℕ) → anyDear t root (keptRows t root c n) ≡ false → Each Sound (keptRows t root c n)
   kept-sound c n e =
       each-both (λ (i : ℕ). Passes (isVariant t root c) i 0 (length (scanned t root)))
-      (λ (i : ℕ). costFor t root i < limit)
-      Sound
+      (λ (i : ℕ). costFor t root i < limit) Sound
       (λ i p l.
       record {
         place = omega (arith, p .high);
@@ -189,4 +186,4 @@ module _ (t : Table) (k : Known t) (root : ℕ) (h : root < length (t .sorts)) w
       })
       (keptRows t root c n)
       (passed c n)
-      (not-dear (keptRows t root c n) e)
+      (not-dear t root (keptRows t root c n) e)

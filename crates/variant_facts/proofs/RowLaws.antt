@@ -1,18 +1,16 @@
 -- A row with a cost below 2^64-1 can be built: its children have terms of a rank that is enough. Assumes nothing.
-use mathlib.Core.Path.{_≡_, refl, ap, sym, subst, _∙_}
-use mathlib.Core.Bool.{Bool, true, false}
+use mathlib.Core.Path.{_≡_, subst}
+use mathlib.Core.Bool.{true}
 use mathlib.Core.List.{List, [], _∷_, map}
-use Prim.Native.Nat.{ℕ, zero, suc, _<_, _≤_}
+use Prim.Native.Nat.{ℕ, suc, _+_, _<_, _≤_, min}
 use native.Mathlib.Omega.{arith}
 use borrow.Author.Tests.{ltb-true}
-use lib.ListN.{length, getD}
-use Rattle.choice.specs.Rows.{Child, literal, class, Row, rowAt, sumOf, allOf}
+use lib.ListN.{length}
+use Rattle.choice.specs.Rows.{Child, literal, class, Row, rowAt, sumOf}
 use Rattle.choice.specs.Run.{childCost, priced, rowPriced, rowCost}
 use Rattle.choice.proofs.ListLaws.{Each, each-of-sum, all-each}
 use Rattle.choice.proofs.RunLaws.{run-good}
-use Rattle.demand.specs.Orders.{inOrder}
 use Rattle.demand.proofs.OrderLaws.{inOrder-length, inOrder-get}
-use Rattle.build.specs.Plan.{Child as PlanChild, class as planClass, value}
 use Rattle.build.specs.Ready.{Lower, AllLower}
 use Rattle.format.specs.Table.{Table}
 use Rattle.rules.specs.Classes.{classCount}
@@ -23,8 +21,10 @@ use Rattle.rules.specs.Facts.{Known}
 use Rattle.rules.proofs.CoverLaws.{scanned-within}
 use Rattle.answers.specs.Plan.{planChild, planChildren, rankFor}
 use Rattle.answers.specs.Variants.{fileRow, costFor}
-use Rattle.answers.proofs.PlanLaws.{costOf, buildRank, buildRank-below}
-use Rattle.variants.proofs.BuildLaws.{below-min}
+use Rattle.answers.proofs.PlanLaws.{buildRank, buildRank-below}
+
+pub below-min : (M h s : ℕ) → min M (h + s) < M → s < M
+below-min M h s l = omega arith
 
 module _ (t : Table) (k : Known t) (root : ℕ) (h : root < length (t .sorts)) where
   capped : (c : ℕ) → rankFor t root c ≤ runOf t root .state .last
@@ -50,7 +50,7 @@ module _ (t : Table) (k : Known t) (root : ℕ) (h : root < length (t .sorts)) w
   children-lower [] p l = tt
   children-lower (x ∷ xs) p l = (child-lower x (p .0) (l .0), children-lower xs (p .1) (l .1))
 
-  row-is : (i : ℕ) → i < length (scanned t root) → rowAt (scanned t root) i ≡ rowAt (tableRows t) (fileRow t root i)
+  pub row-is : (i : ℕ) → i < length (scanned t root) → rowAt (scanned t root) i ≡ rowAt (tableRows t) (fileRow t root i)
   unfolding scanned
   row-is i l =
       inOrder-get (tableRows t) (scanOrder t root) i

@@ -1,29 +1,27 @@
--- Terms built row by row: the store grows, and each number is in it. Assumes nothing.
-use mathlib.Core.Path.{_≡_, refl, ap, sym, subst, _∙_}
-use mathlib.Core.Bool.{Bool, true, false}
+-- A row's term, built over the terms of its children: the store grows and has it. Assumes nothing.
+use mathlib.Core.Path.{_≡_, refl, subst}
+use mathlib.Core.Bool.{true}
 use mathlib.Core.List.{List, [], _∷_, _++_, append-nil, append-assoc}
-use Prim.Native.Nat.{ℕ, zero, suc, _+_, _<_, _≤_}
+use Prim.Native.Nat.{ℕ, _<_, _≤_}
 use native.Mathlib.Omega.{arith}
-use lib.ListN.{length, getD, length-append}
-use lib.IntN.{ℤ}
+use lib.ListN.{length}
 use Rattle.names.specs.Name.{valid}
-use Rattle.store.specs.Lent.{Store}
-use Rattle.store.specs.Nodes.{Node, application}
+use Rattle.store.specs.Nodes.{Trees, application, applied, Means, isApplied}
 use Rattle.store.specs.Adding.{Adds, at, noRoom, add}
-use Rattle.adding.specs.Growing.{Grows, Takes, Gives}
+use Rattle.adding.specs.Growing.{Grows, Gives}
 use Rattle.adding.proofs.AddingLaws.{grows-refl, grows-trans, add-gives}
-use Rattle.build.specs.Plan.{Child, Plan}
-use Rattle.build.specs.Building.{State, state, Out, done, full, added, childIn, childrenIn, buildIn}
-use Rattle.build.specs.Standing.{Stands, Tracks, Builds, Stuck}
-use Rattle.build.specs.Ready.{Lower, AllLower, Ranked}
+use Rattle.build.specs.Plan.{Child, Plan, TreesOf}
+use Rattle.build.specs.Building.{State, Out, done, full, added, childIn, childrenIn, buildIn}
+use Rattle.build.specs.Standing.{Tracks, Stuck}
+use Rattle.build.specs.Ready.{AllLower, Ranked}
 use Rattle.build.proofs.StandingLaws.{
   stands-grows,
-  StandAll,
   noneStand,
   standAll-grows,
   standAll-append,
   standAll-length,
   standAll-below,
+  standAll-trees,
 }
 use Rattle.build.proofs.BuildingLaws.{Right, BuildsAll, RightAll, child-right, build-right}
 use Rattle.answers.specs.Variants.{ownVariant}
@@ -31,8 +29,9 @@ use Rattle.answers.specs.Variants.{ownVariant}
 module _ (p : Plan) (rank : ℕ → ℕ) (ranked : Ranked p rank) (d : ℕ) where
   go-on :
       (x : Child) (xs ys : List Child) (s₀ s : State) (ks : List ℕ) →
-      ((zs : List Child) (s′ : State) (js : List ℕ) → BuildsAll p s₀ zs js s′ → RightAll p s₀ (zs ++ xs) (childrenIn
-      (buildIn p d) s′ js xs)) →
+      ((zs : List Child) (s′ : State) (js : List ℕ) →
+      BuildsAll p s₀ zs js s′ →
+      RightAll p s₀ (zs ++ xs) (childrenIn (buildIn p d) s′ js xs)) →
       BuildsAll p s₀ ys ks s →
       (o : Out ℕ) →
       Right p s x o →
@@ -72,30 +71,46 @@ module _ (p : Plan) (rank : ℕ → ℕ) (ranked : Ranked p rank) (d : ℕ) wher
       go-on x xs ys s₀ s ks (λ zs s′ js b. all-right xs (l .1) zs s₀ s′ js b) h (childIn (buildIn p d) s x)
       (child-right p rank ranked d (buildIn p d) (build-right p rank ranked d) s x (h .tracks) (l .0))
 
-  -- what a row's term leaves
-  pub record Made (s : State) (u : ℕ) (s′ : State) : Type 0 where
+  -- what a row's term leaves: of that name, over the trees of the children
+  pub record Made (name : List ℕ) (xs : List Child) (s : State) (u : ℕ) (s′ : State) : Type 0 where
     pub grows : Grows (s .lent) (s′ .lent)
     pub tracks : Tracks p s′
     pub below : u < s′ .lent .terms
+    pub trees : Trees
+    pub of : TreesOf p xs trees
+    pub means : Means (s′ .lent) u (applied name trees)
 
-  abbrev pub RowRight : State → Out ℕ → Type 0
-  RowRight s (done u s′) = Made s u s′
-  RowRight s (full me rs ls ns) = Unit {0}
+  abbrev pub RowRight : List ℕ → List Child → State → Out ℕ → Type 0
+  RowRight name xs s (done u s′) = Made name xs s u s′
+  RowRight name xs s (full me rs ls ns) = Stuck (s .lent) rs ls ns
 
   added-made :
-      (s₀ s : State) (node : Node) →
-      Grows (s₀ .lent) (s .lent) →
-      Tracks p s →
+      (name : List ℕ) (xs : List Child) (s₀ s : State) (ks : List ℕ) →
+      BuildsAll p s₀ xs ks s →
       (a : Adds) →
-      Gives (s .lent) node a →
-      RowRight s₀ (added s a)
+      add (s .lent) (application name ks) ≡ a →
+      Gives (s .lent) (application name ks) a →
+      RowRight name xs s₀ (added s a)
   unfolding added
-  added-made s₀ s node g h (at u lent) b = record {
-    grows = grows-trans g (b .grows);
-    tracks = record { formed = b .grows .formed; memo = λ c l. stands-grows (b .grows) (h .memo c l) };
-    below = b .below;
+  added-made name xs s₀ s ks h (at u lent) e b =
+      let v = standAll-trees (standAll-grows (b .grows) (h .stand)) in
+      record {
+        grows = grows-trans (h .grows) (b .grows);
+        tracks = record { formed = b .grows .formed; memo = λ c l. stands-grows (b .grows) (h .tracks .memo c l) };
+        below = b .below;
+        trees = v .trees;
+        of = v .of;
+        means = isApplied name ks (v .trees) (b .is) (v .means);
+      }
+  added-made name xs s₀ s ks h noRoom e b = record {
+    last = s .lent;
+    node = application name ks;
+    grows = h .grows;
+    refused = e;
+    records = refl;
+    literals = refl;
+    names = refl;
   }
-  added-made s₀ s node g h noRoom b = tt
 
   own-made :
       (name : List ℕ) (xs : List Child) (s : State) →
@@ -103,13 +118,13 @@ module _ (p : Plan) (rank : ℕ → ℕ) (ranked : Ranked p rank) (d : ℕ) wher
       length xs ≤ 8 →
       (o : Out (List ℕ)) →
       RightAll p s xs o →
-      RowRight s (ownVariant name o)
+      RowRight name xs s (ownVariant name o)
   unfolding ownVariant
   own-made name xs s v few (done ks s′) h =
-      added-made s s′ (application name ks) (h .grows) (h .tracks) (add (s′ .lent) (application name ks))
+      added-made name xs s s′ ks h (add (s′ .lent) (application name ks)) refl
       (add-gives (s′ .lent) (application name ks) (h .tracks .formed)
       (v, omega (arith, standAll-length (h .stand), few), standAll-below (h .stand)))
-  own-made name xs s v few (full me rs ls ns) h = tt
+  own-made name xs s v few (full me rs ls ns) h = h
 
   -- a row of that name over children that have their ranks
   pub row-made :
@@ -118,7 +133,7 @@ module _ (p : Plan) (rank : ℕ → ℕ) (ranked : Ranked p rank) (d : ℕ) wher
       length xs ≤ 8 →
       AllLower rank d xs →
       Tracks p s →
-      RowRight s (ownVariant name (childrenIn (buildIn p d) s [] xs))
+      RowRight name xs s (ownVariant name (childrenIn (buildIn p d) s [] xs))
   row-made name xs s v few l h =
       own-made name xs s v few (childrenIn (buildIn p d) s [] xs)
       (all-right xs l [] s s []

@@ -7,9 +7,9 @@ use lib.IntN.{ℤ}
 use Rattle.store.specs.Lent.{store}
 use Rattle.store.specs.WellFormed.{wellFormed}
 use Rattle.answers.specs.Best.{bestAt}
-use Rattle.extract.specs.declared.BestAnswer.{BestAnswer}
-use Rattle.extract.specs.declared.BestAnswer.the-variants.{Found, Refused}
-use Rattle.extract.specs.Answered.{seenBest}
+use Rattle.single.specs.declared.BestAnswer.{BestAnswer}
+use Rattle.single.specs.declared.BestAnswer.the-variants.{Found, Refused}
+use Rattle.single.specs.Single.{seenBest}
 use Rattle.answering.proofs.CallLaws.{start, best-refused, best-found, best-returns}
 use native.Mathlib.Omega.{arith}
 use borrow.Author.Needs.{needs}

@@ -17,8 +17,8 @@ use Rattle.extract.proofs.CallLaws.{
 use borrow.Author.Needs.{needs}
 use Rattle.extract.proofs.best.Statement.{statement}
 use Rattle.extract.proofs.best.Tie as tie
-use Rattle.extract.proofs.of_class.Reads as of-class-reads
-use Rattle.extract.proofs.of_literal.Reads as of-literal-reads
+use Rattle.single.proofs.of_class.Reads as of-class-reads
+use Rattle.single.proofs.of_literal.Reads as of-literal-reads
 use Rattle.loading.proofs.load.Reads as load-reads
 
 slice-aggregate-load : tie.Need-slice-aggregate-load

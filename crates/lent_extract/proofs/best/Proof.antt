@@ -66,15 +66,15 @@ use Rattle.lent.specs.Copies.{Loaded, Whole, storeIn}
 use Rattle.lent.proofs.Lending.{ref, slice-shown, slice-unshown}
 use Rattle.lent.proofs.Calling.{Of, calls-plain, calls-changing}
 use denote.Enum.Laws as EL
-use Rattle.extract.specs.declared.BestAnswer.{BestAnswer}
-use Rattle.extract.proofs.BestAnswer as R
-use Rattle.extract.proofs.BestAnswer.Laws as R′
+use Rattle.single.specs.declared.BestAnswer.{BestAnswer}
+use Rattle.single.proofs.BestAnswer as R
+use Rattle.single.proofs.BestAnswer.Laws as R′
 use Rattle.store.specs.Lent.{Store}
 use Rattle.lent.specs.Records.{lentStore}
 use Rattle.lent.proofs.StoreLaws.{loaded-fits}
 use Rattle.answers.specs.Answers.{After}
 use Rattle.answers.specs.Best.{BestTerm, bestAt}
-use Rattle.extract.specs.Answered.{seenBest}
+use Rattle.single.specs.Single.{seenBest}
 use Rattle.lent_extract.specs.Left.{BestIn, LentBest}
 use Rattle.lent_extract.proofs.LeftLaws.{lent-left}
 use Rattle.lent_extract.proofs.best.Key.{name as #it}

@@ -7,7 +7,7 @@ use lib.Seq.{length-take-le, length-front}
 use Rattle.store.specs.Lent.{Store}
 use Rattle.answers.specs.Answers.{After}
 use Rattle.answers.specs.Best.{BestTerm, bestAt}
-use Rattle.extract.specs.Answered.{seenBest}
+use Rattle.single.specs.Single.{seenBest}
 use Rattle.lent_extract.proofs.LeftLaws.{best-faithful, worked}
 use borrow.Author.Needs.{needs}
 use Rattle.lent_extract.proofs.best_in.Statement.{statement}

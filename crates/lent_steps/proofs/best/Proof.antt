@@ -51,9 +51,9 @@ use Rattle.lent_extract.proofs.best as wrk
 use Rattle.lent_extract.proofs.best.Symbol as wrk-def
 use Rattle.lent_extract.proofs.best.Symbol.{name as #wrk}
 use Rattle.lent_extract.proofs.best.Met as wrk-thm
-use Rattle.extract.specs.declared.BestAnswer.{BestAnswer}
-use Rattle.extract.proofs.BestAnswer as R
-use Rattle.extract.proofs.BestAnswer.Laws as R′
+use Rattle.single.specs.declared.BestAnswer.{BestAnswer}
+use Rattle.single.proofs.BestAnswer as R
+use Rattle.single.proofs.BestAnswer.Laws as R′
 use Rattle.lent_steps.proofs.with_best as aft
 use Rattle.lent_steps.proofs.with_best.Symbol as aft-def
 use Rattle.lent_steps.proofs.with_best.Symbol.{name as #aft}

@@ -1,6 +1,6 @@
 -- `several::choose` meets its contract: the kept rows, on lists of zeros. Assumes nothing.
 use mathlib.Core.Path.{refl, sym, _∙_}
-use Rattle.several.proofs.ZeroLaws.{take-zeros-length, blank-lists}
+use Rattle.solving.proofs.ZeroLaws.{take-zeros-length, blank-lists}
 use Rattle.several.proofs.SeveralLaws.{few-classes, ready-with, answer-seen}
 use native.Mathlib.Omega.{arith}
 use borrow.Author.Needs.{needs}

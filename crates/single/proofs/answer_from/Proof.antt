@@ -1,9 +1,9 @@
--- `extract::answer_from` meets its contract. Assumes nothing.
+-- `single::answer_from` meets its contract. Assumes nothing.
 use mathlib.Core.Path.{ap, sym}
-use Rattle.extract.specs.Answered.{answerFrom}
+use Rattle.single.specs.Single.{answerFrom}
 use borrow.Author.Needs.{needs}
-use Rattle.extract.proofs.answer_from.Statement.{statement}
-use Rattle.extract.proofs.answer_from.Tie as tie
+use Rattle.single.proofs.answer_from.Statement.{statement}
+use Rattle.single.proofs.answer_from.Tie as tie
 
 enum-known-choice : tie.Need-enum-known-choice
 enum-known-choice c = search needs

@@ -1,4 +1,5 @@
--- How the answer of `best` is read, and what its parts ask and answer. Assumes nothing: definitions.
+-- The best term of a root, once a table is laid flat, over a lent store: how the answer is read, and what is asked.
+-- Assumes nothing: definitions.
 use mathlib.Core.Path.{_≡_}
 use mathlib.Core.Bool.{true, false}
 use mathlib.Core.List.{List}
@@ -23,8 +24,8 @@ use Rattle.best.specs.declared.Best.the-variants.{
   TooDear as Dear,
   NoRoom as Full,
 }
-use Rattle.extract.specs.declared.BestAnswer.{BestAnswer}
-use Rattle.extract.specs.declared.BestAnswer.the-variants.{Found, Refused}
+use Rattle.single.specs.declared.BestAnswer.{BestAnswer}
+use Rattle.single.specs.declared.BestAnswer.the-variants.{Found, Refused}
 
 -- The number and the values of each case, with the lent lists as the call leaves them; n and m were the counts before.
 abbrev pub seenBest : BestAnswer → List ℕ → List ℤ → List ℕ → ℕ → ℕ → After BestTerm

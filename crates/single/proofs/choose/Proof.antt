@@ -1,14 +1,14 @@
--- `extract::choose` meets its contract: the choice, on lists of zeros. Assumes nothing.
+-- `single::choose` meets its contract: the choice, on lists of zeros. Assumes nothing.
 use mathlib.Core.Path.{refl, sym, _∙_}
 use native.Mathlib.Omega.{arith}
 use Rattle.store.specs.Lent.{store}
-use Rattle.several.proofs.ZeroLaws.{take-zeros-length, blank-lists}
-use Rattle.extract.proofs.CallLaws.{few-classes, ready-with, choice-seen}
+use Rattle.solving.proofs.ZeroLaws.{take-zeros-length, blank-lists}
+use Rattle.single.proofs.SingleLaws.{few-classes, ready-with, choice-seen}
 use borrow.Author.Needs.{needs}
-use Rattle.extract.proofs.choose.Statement.{statement}
-use Rattle.extract.proofs.choose.Tie as tie
+use Rattle.single.proofs.choose.Statement.{statement}
+use Rattle.single.proofs.choose.Tie as tie
 use Rattle.best.proofs.decide.Reads as decide-reads
-use Rattle.extract.proofs.answer_from.Reads as answer-from-reads
+use Rattle.single.proofs.answer_from.Reads as answer-from-reads
 
 array-borrow-prefix-costs : tie.Need-array-borrow-prefix-costs
 array-borrow-prefix-costs c = search needs

@@ -1,15 +1,15 @@
--- `extract::of_class` meets its contract: the store is checked, then the term chosen. Assumes nothing.
+-- `single::of_class` meets its contract: the store is checked, then the term chosen. Assumes nothing.
 use Prim.Native.Nat.{_+_}
 use mathlib.Core.Path.{sym, _∙_}
 use native.Mathlib.Omega.{arith}
 use borrow.Author.Tests.{not-true, not-false}
 use lib.Seq.{length-take-le}
 use Rattle.store.specs.Lent.{store}
-use Rattle.extract.proofs.CallLaws.{unformed-refuses, formed-is}
+use Rattle.single.proofs.SingleLaws.{unformed-refuses, formed-is}
 use borrow.Author.Needs.{needs}
-use Rattle.extract.proofs.of_class.Statement.{statement}
-use Rattle.extract.proofs.of_class.Tie as tie
-use Rattle.extract.proofs.choose.Reads as choose-reads
+use Rattle.single.proofs.of_class.Statement.{statement}
+use Rattle.single.proofs.of_class.Tie as tie
+use Rattle.single.proofs.choose.Reads as choose-reads
 use Rattle.records.proofs.check.Reads as check-reads
 
 check-requires : tie.Need-check-requires

@@ -1,11 +1,11 @@
--- `extract::of_literal` meets its contract: the store is checked, then the literal added. Assumes nothing.
+-- `single::of_literal` meets its contract: the store is checked, then the literal added. Assumes nothing.
 use mathlib.Core.Path.{sym, _∙_}
 use borrow.Author.Tests.{not-true, not-false}
 use Rattle.store.specs.Lent.{store}
-use Rattle.extract.proofs.CallLaws.{unformed-refuses, literal-found, literal-full}
+use Rattle.single.proofs.SingleLaws.{unformed-refuses, literal-found, literal-full}
 use borrow.Author.Needs.{needs}
-use Rattle.extract.proofs.of_literal.Statement.{statement}
-use Rattle.extract.proofs.of_literal.Tie as tie
+use Rattle.single.proofs.of_literal.Statement.{statement}
+use Rattle.single.proofs.of_literal.Tie as tie
 use Rattle.build.proofs.literal_term.Reads as literal-term-reads
 use Rattle.records.proofs.check.Reads as check-reads
 
