@@ -8,7 +8,7 @@ use Rattle.several.specs.declared.VariantsAnswer.{VariantsAnswer}
 use Rattle.several.specs.declared.VariantsAnswer.the-variants.{Kept, Refused}
 use Rattle.several.specs.Several.{seenVariants}
 use Rattle.variant_facts.proofs.OutcomeLaws.{not-refused, same-number, same-value}
-use Rattle.extract.proofs.DeterminedLaws.{number-once}
+use Rattle.refusals.proofs.NumberLaws.{number-once}
 
 kept-same :
     {k k′ p p′ n n′ m m′ : ℕ} → k ≡ k′ → p ≡ p′ → n ≡ n′ → m ≡ m′ → Kept k p n m ≡ Kept k′ p′ n′ m′
