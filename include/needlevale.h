@@ -2,7 +2,8 @@
  *
  * Proved, for every content of the buffers: a call returns, reads and writes nothing outside them, and gives exactly
  * the answer that the definitions written from document 01 give (crates/replies/specs/Reply.antt, `replied`;
- * crates/terms/specs/Calls.antt, `addLiteral`). A refusal changes no buffer, and bytes past a text's length stay.
+ * crates/terms/specs/Calls.antt, `addLiteral`). A refusal changes no buffer, and bytes past a text's length stay: these
+ * and the rest in crates/needlevale_c/specs/Promises.antt.
  *
  * Not proved, and the caller's part: each pointer stands for as many readable elements as its length says, those that
  * are not const writable too; no two buffers of a call overlap; a null pointer goes with length 0; no length in bytes
