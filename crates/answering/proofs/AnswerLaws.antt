@@ -31,7 +31,10 @@ module _ (input out : List ℕ) where
       sym (by-answer (refusal (refusalNo r)) (rw (sym e, answerTo) refl) ∙ refusal-stays (refusalNo r) out)
 
   -- the table file is what follows the query's three bytes
-  pub file-is : (m s v n : ℕ) → got (asked m s v n) 24 ≡ queryAt input → (3 ≤ length input) × (take (length input - 3) (drop 3 input) ≡ drop 3 input)
+  pub file-is :
+      (m s v n : ℕ) →
+      got (asked m s v n) 24 ≡ queryAt input →
+      (3 ≤ length input) × (take (length input - 3) (drop 3 input) ≡ drop 3 input)
   file-is m s v n e =
       let l : 3 ≤ length input = query-long input (asked m s v n) 24 (sym e) in
       (l, take-all (length input - 3) (drop 3 input) (omega (arith, length-drop 3 input)))

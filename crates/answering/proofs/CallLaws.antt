@@ -22,7 +22,9 @@ use Rattle.answering.specs.Calls.{bestTold, bestCall}
 abbrev pub start : Store
 start = store (replicate 11264 0) (replicate 1024 (pos 0)) (replicate 4096 0) 0 0
 
-pub refusal-stays : (k : ℕ) (out : List ℕ) → putIn (inRoom (length out) (refusal k)) out ≡ record { answer = refusal k; out = out }
+pub refusal-stays :
+    (k : ℕ) (out : List ℕ) →
+    putIn (inRoom (length out) (refusal k)) out ≡ record { answer = refusal k; out = out }
 unfolding inRoom putIn
 refusal-stays k out = refl
 
@@ -37,7 +39,8 @@ module _ (plain : Bool) (file : List ℕ) (sort v : ℕ) (out : List ℕ) where
       seen (Refused r) out ≡ putIn (inRoom (length out) (bestCall plain file sort v)) out
   unfolding bestTold bestAnswer
   best-refused r s e =
-      sym (ap (λ (x : Answer (List ℕ)). putIn (inRoom (length out) x) out) (told-by (refused r s) e) ∙ refusal-stays (refusalNo r) out)
+      sym (ap (λ (x : Answer (List ℕ)). putIn (inRoom (length out) x) out) (told-by (refused r s) e)
+      ∙ refusal-stays (refusalNo r) out)
 
   pub best-found :
       (w i p : ℕ) (s : Store) (r : Answered) (after : List ℕ) →
@@ -54,7 +57,8 @@ pub best-returns :
     found (bestTerm w i p) s ≡ bestAt file sort v start →
     (wellFormed s ≡ true) × (i < s .terms)
 best-returns file sort v {w} {i} {p} {s} e =
-    let kept = promises .returned file sort v start (bestTerm w i p) (sym (ap (λ (a : After BestTerm). a .answer) e)) in (
+    let kept = promises .returned file sort v start (bestTerm w i p)
+    (sym (ap (λ (a : After BestTerm). a .answer) e)) in (
       ap wellFormed (ap (λ (a : After BestTerm). a .store) e) ∙ kept .0 .formed,
       subst (λ (x : Store). i < x .terms) (sym (ap (λ (a : After BestTerm). a .store) e)) (kept .1),
     )

@@ -143,7 +143,11 @@ module _ (input out : List ℕ) (room : ℕ) (er : room ≡ 16384) (l : room ≤
       subst (λ (x : List ℕ). Wrote x z out o₂) (sym same) (record { long = q .0; bytes = q .1 })
 
 -- By whether there is room at all.
-pub with-room : (input before after : List ℕ) (r : ℕ) → 16384 ≤ length before → Wrote (reply input) r before after → Responds input r before after
+pub with-room :
+    (input before after : List ℕ) (r : ℕ) →
+    16384 ≤ length before →
+    Wrote (reply input) r before after →
+    Responds input r before after
 with-room input before after r l w = rw (le-leb 16384 (length before) l) w
 
 pub without-room : (input before : List ℕ) → length before < 16384 → Responds input 0 before before

@@ -1,5 +1,5 @@
--- The two calls that a query can make, on a store that starts empty, and what the program leaves in its buffer: document 01,
--- 'The program'. Assumes nothing: definitions.
+-- The two calls that a query can make, on a store that starts empty, and what the program leaves in its buffer:
+-- document 01, 'The program'. Assumes nothing: definitions.
 use Prim.Native.Nat.{ℕ}
 use mathlib.Core.Path.{_≡_}
 use mathlib.Core.Bool.{Bool, true, false}

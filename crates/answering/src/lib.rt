@@ -117,8 +117,8 @@ pub fn answer(input: &[u8], out: &mut [u8]) -> Answered
     }
 }
 
-// What the program writes, at the start of a buffer of at least 16,384 bytes: the text, or `refused K`. A shorter buffer is
-// left as it is.
+// What the program writes, at the start of a buffer of at least 16,384 bytes: the text, or `refused K`. A shorter
+// buffer is left as it is.
 pub fn respond(input: &[u8], out: &mut [u8]) -> usize
     ensures { λ r. ⌜ Responds (now (input .entry)) r (now (out .entry)) (now (out .exit)) ⌝ }
     ensures { λ r. ⌜ r ≤ length (now (out .exit)) ⌝ }

@@ -42,8 +42,13 @@ enum-known-query-2 c = search needs
 sub-by-mode : tie.Need-sub-by-mode
 sub-by-mode c =
     let s = c .before .before .before .before .before .before in
-    file-is (s .args .input .now) (s .args .out .now) (c .before .query2 .given .0 .0) (c .before .query2 .given .0 .1 .0) (c .before .query2 .given .0 .1 .1 .0) (c .before .query2 .given .0 .1 .1 .1 .0)
-    (queried (c .before .before .before .before .before .before) (c .before .before .before .ask .result) (c .before .query2 .given .0 .0) (c .before .query2 .given .0 .1 .0) (c .before .query2 .given .0 .1 .1 .0) (c .before .query2 .given .0 .1 .1 .1 .0) (c .before .before .before .ask .ensures) (c .before .query2 .given .1)) .0
+    file-is (s .args .input .now) (s .args .out .now) (c .before .query2 .given .0 .0)
+    (c .before .query2 .given .0 .1 .0) (c .before .query2 .given .0 .1 .1 .0)
+    (c .before .query2 .given .0 .1 .1 .1 .0)
+    (queried (c .before .before .before .before .before .before) (c .before .before .before .ask .result)
+    (c .before .query2 .given .0 .0) (c .before .query2 .given .0 .1 .0) (c .before .query2 .given .0 .1 .1 .0)
+    (c .before .query2 .given .0 .1 .1 .1 .0) (c .before .before .before .ask .ensures)
+    (c .before .query2 .given .1)) .0
 
 -- src/lib.rt:116:58
 part-by-mode-start : tie.Need-part-by-mode-start
@@ -63,7 +68,8 @@ returns : tie.Need-returns
 returns c =
     let s = c .before .before .before .before .before .before in
     query-refused (s .args .input .now) (s .args .out .now) (c .before .query .given .0 .0)
-    (subst (λ (y : Asked). gotQuery y ≡ queryAt (s .args .input .now)) (c .before .query .given .1) (c .before .before .before .ask .ensures))
+    (subst (λ (y : Asked). gotQuery y ≡ queryAt (s .args .input .now)) (c .before .query .given .1)
+    (c .before .before .before .ask .ensures))
 
 -- src/lib.rt:110:1
 same-length : tie.Need-same-length
@@ -73,11 +79,33 @@ same-length c = search needs
 returns-2 : tie.Need-returns-2
 returns-2 c =
     let s = c .before .before .before .before .before .before .before .before .before .before .before in
-    query-replied (s .args .input .now) (s .args .out .now) (c .before .before .before .before .before .before .query2 .given .0 .0) (c .before .before .before .before .before .before .query2 .given .0 .1 .0) (c .before .before .before .before .before .before .query2 .given .0 .1 .1 .0) (c .before .before .before .before .before .before .query2 .given .0 .1 .1 .1 .0)
-    (queried (c .before .before .before .before .before .before .before .before .before .before .before) (c .before .before .before .before .before .before .before .before .ask .result) (c .before .before .before .before .before .before .query2 .given .0 .0) (c .before .before .before .before .before .before .query2 .given .0 .1 .0) (c .before .before .before .before .before .before .query2 .given .0 .1 .1 .0) (c .before .before .before .before .before .before .query2 .given .0 .1 .1 .1 .0) (c .before .before .before .before .before .before .before .before .ask .ensures) (c .before .before .before .before .before .before .query2 .given .1)) (c .before .before .by-mode .result) (c .before .before .by-mode .last .1 .1 .1 .1 .1 .0)
+    query-replied (s .args .input .now) (s .args .out .now)
+    (c .before .before .before .before .before .before .query2 .given .0 .0)
+    (c .before .before .before .before .before .before .query2 .given .0 .1 .0)
+    (c .before .before .before .before .before .before .query2 .given .0 .1 .1 .0)
+    (c .before .before .before .before .before .before .query2 .given .0 .1 .1 .1 .0)
+    (queried (c .before .before .before .before .before .before .before .before .before .before .before)
+    (c .before .before .before .before .before .before .before .before .ask .result)
+    (c .before .before .before .before .before .before .query2 .given .0 .0)
+    (c .before .before .before .before .before .before .query2 .given .0 .1 .0)
+    (c .before .before .before .before .before .before .query2 .given .0 .1 .1 .0)
+    (c .before .before .before .before .before .before .query2 .given .0 .1 .1 .1 .0)
+    (c .before .before .before .before .before .before .before .before .ask .ensures)
+    (c .before .before .before .before .before .before .query2 .given .1)) (c .before .before .by-mode .result)
+    (c .before .before .by-mode .last .1 .1 .1 .1 .1 .0)
     (take (length (s .args .input .now) - 3) (drop 3 (s .args .input .now)))
-    (file-is (s .args .input .now) (s .args .out .now) (c .before .before .before .before .before .before .query2 .given .0 .0) (c .before .before .before .before .before .before .query2 .given .0 .1 .0) (c .before .before .before .before .before .before .query2 .given .0 .1 .1 .0) (c .before .before .before .before .before .before .query2 .given .0 .1 .1 .1 .0)
-    (queried (c .before .before .before .before .before .before .before .before .before .before .before) (c .before .before .before .before .before .before .before .before .ask .result) (c .before .before .before .before .before .before .query2 .given .0 .0) (c .before .before .before .before .before .before .query2 .given .0 .1 .0) (c .before .before .before .before .before .before .query2 .given .0 .1 .1 .0) (c .before .before .before .before .before .before .query2 .given .0 .1 .1 .1 .0) (c .before .before .before .before .before .before .before .before .ask .ensures) (c .before .before .before .before .before .before .query2 .given .1)) .1)
+    (file-is (s .args .input .now) (s .args .out .now) (c .before .before .before .before .before .before .query2
+    .given .0 .0) (c .before .before .before .before .before .before .query2 .given .0 .1 .0)
+    (c .before .before .before .before .before .before .query2 .given .0 .1 .1 .0)
+    (c .before .before .before .before .before .before .query2 .given .0 .1 .1 .1 .0)
+    (queried (c .before .before .before .before .before .before .before .before .before .before .before)
+    (c .before .before .before .before .before .before .before .before .ask .result)
+    (c .before .before .before .before .before .before .query2 .given .0 .0)
+    (c .before .before .before .before .before .before .query2 .given .0 .1 .0)
+    (c .before .before .before .before .before .before .query2 .given .0 .1 .1 .0)
+    (c .before .before .before .before .before .before .query2 .given .0 .1 .1 .1 .0)
+    (c .before .before .before .before .before .before .before .before .ask .ensures)
+    (c .before .before .before .before .before .before .query2 .given .1)) .1)
     (c .before .before .by-mode .ensures)
 
 pub answer-spec : {M : Type 1} → statement M

@@ -81,15 +81,30 @@ slice-aggregate-put-3 c = search needs
 -- src/lib.rt:32:66
 put-requires : tie.Need-put-requires
 put-requires c κs =
-    returned (c .before .before .before .before .before .before .before .before .before .before .before .before .before .before .before .before) (c .before .before .before .before .before .before .before .before .before .before .best .last .1 .1 .1 .0) (c .before .before .before .before .before .before .before .before .before .before .best .last .1 .1 .1 .1 .0) (c .before .before .before .before .before .before .before .before .before .before .best .last .1 .1 .1 .1 .1 .0) (c .before .before .before .before .before .before .before .before .before .before .best .result) (c .before .before .before .before .before .best3 .given .0 .0) (c .before .before .before .before .before .best3 .given .0 .1 .0) (c .before .before .before .before .before .best3 .given .0 .1 .1 .0) (c .before .before .before .before .before .best3 .given .0 .1 .1 .1 .0) (c .before .before .before .before .before .best3 .given .0 .1 .1 .1 .1 .0) (c .before .before .before .before .before .before .before .before .before .before .best .ensures)
+    returned (c .before .before .before .before .before .before .before .before .before .before .before .before
+    .before .before .before .before) (c .before .before .before .before .before .before .before .before .before
+    .before .best .last .1 .1 .1 .0) (c .before .before .before .before .before .before .before .before .before
+    .before .best .last .1 .1 .1 .1 .0) (c .before .before .before .before .before .before .before .before
+    .before .before .best .last .1 .1 .1 .1 .1 .0) (c .before .before .before .before .before .before .before
+    .before .before .before .best .result) (c .before .before .before .before .before .best3 .given .0 .0)
+    (c .before .before .before .before .before .best3 .given .0 .1 .0)
+    (c .before .before .before .before .before .best3 .given .0 .1 .1 .0)
+    (c .before .before .before .before .before .best3 .given .0 .1 .1 .1 .0)
+    (c .before .before .before .before .before .best3 .given .0 .1 .1 .1 .1 .0)
+    (c .before .before .before .before .before .before .before .before .before .before .best .ensures)
     (c .before .before .before .before .before .best3 .given .1)
 
 -- src/lib.rt:11:1
 returns : tie.Need-returns
 returns c =
     let s = c .before .before .before .before .before .before .before .before .before .before .before .before in
-    best-refused (s .args .plain) (s .args .file .now) (s .args .sort) (s .args .value) (s .args .out .now) (c .before .best2 .given .0 .0) _
-    (byCase s (c .before .before .before .before .before .before .best .last .1 .1 .1 .0) (c .before .before .before .before .before .before .best .last .1 .1 .1 .1 .0) (c .before .before .before .before .before .before .best .last .1 .1 .1 .1 .1 .0) (c .before .before .before .before .before .before .best .result) (Refused (c .before .best2 .given .0 .0)) (c .before .before .before .before .before .before .best .ensures) (c .before .best2 .given .1))
+    best-refused (s .args .plain) (s .args .file .now) (s .args .sort) (s .args .value) (s .args .out .now)
+    (c .before .best2 .given .0 .0) _
+    (byCase s (c .before .before .before .before .before .before .best .last .1 .1 .1 .0)
+    (c .before .before .before .before .before .before .best .last .1 .1 .1 .1 .0)
+    (c .before .before .before .before .before .before .best .last .1 .1 .1 .1 .1 .0)
+    (c .before .before .before .before .before .before .best .result) (Refused (c .before .best2 .given .0 .0))
+    (c .before .before .before .before .before .before .best .ensures) (c .before .best2 .given .1))
 
 -- src/lib.rt:11:1
 same-length : tie.Need-same-length
@@ -98,9 +113,27 @@ same-length c = search needs
 -- src/lib.rt:11:1
 returns-2 : tie.Need-returns-2
 returns-2 c =
-    let s = c .before .before .before .before .before .before .before .before .before .before .before .before .before .before .before .before .before .before .before in
-    best-found (s .args .plain) (s .args .file .now) (s .args .sort) (s .args .value) (s .args .out .now) (c .before .before .before .before .before .before .before .before .best3 .given .0 .0) (c .before .before .before .before .before .before .before .before .best3 .given .0 .1 .0) (c .before .before .before .before .before .before .before .before .best3 .given .0 .1 .1 .0) _ (c .before .before .put .result) (c .before .before .put .last .1 .0)
-    (byCase s (c .before .before .before .before .before .before .before .before .before .before .before .before .before .best .last .1 .1 .1 .0) (c .before .before .before .before .before .before .before .before .before .before .before .before .before .best .last .1 .1 .1 .1 .0) (c .before .before .before .before .before .before .before .before .before .before .before .before .before .best .last .1 .1 .1 .1 .1 .0) (c .before .before .before .before .before .before .before .before .before .before .before .before .before .best .result) (Found (c .before .before .before .before .before .before .before .before .best3 .given .0 .0) (c .before .before .before .before .before .before .before .before .best3 .given .0 .1 .0) (c .before .before .before .before .before .before .before .before .best3 .given .0 .1 .1 .0) (c .before .before .before .before .before .before .before .before .best3 .given .0 .1 .1 .1 .0) (c .before .before .before .before .before .before .before .before .best3 .given .0 .1 .1 .1 .1 .0)) (c .before .before .before .before .before .before .before .before .before .before .before .before .before .best .ensures) (c .before .before .before .before .before .before .before .before .best3 .given .1)) (c .before .before .put .ensures)
+    let s = c .before .before .before .before .before .before .before .before .before .before .before .before
+    .before .before .before .before .before .before .before in
+    best-found (s .args .plain) (s .args .file .now) (s .args .sort) (s .args .value) (s .args .out .now)
+    (c .before .before .before .before .before .before .before .before .best3 .given .0 .0)
+    (c .before .before .before .before .before .before .before .before .best3 .given .0 .1 .0)
+    (c .before .before .before .before .before .before .before .before .best3 .given .0 .1 .1 .0) _
+    (c .before .before .put .result) (c .before .before .put .last .1 .0)
+    (byCase s (c .before .before .before .before .before .before .before .before .before .before .before .before
+    .before .best .last .1 .1 .1 .0) (c .before .before .before .before .before .before .before .before .before
+    .before .before .before .before .best .last .1 .1 .1 .1 .0)
+    (c .before .before .before .before .before .before .before .before .before .before .before .before .before
+    .best .last .1 .1 .1 .1 .1 .0) (c .before .before .before .before .before .before .before .before .before
+    .before .before .before .before .best .result) (Found
+    (c .before .before .before .before .before .before .before .before .best3 .given .0 .0)
+    (c .before .before .before .before .before .before .before .before .best3 .given .0 .1 .0)
+    (c .before .before .before .before .before .before .before .before .best3 .given .0 .1 .1 .0)
+    (c .before .before .before .before .before .before .before .before .best3 .given .0 .1 .1 .1 .0)
+    (c .before .before .before .before .before .before .before .before .best3 .given .0 .1 .1 .1 .1 .0))
+    (c .before .before .before .before .before .before .before .before .before .before .before .before .before
+    .best .ensures) (c .before .before .before .before .before .before .before .before .best3 .given .1))
+    (c .before .before .put .ensures)
 
 pub best-of-spec : {M : Type 1} → statement M
 best-of-spec =

@@ -22,7 +22,9 @@ same-length c = search needs
 returns : tie.Need-returns
 returns c =
     let s = c .before .before .before .before .before .before .before in
-    variants-by-mode (s .args .mode) (s .args .sort) (s .args .value) (s .args .most) (s .args .file .now) (s .args .out .now) (c .before .before .variants-of .result) (c .before .before .variants-of .last .1 .1 .1 .1 .0)
+    variants-by-mode (s .args .mode) (s .args .sort) (s .args .value) (s .args .most) (s .args .file .now)
+    (s .args .out .now) (c .before .before .variants-of .result)
+    (c .before .before .variants-of .last .1 .1 .1 .1 .0)
     (eq-eqb (s .args .mode) 1 (c .before .before .before .before .if1 .taken)) (c .before .before .variants-of .ensures)
 
 -- src/lib.rt:106:5
@@ -37,7 +39,8 @@ same-length-2 c = search needs
 returns-2 : tie.Need-returns-2
 returns-2 c =
     let s = c .before .before .before .before .before .before .before in
-    best-by-mode (s .args .mode) (s .args .sort) (s .args .value) (s .args .most) (s .args .file .now) (s .args .out .now) (c .before .before .best-of .result) (c .before .before .best-of .last .1 .1 .1 .1 .0)
+    best-by-mode (s .args .mode) (s .args .sort) (s .args .value) (s .args .most) (s .args .file .now)
+    (s .args .out .now) (c .before .before .best-of .result) (c .before .before .best-of .last .1 .1 .1 .1 .0)
     (ne-eqb (s .args .mode) 1 (c .before .before .before .before .if1 .left)) (c .before .before .best-of .ensures)
 
 pub by-mode-spec : {M : Type 1} → statement M

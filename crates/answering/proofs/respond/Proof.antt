@@ -35,8 +35,11 @@ answered s after r x t e =
 
 -- src/lib.rt:128:9
 returns : tie.Need-returns
-returns c =
-    (without-room (c .before .before .before .args .input .now) (c .before .before .before .args .out .now) (c .if1 .taken), (omega arith, refl))
+returns c = (
+  without-room (c .before .before .before .args .input .now) (c .before .before .before .args .out .now)
+      (c .if1 .taken),
+  (omega arith, refl),
+)
 
 -- src/lib.rt:130:34
 slice-relend-prefix-answer : tie.Need-slice-relend-prefix-answer
@@ -76,14 +79,16 @@ put-refused-requires c κs =
       c .before .before .before .before .before .before .before .before .before .if1 .left,
       refused-length (c .before .number .result),
       digits-few (c .before .number .result) (omega (arith, c .before .number .ok)),
-      length-front (s .args .out .now) (c .before .before .before .before .before .before .before .answer .last .1 .0) 16384 (c .before .before .before .before .before .before .before .answer .kept .1 .0),
+      length-front (s .args .out .now) (c .before .before .before .before .before .before .before .answer .last
+          .1 .0) 16384 (c .before .before .before .before .before .before .before .answer .kept .1 .0),
     )
 
 -- src/lib.rt:122:1
 same-length : tie.Need-same-length
 same-length c =
     let s = c .before .before .before .before .before .before .before .before .before .before in
-    length-front (s .args .out .now) (c .before .before .before .before .before .answer .last .1 .0) 16384 (c .before .before .before .before .before .answer .kept .1 .0)
+    length-front (s .args .out .now) (c .before .before .before .before .before .answer .last .1 .0) 16384
+    (c .before .before .before .before .before .answer .kept .1 .0)
 
 -- src/lib.rt:122:1
 returns-2 : tie.Need-returns-2
@@ -91,31 +96,54 @@ returns-2 c =
     let s = c .before .before .before .before .before .before .before .before .before .before in
     let n : ℕ = c .before .answered .given .0 .0 in
     let l : 16384 ≤ length (s .args .out .now) = c .before .before .before .before .before .before .before .if1 .left in
-    let w : Wrote (reply (s .args .input .now)) n (s .args .out .now) (c .before .before .before .before .before .answer .last .1 .0 ++ drop 16384 (s .args .out .now)) =
-    wrote-text (s .args .input .now) (s .args .out .now) 16384 refl l n (c .before .before .before .before .before .answer .last .1 .0)
-    (answered s (c .before .before .before .before .before .answer .last .1 .0) (c .before .before .before .before .before .answer .result) (Written n) (c .before .before .before .before .before .answer .ensures) (c .before .answered .given .1)) in
-    (with-room (s .args .input .now) (s .args .out .now) (c .before .before .before .before .before .answer .last .1 .0 ++ drop 16384 (s .args .out .now)) n l w, wrote-inside (reply (s .args .input .now)) (s .args .out .now) (c .before .before .before .before .before .answer .last .1 .0 ++ drop 16384 (s .args .out .now)) n w)
+    let w : Wrote (reply (s .args .input .now)) n (s .args .out .now)
+    (c .before .before .before .before .before .answer .last .1 .0 ++ drop 16384 (s .args .out .now)) =
+    wrote-text (s .args .input .now) (s .args .out .now) 16384 refl l n
+    (c .before .before .before .before .before .answer .last .1 .0)
+    (answered s (c .before .before .before .before .before .answer .last .1 .0)
+    (c .before .before .before .before .before .answer .result) (Written n)
+    (c .before .before .before .before .before .answer .ensures) (c .before .answered .given .1)) in (
+      with-room (s .args .input .now) (s .args .out .now) (c .before .before .before .before .before .answer .last
+          .1 .0 ++ drop 16384 (s .args .out .now)) n l w,
+      wrote-inside (reply (s .args .input .now))
+          (s .args .out .now) (c .before .before .before .before .before .answer .last .1 .0 ++ drop 16384
+          (s .args .out .now)) n w,
+    )
 
 -- src/lib.rt:122:1
 same-length-2 : tie.Need-same-length-2
 same-length-2 c =
-    let s = c .before .before .before .before .before .before .before .before .before .before .before .before .before .before .before in
+    let s = c .before .before .before .before .before .before .before .before .before .before .before .before
+    .before .before .before in
     c .before .before .put-refused .kept .0
-    ∙ length-front (s .args .out .now) (c .before .before .before .before .before .before .before .before .before .before .answer .last .1 .0) 16384 (c .before .before .before .before .before .before .before .before .before .before .answer .kept .1 .0)
+    ∙ length-front (s .args .out .now) (c .before .before .before .before .before .before .before .before .before
+    .before .answer .last .1 .0) 16384 (c .before .before .before .before .before .before .before .before .before
+    .before .answer .kept .1 .0)
 
 -- src/lib.rt:122:1
 returns-3 : tie.Need-returns-3
 returns-3 c =
-    let s = c .before .before .before .before .before .before .before .before .before .before .before .before .before .before .before in
+    let s = c .before .before .before .before .before .before .before .before .before .before .before .before
+    .before .before .before in
     let r : Refusal = c .before .before .before .before .before .before .answered2 .given .0 .0 in
     let z : ℕ = c .before .before .put-refused .result in
     let o : List ℕ = c .before .before .put-refused .last .0 in
-    let l : 16384 ≤ length (s .args .out .now) = c .before .before .before .before .before .before .before .before .before .before .before .before .if1 .left in
+    let l : 16384 ≤ length (s .args .out .now) = c .before .before .before .before .before .before .before
+    .before .before .before .before .before .if1 .left in
     let w : Wrote (reply (s .args .input .now)) z (s .args .out .now) o =
-    wrote-line (s .args .input .now) (s .args .out .now) 16384 refl l r (c .before .before .before .before .before .before .before .before .before .before .answer .last .1 .0)
-    (answered s (c .before .before .before .before .before .before .before .before .before .before .answer .last .1 .0) (c .before .before .before .before .before .before .before .before .before .before .answer .result) (Refused r) (c .before .before .before .before .before .before .before .before .before .before .answer .ensures) (c .before .before .before .before .before .before .answered2 .given .1)) z o
-    (subst (λ (k : ℕ). Step (refusedLine k) 0 z (c .before .before .before .before .before .before .before .before .before .before .answer .last .1 .0 ++ drop 16384 (s .args .out .now)) o) (c .before .before .before .before .number .ensures) (c .before .before .put-refused .ensures)) in
-    (with-room (s .args .input .now) (s .args .out .now) o z l w, wrote-inside (reply (s .args .input .now)) (s .args .out .now) o z w)
+    wrote-line (s .args .input .now) (s .args .out .now) 16384 refl l r
+    (c .before .before .before .before .before .before .before .before .before .before .answer .last .1 .0)
+    (answered s (c .before .before .before .before .before .before .before .before .before .before .answer .last
+    .1 .0) (c .before .before .before .before .before .before .before .before .before .before .answer .result)
+    (Refused r) (c .before .before .before .before .before .before .before .before .before .before .answer
+    .ensures) (c .before .before .before .before .before .before .answered2 .given .1)) z o
+    (subst (λ (k : ℕ). Step (refusedLine k) 0 z (c .before .before .before .before .before .before .before
+    .before .before .before .answer .last .1 .0 ++ drop 16384 (s .args .out .now)) o)
+    (c .before .before .before .before .number .ensures) (c .before .before .put-refused .ensures)) in (
+      with-room (s .args .input .now) (s .args .out .now) o z l w,
+      wrote-inside (reply (s .args .input .now))
+          (s .args .out .now) o z w,
+    )
 
 pub respond-spec : {M : Type 1} → statement M
 respond-spec =

@@ -92,17 +92,49 @@ slice-aggregate-put-5 c = search needs
 -- src/lib.rt:78:64
 put-requires : tie.Need-put-requires
 put-requires c κs =
-    let s = c .before .before .before .before .before .before .before .before .before .before .before .before .before .before .before .before .before .before .before .before .before .before in
-    variants-return (s .args .file .now) (s .args .sort) (s .args .value) (s .args .most) (c .before .before .before .before .before .before .before .variants3 .given .0 .0) (c .before .before .before .before .before .before .before .variants3 .given .0 .1 .0) _ (c .before .before .before .before .before .before .before .before .before .before .before .before .before .before .variants .last .1 .1 .1 .1 .1 .1 .1 .1 .1 .0) (c .before .before .before .before .before .before .before .before .before .before .before .before .before .before .variants .last .1 .1 .1 .1 .1 .1 .1 .1 .1 .1 .0)
-    (byCase s (c .before .before .before .before .before .before .before .before .before .before .before .before .before .before .variants .last .1 .1 .1 .1 .0) (c .before .before .before .before .before .before .before .before .before .before .before .before .before .before .variants .last .1 .1 .1 .1 .1 .0) (c .before .before .before .before .before .before .before .before .before .before .before .before .before .before .variants .last .1 .1 .1 .1 .1 .1 .0) (c .before .before .before .before .before .before .before .before .before .before .before .before .before .before .variants .last .1 .1 .1 .1 .1 .1 .1 .1 .1 .0) (c .before .before .before .before .before .before .before .before .before .before .before .before .before .before .variants .last .1 .1 .1 .1 .1 .1 .1 .1 .1 .1 .0) (c .before .before .before .before .before .before .before .before .before .before .before .before .before .before .variants .result) (Kept (c .before .before .before .before .before .before .before .variants3 .given .0 .0) (c .before .before .before .before .before .before .before .variants3 .given .0 .1 .0) (c .before .before .before .before .before .before .before .variants3 .given .0 .1 .1 .0) (c .before .before .before .before .before .before .before .variants3 .given .0 .1 .1 .1 .0)) (c .before .before .before .before .before .before .before .before .before .before .before .before .before .before .variants .ensures)
+    let s = c .before .before .before .before .before .before .before .before .before .before .before .before
+    .before .before .before .before .before .before .before .before .before .before in
+    variants-return (s .args .file .now) (s .args .sort) (s .args .value) (s .args .most)
+    (c .before .before .before .before .before .before .before .variants3 .given .0 .0)
+    (c .before .before .before .before .before .before .before .variants3 .given .0 .1 .0) _
+    (c .before .before .before .before .before .before .before .before .before .before .before .before .before
+    .before .variants .last .1 .1 .1 .1 .1 .1 .1 .1 .1 .0)
+    (c .before .before .before .before .before .before .before .before .before .before .before .before .before
+    .before .variants .last .1 .1 .1 .1 .1 .1 .1 .1 .1 .1 .0)
+    (byCase s (c .before .before .before .before .before .before .before .before .before .before .before .before
+    .before .before .variants .last .1 .1 .1 .1 .0) (c .before .before .before .before .before .before .before
+    .before .before .before .before .before .before .before .variants .last .1 .1 .1 .1 .1 .0)
+    (c .before .before .before .before .before .before .before .before .before .before .before .before .before
+    .before .variants .last .1 .1 .1 .1 .1 .1 .0) (c .before .before .before .before .before .before .before
+    .before .before .before .before .before .before .before .variants .last .1 .1 .1 .1 .1 .1 .1 .1 .1 .0)
+    (c .before .before .before .before .before .before .before .before .before .before .before .before .before
+    .before .variants .last .1 .1 .1 .1 .1 .1 .1 .1 .1 .1 .0)
+    (c .before .before .before .before .before .before .before .before .before .before .before .before .before
+    .before .variants .result) (Kept (c .before .before .before .before .before .before .before .variants3 .given
+    .0 .0) (c .before .before .before .before .before .before .before .variants3 .given .0 .1 .0)
+    (c .before .before .before .before .before .before .before .variants3 .given .0 .1 .1 .0)
+    (c .before .before .before .before .before .before .before .variants3 .given .0 .1 .1 .1 .0))
+    (c .before .before .before .before .before .before .before .before .before .before .before .before .before
+    .before .variants .ensures)
     (c .before .before .before .before .before .before .before .variants3 .given .1))
 
 -- src/lib.rt:51:1
 returns : tie.Need-returns
 returns c =
-    let s = c .before .before .before .before .before .before .before .before .before .before .before .before .before .before .before .before in
-    variants-refused (s .args .file .now) (s .args .sort) (s .args .value) (s .args .most) (s .args .out .now) (c .before .variants2 .given .0 .0) _ (c .before .before .before .before .before .before .before .before .variants .last .1 .1 .1 .1 .1 .1 .1 .1 .1 .0) (c .before .before .before .before .before .before .before .before .variants .last .1 .1 .1 .1 .1 .1 .1 .1 .1 .1 .0)
-    (byCase s (c .before .before .before .before .before .before .before .before .variants .last .1 .1 .1 .1 .0) (c .before .before .before .before .before .before .before .before .variants .last .1 .1 .1 .1 .1 .0) (c .before .before .before .before .before .before .before .before .variants .last .1 .1 .1 .1 .1 .1 .0) (c .before .before .before .before .before .before .before .before .variants .last .1 .1 .1 .1 .1 .1 .1 .1 .1 .0) (c .before .before .before .before .before .before .before .before .variants .last .1 .1 .1 .1 .1 .1 .1 .1 .1 .1 .0) (c .before .before .before .before .before .before .before .before .variants .result) (Refused (c .before .variants2 .given .0 .0)) (c .before .before .before .before .before .before .before .before .variants .ensures) (c .before .variants2 .given .1))
+    let s = c .before .before .before .before .before .before .before .before .before .before .before .before
+    .before .before .before .before in
+    variants-refused (s .args .file .now) (s .args .sort) (s .args .value) (s .args .most) (s .args .out .now)
+    (c .before .variants2 .given .0 .0) _ (c .before .before .before .before .before .before .before .before
+    .variants .last .1 .1 .1 .1 .1 .1 .1 .1 .1 .0) (c .before .before .before .before .before .before .before
+    .before .variants .last .1 .1 .1 .1 .1 .1 .1 .1 .1 .1 .0)
+    (byCase s (c .before .before .before .before .before .before .before .before .variants .last .1 .1 .1 .1 .0)
+    (c .before .before .before .before .before .before .before .before .variants .last .1 .1 .1 .1 .1 .0)
+    (c .before .before .before .before .before .before .before .before .variants .last .1 .1 .1 .1 .1 .1 .0)
+    (c .before .before .before .before .before .before .before .before .variants .last .1 .1 .1 .1 .1 .1 .1 .1 .1
+    .0) (c .before .before .before .before .before .before .before .before .variants .last .1 .1 .1 .1 .1 .1 .1
+    .1 .1 .1 .0) (c .before .before .before .before .before .before .before .before .variants .result)
+    (Refused (c .before .variants2 .given .0 .0)) (c .before .before .before .before .before .before .before
+    .before .variants .ensures) (c .before .variants2 .given .1))
 
 -- src/lib.rt:51:1
 same-length : tie.Need-same-length
@@ -111,10 +143,36 @@ same-length c = search needs
 -- src/lib.rt:51:1
 returns-2 : tie.Need-returns-2
 returns-2 c =
-    let s = c .before .before .before .before .before .before .before .before .before .before .before .before .before .before .before .before .before .before .before .before .before .before .before .before .before in
-    variants-kept (s .args .file .now) (s .args .sort) (s .args .value) (s .args .most) (s .args .out .now) (c .before .before .before .before .before .before .before .before .before .before .variants3 .given .0 .0) (c .before .before .before .before .before .before .before .before .before .before .variants3 .given .0 .1 .0) _ (c .before .before .before .before .before .before .before .before .before .before .before .before .before .before .before .before .before .variants .last .1 .1 .1 .1 .1 .1 .1 .1 .1 .0) (c .before .before .before .before .before .before .before .before .before .before .before .before .before .before .before .before .before .variants .last .1 .1 .1 .1 .1 .1 .1 .1 .1 .1 .0) (c .before .before .put .result) (c .before .before .put .last .0)
-    (byCase s (c .before .before .before .before .before .before .before .before .before .before .before .before .before .before .before .before .before .variants .last .1 .1 .1 .1 .0) (c .before .before .before .before .before .before .before .before .before .before .before .before .before .before .before .before .before .variants .last .1 .1 .1 .1 .1 .0) (c .before .before .before .before .before .before .before .before .before .before .before .before .before .before .before .before .before .variants .last .1 .1 .1 .1 .1 .1 .0) (c .before .before .before .before .before .before .before .before .before .before .before .before .before .before .before .before .before .variants .last .1 .1 .1 .1 .1 .1 .1 .1 .1 .0) (c .before .before .before .before .before .before .before .before .before .before .before .before .before .before .before .before .before .variants .last .1 .1 .1 .1 .1 .1 .1 .1 .1 .1 .0) (c .before .before .before .before .before .before .before .before .before .before .before .before .before .before .before .before .before .variants .result) (Kept (c .before .before .before .before .before .before .before .before .before .before .variants3 .given .0 .0) (c .before .before .before .before .before .before .before .before .before .before .variants3 .given .0 .1 .0) (c .before .before .before .before .before .before .before .before .before .before .variants3 .given .0 .1 .1 .0) (c .before .before .before .before .before .before .before .before .before .before .variants3 .given .0 .1 .1 .1 .0)) (c .before .before .before .before .before .before .before .before .before .before .before .before .before .before .before .before .before .variants .ensures)
-    (c .before .before .before .before .before .before .before .before .before .before .variants3 .given .1)) (c .before .before .put .ensures)
+    let s = c .before .before .before .before .before .before .before .before .before .before .before .before
+    .before .before .before .before .before .before .before .before .before .before .before .before .before in
+    variants-kept (s .args .file .now) (s .args .sort) (s .args .value) (s .args .most) (s .args .out .now)
+    (c .before .before .before .before .before .before .before .before .before .before .variants3 .given .0 .0)
+    (c .before .before .before .before .before .before .before .before .before .before .variants3 .given .0 .1
+    .0) _ (c .before .before .before .before .before .before .before .before .before .before .before .before
+    .before .before .before .before .before .variants .last .1 .1 .1 .1 .1 .1 .1 .1 .1 .0)
+    (c .before .before .before .before .before .before .before .before .before .before .before .before .before
+    .before .before .before .before .variants .last .1 .1 .1 .1 .1 .1 .1 .1 .1 .1 .0)
+    (c .before .before .put .result) (c .before .before .put .last .0)
+    (byCase s (c .before .before .before .before .before .before .before .before .before .before .before .before
+    .before .before .before .before .before .variants .last .1 .1 .1 .1 .0)
+    (c .before .before .before .before .before .before .before .before .before .before .before .before .before
+    .before .before .before .before .variants .last .1 .1 .1 .1 .1 .0)
+    (c .before .before .before .before .before .before .before .before .before .before .before .before .before
+    .before .before .before .before .variants .last .1 .1 .1 .1 .1 .1 .0)
+    (c .before .before .before .before .before .before .before .before .before .before .before .before .before
+    .before .before .before .before .variants .last .1 .1 .1 .1 .1 .1 .1 .1 .1 .0)
+    (c .before .before .before .before .before .before .before .before .before .before .before .before .before
+    .before .before .before .before .variants .last .1 .1 .1 .1 .1 .1 .1 .1 .1 .1 .0)
+    (c .before .before .before .before .before .before .before .before .before .before .before .before .before
+    .before .before .before .before .variants .result) (Kept
+    (c .before .before .before .before .before .before .before .before .before .before .variants3 .given .0 .0)
+    (c .before .before .before .before .before .before .before .before .before .before .variants3 .given .0 .1
+    .0) (c .before .before .before .before .before .before .before .before .before .before .variants3 .given .0
+    .1 .1 .0) (c .before .before .before .before .before .before .before .before .before .before .variants3
+    .given .0 .1 .1 .1 .0)) (c .before .before .before .before .before .before .before .before .before .before
+    .before .before .before .before .before .before .before .variants .ensures)
+    (c .before .before .before .before .before .before .before .before .before .before .variants3 .given .1))
+    (c .before .before .put .ensures)
 
 pub variants-of-spec : {M : Type 1} → statement M
 variants-of-spec =
