@@ -228,6 +228,7 @@ pub record Promises : Type 0 where
       OfVariants
       (λ t root c n l a.
       a .answer ≡ refusal 13 → NoPlaces l (length (keptRows t root c n)) ⊎ FullAfter (l .store))
+  -- NoRoom of a base root: a list of results has no place, or the literal no room in the store.
   pub variants-base-no-room : OfBaseRoots (λ z l a. (a .answer ≡ refusal 13) ↔ NoRoomForLiteral z l)
   -- No other number is told: the file's own, 10, 17, 12 and 13,
   pub variants-numbers :
