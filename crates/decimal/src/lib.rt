@@ -37,6 +37,16 @@ fn magnitude(z: i64) -> u64
     (-(z + 1)) as u64 + 1
 }
 
+// The magnitude of any number.
+pub fn absolute(z: i64) -> u64
+    ensures { λ r. ⌜ r ≡ natAbs z ⌝ }
+{
+    if z < 0 {
+        return magnitude(z);
+    }
+    z as u64
+}
+
 // How long the text of the literal `z` is.
 pub fn literal_length(z: i64) -> u64
     ensures { λ r. ⌜ r ≡ length (literalText z) ⌝ }

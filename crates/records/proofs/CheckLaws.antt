@@ -291,6 +291,12 @@ within-get r l n t m e =
     let b = leb-true m (min 128 (n / 32)) (and-second (leb t (min 1024 (min (r / 11) l))) _ e) in
     (omega arith, omega arith, omega arith)
 
+pub within-limit : (r l n t m : ℕ) → within r l n t m ≡ true → t ≤ 1024
+unfolding within
+within-limit r l n t m e =
+    let a = leb-true t (min 1024 (min (r / 11) l)) (and-first (leb t (min 1024 (min (r / 11) l))) _ e) in
+    omega arith
+
 newName-is : (rs : List ℕ) (ls : List ℤ) (ns : List ℕ) (n m k : ℕ) → newName (store rs ls ns n m) k ≡ freshName ns k
 unfolding newName freshName
 newName-is rs ls ns n m k = refl

@@ -2,3 +2,4 @@
 pub mod WalkLaws
 pub mod RecordLaws
 pub mod CheckLaws
+pub mod BucketLaws

@@ -39,7 +39,7 @@ module _ (s : List ℕ) (a : ℕ) (k : List ℕ) where
       (λ m b.
       h m (omega arith) ∙ sym (getD-take n (drop a s) m 0 (omega arith) ∙ getD-drop a s m 0))
 
-zeros-get : (n i : ℕ) → _≡_ {A = ℕ} (getD (replicate n 0) i 0) 0
+pub zeros-get : (n i : ℕ) → _≡_ {A = ℕ} (getD (replicate n 0) i 0) 0
 zeros-get zero i = refl
 zeros-get (suc n) zero = refl
 zeros-get (suc n) (suc i) = zeros-get n i

@@ -1,2 +1,3 @@
 -- The definitions of the crate `records`.
 pub mod Flat
+pub mod Buckets

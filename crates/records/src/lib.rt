@@ -21,6 +21,7 @@ ghost use Rattle.store.specs.WellFormed.{
   wellFormed,
 };
 ghost use Rattle.records.specs.Flat.{InRecords, filled, freshName, freshRecord, soundRecordAt, within};
+ghost use Rattle.records.specs.Buckets.{digestFrom, bucketIn, Last, Chained};
 use names::Found;
 use store::Term;
 
@@ -330,30 +331,70 @@ fn is_same_record(records: &[u64], literals: &[i64], j: usize, i: usize) -> bool
     are_equal(&records[c..d], &records[e..f])
 }
 
-// Whether no record below `i` is the same as record `i`.
-fn is_new_record(records: &[u64], literals: &[i64], i: usize) -> bool
+// A number below 1,021 that depends on `start` and `s` alone.
+fn digest(start: u64, s: &[u64]) -> u64
+    requires { ⌜ start < 1021 ⌝ }
+    ensures { λ r. ⌜ r ≡ digestFrom start (now (s .entry)) ⌝ }
+    ensures { λ r. ⌜ r < 1021 ⌝ }
+{
+    let mut h = start;
+    let mut i = 0;
+    while i < s.len() {
+        h = (h * 31 + s[i] % 1021) % 1021;
+        i += 1;
+    }
+    h
+}
+
+// The bucket of record `i`: the same for records that are the same.
+fn bucket(records: &[u64], literals: &[i64], i: usize) -> usize
     requires { ⌜ InRecords (now records) (now literals) i ⌝ }
+    ensures { λ r. ⌜ r ≡ bucketIn (now (records .entry)) (now (literals .entry)) i ⌝ }
+    ensures { λ r. ⌜ r < 1021 ⌝ }
+{
+    let a = i * 11;
+    let b = a + 3;
+    let e = a + 11;
+    let h = digest(records[a + 1] % 1021, &records[b..e]);
+    let m = decimal::absolute(literals[i]) % 1021;
+    ((h + m) % 1021) as usize
+}
+
+// Whether no record below `i` is the same as record `i`: those of its bucket are looked at, from the last, `from`, on.
+fn is_new_record(records: &[u64], literals: &[i64], nexts: &[usize], from: usize, i: usize) -> bool
+    requires { ⌜ InRecords (now records) (now literals) i ⌝ }
+    requires { ⌜ Chained (bucketIn (now records) (now literals)) (now nexts) i ⌝ }
+    requires { ⌜ Last (bucketIn (now records) (now literals)) (bucketIn (now records) (now literals) i) i from ⌝ }
+    requires { ⌜ i ≤ length (now nexts) ⌝ }
     ensures { λ r. ⌜ r ≡ freshRecord (now (records .entry)) (now (literals .entry)) i ⌝ }
 {
-    let mut j = 0;
-    while j < i {
+    let mut p = from;
+    while 0 < p {
+        let j = p - 1;
         if is_same_record(records, literals, j, i) {
             return false;
         }
-        j += 1;
+        p = nexts[j];
     }
     true
 }
 
+// Whether no two records are the same. Each is compared with those of its own bucket alone, which are chained.
 fn are_records_new(records: &[u64], literals: &[i64], terms: usize) -> bool
-    requires { ⌜ (terms * 11 ≤ length (now records)) × (terms ≤ length (now literals)) ⌝ }
+    requires { ⌜ (terms * 11 ≤ length (now records)) × ((terms ≤ length (now literals)) × (terms ≤ 1024)) ⌝ }
     ensures { λ r. ⌜ r ≡ every terms (freshRecord (now (records .entry)) (now (literals .entry))) ⌝ }
 {
+    let mut lasts: [usize; 1021] = [0; 1021];
+    let mut nexts: [usize; 1024] = [0; 1024];
     let mut i = 0;
     while i < terms {
-        if !is_new_record(records, literals, i) {
+        let b = bucket(records, literals, i);
+        let from = lasts[b];
+        if !is_new_record(records, literals, &nexts, from, i) {
             return false;
         }
+        nexts[i] = from;
+        lasts[b] = i + 1;
         i += 1;
     }
     true

@@ -3,6 +3,7 @@ use mathlib.Core.Path.{sym, _∙_}
 use lib.ListN.{length}
 use Rattle.records.proofs.CheckLaws.{
   within-get,
+  within-limit,
   entries-of,
   check-counts-refuses,
   check-names-refuses,
@@ -77,11 +78,19 @@ returns-4 c =
 are-records-new-requires : tie.Need-are-records-new-requires
 are-records-new-requires c κs =
     let g = c .before .before .before .before .before .before .before .before .before .before .args in
+    let e =
+    sym (c .before .before .before .before .before .before .before .are-counts-within .ensures)
+    ∙ not-false _ (c .before .before .before .before .before .before .if1 .left) in
     let w =
     within-get (length (g .records .now)) (length (g .literals .now)) (length (g .names .now)) (g .terms)
-    (g .symbols) (sym (c .before .before .before .before .before .before .before .are-counts-within .ensures) ∙
-    not-false _ (c .before .before .before .before .before .before .if1 .left)) in
-    (w .0, w .1)
+    (g .symbols) e in (
+      w .0,
+      (
+        w .1,
+        within-limit (length (g .records .now)) (length (g .literals .now)) (length (g .names .now)) (g .terms)
+            (g .symbols) e,
+      ),
+    )
 
 returns-5 : tie.Need-returns-5
 returns-5 c =
