@@ -1,0 +1,87 @@
+-- The promises of the crate `room`, each from its law. Assumes nothing.
+use mathlib.Core.Path.{_≡_, sym, subst}
+use mathlib.Core.Bool.{true}
+use mathlib.Core.List.{List}
+use Prim.Native.Nat.{ℕ}
+use Rattle.store.specs.Lent.{Store}
+use Rattle.store.specs.WellFormed.{wellFormed}
+use Rattle.store.specs.Nodes.{number}
+use Rattle.format.specs.Table.{Table}
+use Rattle.rules.specs.Classes.{flatClass}
+use Rattle.rules.specs.Terms.{literalOf}
+use Rattle.rules.specs.Choosing.{answerFor}
+use Rattle.rules.specs.Facts.{Known}
+use Rattle.rules.proofs.CoverLaws.{root-class}
+use Rattle.answers.specs.Answers.{After}
+use Rattle.answers.specs.Best.{BestTerm, bestAt}
+use Rattle.extract.specs.Promises.{ClassRoot, BaseRoot}
+use Rattle.extract.proofs.WayLaws.{known-of, class-way, base-way}
+use Rattle.room.specs.Promises.{Promises}
+use Rattle.room.proofs.ChoiceLaws.{RoomAfter, one-choice, ByVerdict, class-told, literal-told}
+use Rattle.room.proofs.AnswerLaws.{
+  full-then,
+  full-when,
+  found-then,
+  found-when,
+  found-fits,
+  no-room-then,
+  no-room-when,
+  room-then,
+  room-when,
+  returned,
+}
+
+module _ (file : List ℕ) (root v : ℕ) (t : Table) (s : Store) where
+  abbrev c : ℕ
+  c = flatClass t root v
+
+  of-class :
+      ClassRoot file root v t → wellFormed s ≡ true →
+      ByVerdict t root c s (answerFor t root c) (bestAt file root v s)
+  of-class r f =
+      let k : Known t = known-of file root v s t (r .held) in
+      subst (ByVerdict t root c s (answerFor t root c)) (sym (class-way file root v s t (r .held) r f))
+      (class-told t k root (r .sort) s f c (root-class t k root (r .sort) v (r .inside)))
+
+  of-literal :
+      BaseRoot file root v t → wellFormed s ≡ true →
+      RoomAfter s (number (literalOf t v)) (bestAt file root v s .store) (bestAt file root v s .answer)
+  of-literal r f =
+      subst (λ (a : After BestTerm). RoomAfter s (number (literalOf t v)) (a .store) (a .answer))
+      (sym (base-way file root v s t (r .held) r f)) (literal-told s f (literalOf t v))
+
+pub promises : Promises
+promises = record {
+  no-room = λ file root v t s r f.
+      let c : ℕ = flatClass t root v in
+      let q = of-class file root v t s r f in (
+        no-room-then t root c s (bestAt file root v s) (answerFor t root c) q,
+        no-room-when t root c s (bestAt file root v s) (answerFor t root c) q,
+      );
+  given-room = λ file root v t s r f.
+      let c : ℕ = flatClass t root v in
+      let q = of-class file root v t s r f in (
+        room-then t root c s (bestAt file root v s) (answerFor t root c) q,
+        room-when t root c s (bestAt file root v s) (answerFor t root c) q,
+      );
+  returned-fits = λ file root v t s r f.
+      let c : ℕ = flatClass t root v in
+      returned t root c s (bestAt file root v s) (answerFor t root c) (of-class file root v t s r f);
+  one-choice = one-choice;
+  literal-no-room = λ file root v t s r f.
+      let u = number (literalOf t v) in
+      let a = bestAt file root v s in
+      let q = of-literal file root v t s r f in
+      (full-then s u (a .store) (a .answer) q, full-when s u (a .store) (a .answer) q);
+  literal-given-room = λ file root v t s r f.
+      let u = number (literalOf t v) in
+      let a = bestAt file root v s in
+      let q = of-literal file root v t s r f in (
+        λ e. found-then s u (a .store) (a .answer) q (e .0) (e .1),
+        found-when s u (a .store) (a .answer) q,
+      );
+  literal-returned-fits = λ file root v t s r f b e.
+      let u = number (literalOf t v) in
+      let a = bestAt file root v s in
+      found-fits s u (a .store) (a .answer) (of-literal file root v t s r f) b e .0;
+}

@@ -1,0 +1,1 @@
+// NoRoom exactly when: definitions and promises in specs/, theorems in proofs/. No code.
