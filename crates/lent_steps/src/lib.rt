@@ -1,8 +1,6 @@
-// Each call on lent structs as a step of a run: an array of 40 records is lent to it, and comes back by value where
-// the call adds. Assumes nothing.
+// Each call of the store and both texts on lent structs as a step of a run: an array of 40 records is lent to it, and
+// comes back by value where the call adds. Best and variants are in `lent_choices`. Assumes nothing.
 use entries::Name;
-use several::VariantsAnswer;
-use single::BestAnswer;
 use store::Term;
 use terms::Added;
 use terms::Compared;
@@ -19,28 +17,36 @@ pub struct Step {
     pub answer: Added,
 }
 
-// The same of the best term.
-pub struct Chosen {
+// A store's records, and how many terms and symbols it has.
+pub struct Held {
     pub ts: [Term; 40],
-    pub answer: BestAnswer,
+    pub terms: usize,
+    pub symbols: usize,
 }
 
-// The same of variants.
-pub struct Varied {
-    pub ts: [Term; 40],
-    pub answer: VariantsAnswer,
+fn no_term() -> Term {
+    Term {
+        kind: 0,
+        symbol: 0,
+        count: 0,
+        literal: 0,
+        children: [0; 8],
+    }
+}
+
+// A store with no term.
+pub fn empty() -> Held {
+    let t = no_term();
+    let ts = [t; 40];
+    Held {
+        ts,
+        terms: 0,
+        symbols: 0,
+    }
 }
 
 fn with_added(answer: Added, ts: [Term; 40]) -> Step {
     Step { ts, answer }
-}
-
-fn with_best(answer: BestAnswer, ts: [Term; 40]) -> Chosen {
-    Chosen { ts, answer }
-}
-
-fn with_variants(answer: VariantsAnswer, ts: [Term; 40]) -> Varied {
-    Varied { ts, answer }
 }
 
 pub fn add_literal(
@@ -172,44 +178,4 @@ pub fn let_text(
         bare,
         out,
     )
-}
-
-pub fn best(
-    file: &[u8],
-    sort: u64,
-    value: u64,
-    mut ts: [Term; 40],
-    ns: &mut [Name],
-    terms: usize,
-    symbols: usize,
-) -> Chosen {
-    let answer = lent_extract::best(file, sort, value, &mut ts, ns, terms, symbols);
-    with_best(answer, ts)
-}
-
-pub fn variants(
-    file: &[u8],
-    sort: u64,
-    value: u64,
-    most: usize,
-    mut ts: [Term; 40],
-    ns: &mut [Name],
-    terms: usize,
-    symbols: usize,
-    costs: &mut [u64],
-    found: &mut [u64],
-) -> Varied {
-    let answer = lent_extract::variants(
-        file,
-        sort,
-        value,
-        most,
-        &mut ts,
-        ns,
-        terms,
-        symbols,
-        costs,
-        found,
-    );
-    with_variants(answer, ts)
 }

@@ -1,4 +1,4 @@
--- `lent_steps::variants` is safe and ends: a walk of its MIR. The records are lent to
+-- `lent_choices::variants` is safe and ends: a walk of its MIR. The records are lent to
 -- `lent_extract::variants`, and `with_variants` has them then. Assumes nothing.
 use mathlib.Core.Path.{_≡_, refl}
 use Prim.Native.Nat.{ℕ}
@@ -54,21 +54,21 @@ use Rattle.lent_extract.proofs.variants.Met as wrk-thm
 use Rattle.several.specs.declared.VariantsAnswer.{VariantsAnswer}
 use Rattle.several.proofs.VariantsAnswer as R
 use Rattle.several.proofs.VariantsAnswer.Laws as R′
-use Rattle.lent_steps.proofs.with_variants as aft
-use Rattle.lent_steps.proofs.with_variants.Symbol as aft-def
-use Rattle.lent_steps.proofs.with_variants.Symbol.{name as #aft}
-use Rattle.lent_steps.proofs.with_variants.Met as aft-thm
-use Rattle.lent_steps.specs.declared.Varied.{Varied}
-use Rattle.lent_steps.proofs.Varied as D
-use Rattle.lent_steps.proofs.Varied.Laws as D′
+use Rattle.lent_choices.proofs.with_variants as aft
+use Rattle.lent_choices.proofs.with_variants.Symbol as aft-def
+use Rattle.lent_choices.proofs.with_variants.Symbol.{name as #aft}
+use Rattle.lent_choices.proofs.with_variants.Met as aft-thm
+use Rattle.lent_choices.specs.declared.Varied.{Varied}
+use Rattle.lent_choices.proofs.Varied as D
+use Rattle.lent_choices.proofs.Varied.Laws as D′
 use Rattle.lent.specs.Records.{lentStore}
 use Rattle.answers.specs.Variants.{variantsAt}
 use Rattle.variant_answers.specs.Kept.{lending}
 use Rattle.lent_extract.specs.Left.{LentVariants}
-use Rattle.lent_steps.proofs.variants.Key.{name as #it}
-use Rattle.lent_steps.proofs.variants as it
-use Rattle.lent_steps.proofs.variants.Statement as stated
-use Rattle.lent_steps.proofs.variants.Code as code
+use Rattle.lent_choices.proofs.variants.Key.{name as #it}
+use Rattle.lent_choices.proofs.variants as it
+use Rattle.lent_choices.proofs.variants.Statement as stated
+use Rattle.lent_choices.proofs.variants.Code as code
 
 abbrev Entry : RattleType
 Entry = Array u8 32
@@ -583,4 +583,4 @@ variants-spec 𝓤 H 𝓜 𝓖 𝓡 =
     (cited 𝓤 H (Of 𝓤 H (𝓖 .A) wrk.ended (wrk.clauses 𝓤 H (𝓖 .A) (𝓜 .mem) (𝓡 .run))) 𝓜 𝓡 code.env #wrk
     wrk-def.routine code.calls-lent-extract·variants (wrk-thm.met 𝓤 H 𝓜 𝓖 𝓡))
     (cited 𝓤 H (Of 𝓤 H (𝓖 .A) aft.ended (aft.clauses 𝓤 H (𝓖 .A) (𝓜 .mem) (𝓡 .run))) 𝓜 𝓡 code.env #aft
-    aft-def.routine code.calls-lent-steps·with-variants (aft-thm.met 𝓤 H 𝓜 𝓖 𝓡)))
+    aft-def.routine code.calls-lent-choices·with-variants (aft-thm.met 𝓤 H 𝓜 𝓖 𝓡)))

@@ -1,4 +1,4 @@
--- `lent_steps::best` is safe and ends: a walk of its MIR. The records are lent to
+-- `lent_choices::best` is safe and ends: a walk of its MIR. The records are lent to
 -- `lent_extract::best`, and `with_best` has them then. Assumes nothing.
 use mathlib.Core.Path.{_≡_, refl}
 use Prim.Native.Nat.{ℕ}
@@ -54,20 +54,20 @@ use Rattle.lent_extract.proofs.best.Met as wrk-thm
 use Rattle.single.specs.declared.BestAnswer.{BestAnswer}
 use Rattle.single.proofs.BestAnswer as R
 use Rattle.single.proofs.BestAnswer.Laws as R′
-use Rattle.lent_steps.proofs.with_best as aft
-use Rattle.lent_steps.proofs.with_best.Symbol as aft-def
-use Rattle.lent_steps.proofs.with_best.Symbol.{name as #aft}
-use Rattle.lent_steps.proofs.with_best.Met as aft-thm
-use Rattle.lent_steps.specs.declared.Chosen.{Chosen}
-use Rattle.lent_steps.proofs.Chosen as D
-use Rattle.lent_steps.proofs.Chosen.Laws as D′
+use Rattle.lent_choices.proofs.with_best as aft
+use Rattle.lent_choices.proofs.with_best.Symbol as aft-def
+use Rattle.lent_choices.proofs.with_best.Symbol.{name as #aft}
+use Rattle.lent_choices.proofs.with_best.Met as aft-thm
+use Rattle.lent_choices.specs.declared.Chosen.{Chosen}
+use Rattle.lent_choices.proofs.Chosen as D
+use Rattle.lent_choices.proofs.Chosen.Laws as D′
 use Rattle.lent.specs.Records.{lentStore}
 use Rattle.answers.specs.Best.{bestAt}
 use Rattle.lent_extract.specs.Left.{LentBest}
-use Rattle.lent_steps.proofs.best.Key.{name as #it}
-use Rattle.lent_steps.proofs.best as it
-use Rattle.lent_steps.proofs.best.Statement as stated
-use Rattle.lent_steps.proofs.best.Code as code
+use Rattle.lent_choices.proofs.best.Key.{name as #it}
+use Rattle.lent_choices.proofs.best as it
+use Rattle.lent_choices.proofs.best.Statement as stated
+use Rattle.lent_choices.proofs.best.Code as code
 
 abbrev Entry : RattleType
 Entry = Array u8 32
@@ -498,4 +498,4 @@ best-spec 𝓤 H 𝓜 𝓖 𝓡 =
     (cited 𝓤 H (Of 𝓤 H (𝓖 .A) wrk.ended (wrk.clauses 𝓤 H (𝓖 .A) (𝓜 .mem) (𝓡 .run))) 𝓜 𝓡 code.env #wrk
     wrk-def.routine code.calls-lent-extract·best (wrk-thm.met 𝓤 H 𝓜 𝓖 𝓡))
     (cited 𝓤 H (Of 𝓤 H (𝓖 .A) aft.ended (aft.clauses 𝓤 H (𝓖 .A) (𝓜 .mem) (𝓡 .run))) 𝓜 𝓡 code.env #aft
-    aft-def.routine code.calls-lent-steps·with-best (aft-thm.met 𝓤 H 𝓜 𝓖 𝓡)))
+    aft-def.routine code.calls-lent-choices·with-best (aft-thm.met 𝓤 H 𝓜 𝓖 𝓡)))

@@ -1,9 +1,9 @@
--- `lent_runs::all_kept` is safe and ends: at most nine variants are written. Assumes nothing.
+-- `choice_runs::all_kept` is safe and ends: at most nine variants are written. Assumes nothing.
 use Prim.Native.Nat.{_≤_, _-_}
 use borrow.Author.Needs.{needs}
 use native.Mathlib.Omega.{arith}
-use Rattle.lent_runs.proofs.all_kept.Statement.{statement}
-use Rattle.lent_runs.proofs.all_kept.Tie as tie
+use Rattle.choice_runs.proofs.all_kept.Statement.{statement}
+use Rattle.choice_runs.proofs.all_kept.Tie as tie
 
 abbrev Inv-loop : tie.InvT-loop
 Inv-loop h ns k costs found i₀ i = (i ≤ 9)

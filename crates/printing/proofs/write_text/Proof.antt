@@ -1,9 +1,9 @@
--- `lent_runs::write_text` is safe and ends: no byte past the end is read. Assumes nothing.
+-- `printing::write_text` is safe and ends: no byte past the end is read. Assumes nothing.
 use Prim.Native.Nat.{_≤_, _-_}
 use borrow.Author.Needs.{needs}
 use native.Mathlib.Omega.{arith}
-use Rattle.lent_runs.proofs.write_text.Statement.{statement}
-use Rattle.lent_runs.proofs.write_text.Tie as tie
+use Rattle.printing.proofs.write_text.Statement.{statement}
+use Rattle.printing.proofs.write_text.Tie as tie
 
 abbrev Inv-loop : tie.InvT-loop
 Inv-loop out n i₀ t5 i = (i ≤ n)
