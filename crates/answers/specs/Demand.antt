@@ -17,8 +17,8 @@ use Rattle.answers.specs.Answers.{Answer, value, refusal, After, refused
 use Rattle.answers.specs.Best.{BestTerm}
 
 -- "a deriving term comes back; its exact cost is the number reported; none is cheaper; and down its chosen rows no
--- class is met twice on a path": the term that the number names in the returned store.
--- What was there before is still there.
+-- class is met twice on a path": the term that the number names in the returned store. What was there before is still
+-- there.
 pub record ComesBack (t : Table) (c w : ℕ) (s : Store) (b : BestTerm) (s′ : Store) : Type 0 where
   pub cost : b .cost ≡ w
   pub tree : Tree

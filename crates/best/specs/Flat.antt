@@ -1,5 +1,5 @@
--- A table's rows for a root sort as flat lists, and what the best term of a class answers.
--- Assumes nothing: definitions.
+-- A table's rows for a root sort as flat lists, and what the best term of a class answers. Assumes nothing:
+-- definitions.
 use mathlib.Core.Path.{_≡_}
 use mathlib.Core.Bool.{true}
 use mathlib.Core.List.{List}
@@ -23,8 +23,8 @@ use Rattle.answers.specs.Best.{BestTerm, bestTerm, bestClass}
 use Rattle.best.specs.declared.Best.{Best}
 use Rattle.best.specs.declared.Best.the-variants.{Found, NoTerm as Nothing, TooDear as Dear, NoRoom as Full}
 
--- The rows of table t that a root sort reaches, in scan order, as flat lists; `functions` has the function of each row
--- of the file, `labels` the functions' names (32 bytes each), `values` the literals.
+-- The rows of table t that a root sort reaches, in scan order, as flat lists; `functions` has the function of each
+-- row of the file, `labels` the functions' names (32 bytes each), `values` the literals.
 pub record FlatTable
     (t : Table) (root : ℕ) (outputs heads starts children order functions labels : List ℕ) (values : List ℤ) : Type 0
   where

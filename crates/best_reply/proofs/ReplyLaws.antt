@@ -1,5 +1,5 @@
--- The whole text of an answer of best: the term's text in its place, the newline, then the line before it.
--- Assumes nothing.
+-- The whole text of an answer of best: the term's text in its place, the newline, then the line before it. Assumes
+-- nothing.
 use mathlib.Core.Path.{_≡_, refl, sym, ap, subst, _∙_}
 use mathlib.Core.Bool.{Bool, true, false}
 use mathlib.Core.List.{List, [], _∷_, _++_}

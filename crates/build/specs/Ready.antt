@@ -43,8 +43,8 @@ pub record Planned (plan ranks functions : List ℕ) (values : List ℤ) (c : �
   pub falls : (j : ℕ) → j < countOf plan c → placeOf plan c j < 512 → getD ranks (placeOf plan c j) 0 < getD ranks c 0
   pub known : (j : ℕ) → j < countOf plan c → 512 ≤ placeOf plan c j → placeOf plan c j - 512 < length values
 
--- what building class c asks: a plan for every class with a rank, a memo with a place for each that tells the truth of
--- a well-formed store, and a rank
+-- what building class c asks: a plan for every class with a rank, a memo with a place for each that tells the truth
+-- of a well-formed store, and a rank
 pub record Ready (plan ranks functions : List ℕ) (values : List ℤ) (me : List ℕ) (s : Store) (c : ℕ) : Type 0 where
   pub planned : (k : ℕ) → 0 < getD ranks k 0 → Planned plan ranks functions values k
   pub inside : (k : ℕ) → 0 < getD ranks k 0 → k < length me

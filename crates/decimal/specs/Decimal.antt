@@ -1,5 +1,5 @@
--- Decimal text: document 01, 'What is ported, in order'. A text is a list of bytes.
--- Assumes nothing: these are definitions.
+-- Decimal text: document 01, 'What is ported, in order'. A text is a list of bytes. Assumes nothing: these are
+-- definitions.
 use Prim.Native.Nat.{ℕ, zero, suc, _+_, _/_, _%_}
 use mathlib.Core.Bool.{true, false}
 use mathlib.Core.List.{List, [], _∷_, _++_}

@@ -17,14 +17,14 @@ unfoldable mutual
   AllUsableIn usable none = Unit {0}
   AllUsableIn usable (more t f) = AllUsable usable t × AllUsableIn usable f
 
--- "call a term deriving if it is finite and built from rows neither subsumed nor of barred functions":
--- it derives class c.
+-- "call a term deriving if it is finite and built from rows neither subsumed nor of barred functions": it derives
+-- class c.
 pub record Deriving (rows : List Row) (usable : ℕ → Bool) (c : ℕ) (t : Tree) : Type 0 where
   pub derives : Derives rows t (class c)
   pub all-usable : AllUsable usable t
 
--- "a deriving term ..; its exact cost is the number reported; none is cheaper; and down its chosen rows no class is met
--- twice on a path."
+-- "a deriving term ..; its exact cost is the number reported; none is cheaper; and down its chosen rows no class is
+-- met twice on a path."
 pub record Cheapest (rows : List Row) (usable : ℕ → Bool) (c v : ℕ) (t : Tree) : Type 0 where
   pub is-deriving : Deriving rows usable c t
   pub exact : treeCost rows t ≡ v

@@ -1,5 +1,5 @@
--- A field of the file: document 01, 'Refusal numbers', Short "the input ends before a field does".
--- Assumes nothing: definitions.
+-- A field of the file: document 01, 'Refusal numbers', Short "the input ends before a field does". Assumes nothing:
+-- definitions.
 use Prim.Native.Nat.{ℕ, _+_, _*_}
 use mathlib.Core.List.{List}
 use mathlib.Core.Bool.{Bool}

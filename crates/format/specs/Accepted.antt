@@ -45,8 +45,8 @@ pub record RowOk (sorts : List Sort) (l : ℕ) (functions : List Function) (r : 
 abbrev pub Differ : List Function → Type 0
 Differ fs = (i j : ℕ) → i < j → j < length fs → functionNo fs i .name ≡ functionNo fs j .name → ⊥
 
--- An accepted table: each count is within its limit, each sort, function and row is as document 01 says,
--- and names differ.
+-- An accepted table: each count is within its limit, each sort, function and row is as document 01 says, and names
+-- differ.
 pub record Accepted (t : Table) : Type 0 where
   pub sorts-few : length (t .sorts) ≤ 31
   pub sorts-ok : Every SortOk (t .sorts)

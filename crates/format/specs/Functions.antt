@@ -58,8 +58,8 @@ flagsAt s at =
     then (field s p 1) (λ hidden q.
     got (record { unextractable = unextractable; hidden = hidden }) q))
 
--- "output sort 5 bits, an eq sort"; BadSort: "sort number not below S, or a base output sort".
--- The sorts have the kinds.
+-- "output sort 5 bits, an eq sort"; BadSort: "sort number not below S, or a base output sort". The sorts have the
+-- kinds.
 unfoldable pub outputAt : List ℕ → List ℕ → ℕ → Got ℕ
 outputAt s kinds at =
     then (field s at 5) (λ k p.
@@ -78,8 +78,8 @@ argumentsAt s sortCount at =
     must (leb n 8) BadSize
     (many (λ xs q. argumentAt s sortCount q) n p []))
 
--- "Each: name ..; has-cost ..; unextractable 1; hidden 1; output sort ..; arity ..; argument sorts",
--- after the functions before it.
+-- "Each: name ..; has-cost ..; unextractable 1; hidden 1; output sort ..; arity ..; argument sorts", after the
+-- functions before it.
 unfoldable pub functionAt : List ℕ → List ℕ → List Function → ℕ → Got Function
 functionAt s kinds before at =
     then (newNameAt s before at) (λ name p.

@@ -30,8 +30,8 @@ functionNo functions k =
 abbrev pub columns : Function → List ℕ
 columns f = f .arguments ++ (f .output ∷ [])
 
--- "An eq cell is below its sort's class count, a base cell is a literal index below L":
--- the bound of a cell of the sort k.
+-- "An eq cell is below its sort's class count, a base cell is a literal index below L": the bound of a cell of the
+-- sort k.
 unfoldable pub range : List Sort → ℕ → ℕ → ℕ
 range sorts l k = pick (eqb (sortNo sorts k .kind) 1) (sortNo sorts k .classes) l
 

@@ -1,5 +1,5 @@
-// The fields of a function after its name: cost, flags, output sort and argument sorts,
-// each into place `i` of its array.
+// The fields of a function after its name: cost, flags, output sort and argument sorts, each into place `i` of its
+// array.
 ghost use mathlib.Core.Path.{_≡_};
 ghost use Prim.Native.Nat.{_+_, _*_, _^_, _<_, _≤_};
 ghost use mathlib.Core.List.{[]};

@@ -5,8 +5,8 @@ ghost use lib.ListN.{length};
 ghost use Rattle.pieces.specs.Pieces.{capped};
 ghost use Rattle.writer.specs.Piece.{piece, view, Sheet};
 
-// How long what `writer::put` writes is, cut at 2^63. A term that is shared and has no let name has at most three terms
-// in its tree, so no tree is walked twice but those.
+// How long what `writer::put` writes is, cut at 2^63. A term that is shared and has no let name has at most three
+// terms in its tree, so no tree is walked twice but those.
 pub fn text_length(
     records: &[u64],
     literals: &[i64],

@@ -1,5 +1,5 @@
--- The store as a lent list of term records and a lent list of name entries: document 01, 'Terms'.
--- Assumes nothing: these are definitions.
+-- The store as a lent list of term records and a lent list of name entries: document 01, 'Terms'. Assumes nothing:
+-- these are definitions.
 use Prim.Native.Nat.{ℕ, zero, suc, min}
 use mathlib.Core.Path.{_≡_}
 use mathlib.Core.List.{List, [], _∷_, _++_}
@@ -27,8 +27,8 @@ unfoldable pub literalsOf : List Term → List ℤ
 literalsOf [] = []
 literalsOf (t ∷ ts) = t .literal ∷ literalsOf ts
 
--- "the term store is a lent list of term records, at most 1,024, .. with a lent symbol table of up to 128 names": of a
--- longer list the records past 1,024 and the entries past 128 are no part of the store
+-- "the term store is a lent list of term records, at most 1,024, .. with a lent symbol table of up to 128 names": of
+-- a longer list the records past 1,024 and the entries past 128 are no part of the store
 unfoldable pub lentStore : List Term → List (List ℕ) → ℕ → ℕ → Store
 lentStore ts ns n m = store (flat (take 1024 ts)) (literalsOf (take 1024 ts)) (entriesOf (take 128 ns)) n m
 

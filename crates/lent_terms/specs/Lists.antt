@@ -12,8 +12,8 @@ use Rattle.terms.specs.Answers.{Answer, seenAdded}
 use Rattle.terms.specs.declared.Added.{Added}
 use Rattle.lent_terms.specs.declared.Adding.{Adding}
 
--- The call answers as wanted, and the lent lists are then the wanted store. Where that is the store as it was lent, as
--- on every refusal, the lists are as they were.
+-- The call answers as wanted, and the lent lists are then the wanted store. Where that is the store as it was lent,
+-- as on every refusal, the lists are as they were.
 pub record LentAdded (ts : List Term) (ns : List (List ℕ)) (n m : ℕ) (wanted : Answer ℕ × Store) (r : Added)
     (ts′ : List Term) (ns′ : List (List ℕ)) : Type 0 where
   pub answer : seenAdded r (wanted .1 .records) (wanted .1 .literals) (wanted .1 .names) n m ≡ wanted

@@ -1,5 +1,5 @@
--- What the store's calls on lent lists promise beside their contracts.
--- Assumes nothing: a record, with one field for each theorem.
+-- What the store's calls on lent lists promise beside their contracts. Assumes nothing: a record, with one field for
+-- each theorem.
 use Prim.Native.Nat.{ℕ}
 use mathlib.Core.Path.{_≡_}
 use mathlib.Core.List.{List}

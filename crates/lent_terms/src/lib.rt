@@ -1,6 +1,6 @@
 // The store's calls on a lent slice of term records and a lent slice of name entries. Each copies the records and the
-// entries once into arrays of its own, hands them to the call of the same name in the crate `terms`, and,
-// where it adds, puts them back.
+// entries once into arrays of its own, hands them to the call of the same name in the crate `terms`, and, where it
+// adds, puts them back.
 ghost use mathlib.Core.Path.{_≡_};
 ghost use Rattle.terms.specs.Answers.{seenFound, seenCount, seenOrder, seenSort};
 ghost use Rattle.terms.specs.Calls.{

@@ -9,8 +9,8 @@ use prepare::Opened;
 use reader::Outcome;
 use refusals::Refusal;
 
-// The first fault, a literal's index, or a flat class with the number of rows that its sort reaches, of their children
-// and of all classes.
+// The first fault, a literal's index, or a flat class with the number of rows that its sort reaches, of their
+// children and of all classes.
 pub enum Loaded {
     Refused(Refusal),
     Literal(u64),

@@ -1,5 +1,5 @@
--- A symbol table in a list of bytes: 32 for each name, its length, its bytes, and zeros.
--- Assumes nothing: these are definitions.
+-- A symbol table in a list of bytes: 32 for each name, its length, its bytes, and zeros. Assumes nothing: these are
+-- definitions.
 use Prim.Native.Nat.{ℕ, zero, suc, _+_, _*_, _-_, _≤_, _<_}
 use mathlib.Core.Path.{_≡_}
 use mathlib.Core.Bool.{Bool, true, false}

@@ -66,8 +66,8 @@ pub fn read_literals(s: &[u8], at: usize, literals: &mut [i64; 512]) -> Part
     }
 }
 
-// "function count F, 7 bits", then the functions, into eight arrays of zeros;
-// the `n` sorts have the first kinds of `kinds`.
+// "function count F, 7 bits", then the functions, into eight arrays of zeros; the `n` sorts have the first kinds of
+// `kinds`.
 pub fn read_functions(
     s: &[u8],
     at: usize,
@@ -116,8 +116,8 @@ pub fn read_functions(
     }
 }
 
-// "row count 11 bits, 0 to 1,024", then the rows, into three arrays of zeros,
-// against the arrays of sorts and functions.
+// "row count 11 bits, 0 to 1,024", then the rows, into three arrays of zeros, against the arrays of sorts and
+// functions.
 pub fn read_rows(
     s: &[u8],
     at: usize,

@@ -20,8 +20,8 @@ pub record SortsStand (sorts literals : ℕ) (kinds classes : List ℕ) (t : Tab
   pub literals-are : length (t .literals) ≡ literals
   pub held : HoldsSorts kinds classes (t .sorts)
 
--- An accepted table stands in the arrays, its functions' names in one of their own; how many sorts,
--- functions and rows it has.
+-- An accepted table stands in the arrays, its functions' names in one of their own; how many sorts, functions and
+-- rows it has.
 pub record Stands (sorts functions rows : ℕ)
     (kinds classes declared costs unextractable hidden : List ℕ)
     (outputs arities arguments rowFunctions subsumed cells : List ℕ) (t : Table) : Type 0 where

@@ -7,16 +7,16 @@ use Rattle.refusals.specs.declared.Refusal.the-variants.{BadMode}
 use Rattle.fields.specs.Got.{Got, got, then, must}
 use Rattle.fields.specs.Field.{field}
 
--- What is asked: 0 best with let text, 1 variants, 2 best with plain text; of which sort and value;
--- and how many variants.
+-- What is asked: 0 best with let text, 1 variants, 2 best with plain text; of which sort and value; and how many
+-- variants.
 pub record Query : Type 0 where
   pub mode : ℕ
   pub sort : ℕ
   pub value : ℕ
   pub most : ℕ
 
--- "mode 2 bits .., sort 5, value 9, n 8; then the table file": each checked as it is read, BadMode at mode 3. The four
--- fields are three bytes, so the file starts at the fourth.
+-- "mode 2 bits .., sort 5, value 9, n 8; then the table file": each checked as it is read, BadMode at mode 3. The
+-- four fields are three bytes, so the file starts at the fourth.
 unfoldable pub queryAt : List ℕ → Got Query
 queryAt input =
     then (field input 0 2) (λ mode a.

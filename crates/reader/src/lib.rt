@@ -25,8 +25,8 @@ pub enum Outcome {
     Refused(Refusal),
 }
 
-// The rows from position `at`, and then the end of the file: into three arrays of zeros,
-// against those of sorts and functions.
+// The rows from position `at`, and then the end of the file: into three arrays of zeros, against those of sorts and
+// functions.
 fn read_tail(
     s: &[u8],
     at: usize,

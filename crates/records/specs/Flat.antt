@@ -1,5 +1,5 @@
--- Tests on the flat lists of a lent store, and the record that is made of its parts.
--- Assumes nothing: these are definitions.
+-- Tests on the flat lists of a lent store, and the record that is made of its parts. Assumes nothing: these are
+-- definitions.
 use Prim.Native.Nat.{ℕ, _+_, _*_, _-_, _/_, _≤_, _<_, min}
 use mathlib.Core.Path.{_≡_}
 use mathlib.Core.Bool.{Bool, true, false, _&&_, not}

@@ -72,8 +72,8 @@ callOf q file =
           (let a = bestAt file (q .sort) (q .value) emptyStore in bestAnswer (eqb (q .mode) 2) (a .store) (a .answer))
     ]
 
--- "The program reads its query fields first, in order, each checked as it is read (1, or 16 at the mode),
--- then makes the call."
+-- "The program reads its query fields first, in order, each checked as it is read (1, or 16 at the mode), then makes
+-- the call."
 unfoldable pub answerTo : List ℕ → Answer (List ℕ)
 answerTo input =
     elim (queryAt input) [

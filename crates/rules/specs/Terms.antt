@@ -16,8 +16,8 @@ literalOf t i = getD (t .literals) i (pos 0)
 abbrev pub nameOf : Table → ℕ → List ℕ
 nameOf t r = functionOf t (tableRowOf t r .function) .name
 
--- A literal stands for itself, a row for its function's name applied to its children's terms.
--- Rows are numbered as in the file.
+-- A literal stands for itself, a row for its function's name applied to its children's terms. Rows are numbered as in
+-- the file.
 unfoldable mutual
   pub termOf : Table → Tree → Term
   termOf t (leaf i) = number (literalOf t i)

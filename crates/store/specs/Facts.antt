@@ -1,5 +1,5 @@
--- What the layers above may rely on: the facts of a well-formed store, document 01, 'Terms'.
--- Assumes nothing: these are definitions.
+-- What the layers above may rely on: the facts of a well-formed store, document 01, 'Terms'. Assumes nothing: these
+-- are definitions.
 use Prim.Native.Nat.{ℕ, _+_, _*_, _≤_, _<_}
 use mathlib.Core.Path.{_≡_}
 use mathlib.Core.Bool.{true}

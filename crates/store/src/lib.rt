@@ -1,5 +1,5 @@
-// The term record. What a lent store is, and when it is well formed, is defined in specs/ and published to every crate
-// above.
+// The term record. What a lent store is, and when it is well formed, is defined in specs/ and published to every
+// crate above.
 
 // A term record: its kind (0 literal, 1 variable, 2 application), the number of its symbol, the count of its children,
 // its literal, and up to eight child numbers. What its kind does not use is zero.

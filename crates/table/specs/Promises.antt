@@ -53,8 +53,8 @@ pub record Promises : Type 0 where
   -- A file is its table's bits, so two different files never hold the same table.
   pub file-is-code : (s : List ℕ) (t : Table) → Holding s t → bitsOf s ≡ codeFile t
   pub one-file : (s u : List ℕ) (t : Table) → Bytes s → Bytes u → Holding s t → Holding u t → s ≡ u
-  -- And back: the bits of a table that is as `Accepted` says are a file that holds it,
-  -- so that each such table has a file.
+  -- And back: the bits of a table that is as `Accepted` says are a file that holds it, so that each such table has a
+  -- file.
   pub code-is-file : (s : List ℕ) (t : Table) → Accepted t → bitsOf s ≡ codeFile t → Holding s t
   pub every-table : (t : Table) → Accepted t → (s : List ℕ) × (Bytes s × Holding s t)
   -- "The longest valid file has 21,385 bytes.": none is longer, and one is as long.

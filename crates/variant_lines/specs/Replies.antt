@@ -22,8 +22,8 @@ replyTexts node n costs terms zero = []
 replyTexts node n costs terms (suc k) =
     replyTexts node n costs terms k ++ replyText node n (suc k) (getD costs k 0) (getD terms k 0)
 
--- What is relied on: the first n terms can be read, no term has a let name,
--- and the table has the lengths of their plain texts.
+-- What is relied on: the first n terms can be read, no term has a let name, and the table has the lengths of their
+-- plain texts.
 pub record PlainSheet (rs : List ℕ) (ls : List ℤ) (ns ps ws : List ℕ) (n : ℕ) : Type 0 where
   pub readable : Readable rs ls ns n
   pub zeros : Zeros ps

@@ -1,5 +1,5 @@
--- The text of a term as it is written: one form, whose gap is a space or a new line.
--- Assumes nothing: these are definitions.
+-- The text of a term as it is written: one form, whose gap is a space or a new line. Assumes nothing: these are
+-- definitions.
 use mathlib.Core.Bool.{Bool, true, false}
 use mathlib.Core.List.{List, []}
 use Prim.Native.Nat.{ℕ, zero, suc, _+_, _-_, _^_, _<_, _≤_}

@@ -4,8 +4,8 @@ ghost use lib.ListN.{length};
 ghost use Rattle.decimal.specs.Written.{Wrote};
 ghost use Rattle.writer.specs.Piece.{piece, view, Sheet};
 
-// Writes term `t` at indent `i`, `m` more spaces after each newline: its let name, if its place is above `lim`, or its
-// own text (`src/termdag.rs`, to_string and to_string_with_let).
+// Writes term `t` at indent `i`, `m` more spaces after each newline: its let name, if its place is above `lim`, or
+// its own text (`src/termdag.rs`, to_string and to_string_with_let).
 pub fn put(
     out: &mut [u8],
     records: &[u64],

@@ -1,5 +1,5 @@
--- `variants_reply::put` meets its contract: a well-formed store can be read, and no term has a let name.
--- Assumes nothing.
+-- `variants_reply::put` meets its contract: a well-formed store can be read, and no term has a let name. Assumes
+-- nothing.
 use Prim.Native.Nat.{ℕ, _≤_}
 use mathlib.Core.Path.{ap, _∙_}
 use mathlib.Core.List.{List}
