@@ -1,6 +1,5 @@
 -- What building does: the term of a class stands in the store that comes back, or an add had no room. By induction
--- on the
--- definition, with no code in sight. Assumes nothing.
+-- on the definition, with no code in sight. Assumes nothing.
 use Prim.{Dec, yes, no}
 use Prim.Native.Nat.{ℕ, zero, suc, _+_, _-_, _≤_, _<_}
 use mathlib.Core.Path.{_≡_, refl, subst, ap, _∙_}

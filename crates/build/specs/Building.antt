@@ -58,8 +58,7 @@ ownIn name c (done ks s) = kept c (added s (add (s .lent) (application name ks))
 ownIn name c (full me rs ls ns) = full me rs ls ns
 
 -- "The term is built children first, left to right, then the term itself, once per sort and class." The number f
--- bounds the
--- depth; a class's rank is enough.
+-- bounds the depth; a class's rank is enough.
 unfoldable pub buildIn : Plan → ℕ → State → ℕ → Out ℕ
 buildIn p zero s c = noMore (s .memo) (s .lent)
 buildIn p (suc f) s c =

@@ -144,8 +144,7 @@ fn choose(
 }
 
 // The first `most` variants of class `c`, over the lists that a table was laid in: `n` rows with `m` children, over
-// `w`
-// classes.
+// `w` classes.
 pub fn of_class(
     flat: &[u64],
     heads: &[u64],

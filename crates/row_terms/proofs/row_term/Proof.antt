@@ -1,6 +1,5 @@
 -- `row_terms::row_term` meets its contract. The loop's invariant is `Turn`: the children before place j are built as
--- the
--- definition builds them. Assumes nothing.
+-- the definition builds them. Assumes nothing.
 use Prim.Native.Nat.{ℕ, _-_, _<_}
 use mathlib.Core.Path.{refl, sym, _∙_}
 use lib.ListN.{length, getD, take}

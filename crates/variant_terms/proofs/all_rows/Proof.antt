@@ -1,6 +1,5 @@
 -- `variant_terms::all_rows` meets its contract. The loop's invariant is `Turn`: the rows before place j are built as
--- the
--- definition builds them. Assumes nothing.
+-- the definition builds them. Assumes nothing.
 use Prim.Native.Nat.{ℕ, _-_}
 use mathlib.Core.Path.{refl}
 use lib.ListN.{length}
