@@ -16,8 +16,9 @@ use std::process::ExitCode;
 /// The program's room for its output.
 const ROOM: usize = 16_384;
 
-const STORE_WHY: &str = "every call checks the whole lent store first, comparing each two of its terms, since it may \
-be handed any (demand 1); the Rust trusts its own store and finds a term by its hash";
+const STORE_WHY: &str = "every call checks the whole lent store first, every record and every name of it, since it may \
+be handed any (demand 1), and then looks at each term for the one; the Rust trusts its own store and finds a term by \
+its hash";
 
 const READING: &str = "Needlevale's time has the reading of the file in it, the Rust's second time has not";
 const UNKNOWN: &str = "why is not known yet";
