@@ -1,12 +1,13 @@
 -- What building a class keeps: a law about stores that each addition keeps is kept by the whole. By induction on the
 -- definition, with no code in sight. Assumes nothing.
 use Prim.Native.Nat.{ℕ, zero, suc, _-_, _≤_, _<_}
-use mathlib.Core.Path.{_≡_, refl, subst}
+use mathlib.Core.Path.{_≡_, refl, ap, subst}
 use mathlib.Core.Bool.{Bool, true, false}
 use mathlib.Core.List.{List, [], _∷_, _++_, append-nil, append-assoc}
 use native.Mathlib.Omega.{arith}
-use lib.ListN.{getD}
+use lib.ListN.{length, getD}
 use lib.Dec.{ltb}
+use Rattle.names.specs.Name.{valid}
 use Rattle.store.specs.Lent.{Store}
 use Rattle.store.specs.WellFormed.{wellFormed}
 use Rattle.store.specs.Nodes.{Node, literal, application, Tree, number, applied, Trees}
@@ -37,9 +38,10 @@ use Rattle.build.proofs.StandingLaws.{
   standAll-length,
   standAll-below,
   standAll-trees,
-  childTree-unique,
+  treesOf-unique,
 }
 use Rattle.build.proofs.BuildingLaws.{Right, RightBelow, child-right, build-right}
+use Rattle.answers.specs.Variants.{ownVariant}
 use Rattle.room.proofs.HoldLaws.{AllTrees, NodeTree}
 use Rattle.room.proofs.StepLaws.{GoodAdd}
 
@@ -47,6 +49,17 @@ use Rattle.room.proofs.StepLaws.{GoodAdd}
 abbrev pub Good : (Store → Type 0) → Type 0 → Out ℕ → Type 0
 Good G Bad (done t s) = G (s .lent)
 Good G Bad (full me rs ls ns) = Bad
+
+-- G is kept by every addition of a node whose tree is needed
+abbrev pub Step : (Store → Type 0) → (Tree → Type 0) → Type 0 → Type 0
+Step G Need Bad =
+    (s : Store) (node : Node) (u : Tree) →
+    wellFormed s ≡ true →
+    Fit s node →
+    NodeTree s node u →
+    Need u →
+    G s →
+    GoodAdd G Bad (add s node)
 
 module _ (p : Plan) where
   -- what the tree of a child is
@@ -59,13 +72,12 @@ module _ (p : Plan) where
   inverse ofValue = refl
 
   record Rows (c : ℕ) (u : Tree) : Type 0 where
-    name : List ℕ
     trees : Trees
-    is : u ≡ applied name trees
+    is : u ≡ applied (p .name c) trees
     of : TreesOf p (p .children c) trees
 
   rows : {c : ℕ} {u : Tree} → TreeOf p c u → Rows c u
-  rows (ofRow {name = n} {ts = ts} e a) = record { name = n; trees = ts; is = refl; of = a }
+  rows (ofRow {ts = ts} e a) = record { trees = ts; is = ap (λ (n : List ℕ). applied n ts) e; of = a }
 
   -- a child has a tree that is needed
   pub record Needed (Need : Tree → Type 0) (x : Child) : Type 0 where
@@ -85,13 +97,11 @@ module _ (p : Plan) where
   module _
       (rank : ℕ → ℕ) (ranked : Ranked p rank) (G : Store → Type 0) (Need : Tree → Type 0) (Bad : Type 0)
       (down : (n : List ℕ) (ts : Trees) → Need (applied n ts) → AllTrees Need ts)
-      (step :
-      (s : Store) (node : Node) (u : Tree) → wellFormed s ≡ true → Fit s node → NodeTree s node u → Need u → G s →
-      GoodAdd G Bad (add s node)) where
+      (step : Step G Need Bad) where
     children-needed : (c : ℕ) → Needed Need (class c) → AllNeeded Need (p .children c)
     children-needed c n =
         let r = rows (inverse (n .of)) in
-        trees-needed Need (r .of) (down (r .name) (r .trees) (subst Need (r .is) (n .need)))
+        trees-needed Need (r .of) (down (p .name c) (r .trees) (subst Need (r .is) (n .need)))
 
     added-good : (s : State) (a : Adds) → GoodAdd G Bad a → Good G Bad (added s a)
     unfolding added
@@ -113,21 +123,46 @@ module _ (p : Plan) where
     GoodKids xs (done ks s) = Kids xs ks s
     GoodKids xs (full me rs ls ns) = Bad
 
+    -- a term of that name over children that stand in the store
+    term-good :
+        (name : List ℕ) (xs : List Child) (ts : Trees) (ks : List ℕ) (s : State) →
+        valid name ≡ true →
+        length xs ≤ 8 →
+        TreesOf p xs ts →
+        Need (applied name ts) →
+        Kids xs ks s →
+        Good G Bad (added s (add (s .lent) (application name ks)))
+    term-good name xs ts ks s v few of n k =
+        let w = standAll-trees (k .stand) in
+        let e : ts ≡ w .trees = treesOf-unique of (w .of) in
+        added-good s (add (s .lent) (application name ks))
+        (step (s .lent) (application name ks) (applied name (w .trees)) (k .tracks .formed)
+        (v, omega (arith, standAll-length (k .stand), few), standAll-below (k .stand)) (w .trees, w .means, refl)
+        (subst (λ (x : Trees). Need (applied name x)) e n) (k .good))
+
     own-good :
         (c : ℕ) (o : Out (List ℕ)) → 0 < rank c → Needed Need (class c) → GoodKids (p .children c) o →
         Good G Bad (ownIn (p .name c) c o)
     unfolding ownIn
     own-good c (full me rs ls ns) l n k = k
     own-good c (done ks s) l n k =
-        let node : Node = application (p .name c) ks in
-        let w = standAll-trees (k .stand) in
-        let e : n .tree ≡ applied (p .name c) (w .trees) =
-        childTree-unique (n .of) (ofClass (ofRow refl (w .of))) in
-        kept-good c (added s (add (s .lent) node))
-        (added-good s (add (s .lent) node)
-        (step (s .lent) node (applied (p .name c) (w .trees)) (k .tracks .formed)
-        (ranked .named c l, omega (arith, standAll-length (k .stand), ranked .few c l), standAll-below (k .stand))
-        (w .trees, w .means, refl) (subst Need e (n .need)) (k .good)))
+        let r = rows (inverse (n .of)) in
+        kept-good c (added s (add (s .lent) (application (p .name c) ks)))
+        (term-good (p .name c) (p .children c) (r .trees) ks s (ranked .named c l) (ranked .few c l) (r .of)
+        (subst Need (r .is) (n .need)) k)
+
+    named-good :
+        (name : List ℕ) (xs : List Child) (ts : Trees) →
+        valid name ≡ true →
+        length xs ≤ 8 →
+        TreesOf p xs ts →
+        Need (applied name ts) →
+        (o : Out (List ℕ)) →
+        GoodKids xs o →
+        Good G Bad (ownVariant name o)
+    unfolding ownVariant
+    named-good name xs ts v few of n (done ks s) k = term-good name xs ts ks s v few of n k
+    named-good name xs ts v few of n (full me rs ls ns) k = k
 
     -- a builder of every class of a rank below r
     abbrev GoodBelow : ℕ → (State → ℕ → Out ℕ) → Type 0
@@ -213,3 +248,19 @@ module _ (p : Plan) where
     unfolding buildIn
     build-good zero s c h l m n k = absurd (omega arith)
     build-good (suc f) s c h l m n k = build-by f (build-good f) s c h l m n k (ltb 0 (getD (s .memo) c 0))
+
+    -- a row of that name over children that have their ranks
+    pub row-good :
+        (d : ℕ) (name : List ℕ) (xs : List Child) (ts : Trees) (s : State) →
+        valid name ≡ true →
+        length xs ≤ 8 →
+        AllLower rank d xs →
+        TreesOf p xs ts →
+        Need (applied name ts) →
+        Tracks p s →
+        G (s .lent) →
+        Good G Bad (ownVariant name (childrenIn (buildIn p d) s [] xs))
+    row-good d name xs ts s v few l of n h k =
+        named-good name xs ts v few of n (childrenIn (buildIn p d) s [] xs)
+        (children-good d (buildIn p d) (build-right p rank ranked d) (build-good d) xs l
+        (trees-needed Need of (down name ts n)) [] s [] (record { tracks = h; stand = noneStand; good = k }))

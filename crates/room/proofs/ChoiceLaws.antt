@@ -38,7 +38,7 @@ use Rattle.answers.specs.Best.{BestTerm, bestLiteral, bestBuilt, bestClass}
 use Rattle.answers.specs.Plan.{planFor, planChild, rankFor}
 use Rattle.answers.proofs.TermLaws.{chosen-term}
 use Rattle.answers.proofs.PlanLaws.{costOf, buildRank, buildRank-below, plan-ranked}
-use Rattle.room.specs.Room.{Holds, Fits, NoRoomFor, Choice, chosenTerm}
+use Rattle.room.specs.Room.{Holds, Fits, HasRoom, NoRoomFor, Choice, chosenTerm}
 use Rattle.room.proofs.StepLaws.{within-of-fits, Within, GoodAdd, add-fits, add-within}
 use Rattle.room.proofs.BuildLaws.{inverse}
 use Rattle.room.proofs.WholeLaws.{RoomBuilt, whole-room}
@@ -165,3 +165,17 @@ module _ (s : Store) (f : wellFormed s ≡ true) (z : ℤ) where
   literal-told =
       literal-by (add s (literal z)) (add-gives s (literal z) f tt) (add-fits s (literal z) f tt)
       (λ s′ g k. add-within s s′ f (g .formed) (within-of-fits s s′ f g) (literal z) (number z) tt refl k)
+
+  pub literal-full : add s (literal z) ≡ noRoom → NoRoomFor s (number z)
+  literal-full e s′ g k =
+      subst (GoodAdd (λ (b : Store). Within b s′) ⊥) e
+      (add-within s s′ f (g .formed) (within-of-fits s s′ f g) (literal z) (number z) tt refl k)
+
+  pub literal-there : (i : ℕ) (s′ : Store) → add s (literal z) ≡ at i s′ → HasRoom s (number z)
+  literal-there i s′ e =
+      let g = subst (Gives s (literal z)) e (add-gives s (literal z) f tt) in
+      record {
+        store = s′;
+        fits = subst (GoodAdd (Fits s) Unit) e (add-fits s (literal z) f tt);
+        holds = record { place = i; below = g .below; means = isNumber z (g .is) };
+      }

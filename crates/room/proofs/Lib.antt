@@ -5,6 +5,8 @@ pub mod AppendLaws
 pub mod StepLaws
 pub mod BuildLaws
 pub mod WholeLaws
+pub mod RowLaws
 pub mod ChoiceLaws
 pub mod AnswerLaws
+pub mod VariantLaws
 pub mod Promises

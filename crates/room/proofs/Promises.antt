@@ -14,8 +14,10 @@ use Rattle.rules.specs.Facts.{Known}
 use Rattle.rules.proofs.CoverLaws.{root-class}
 use Rattle.answers.specs.Answers.{After}
 use Rattle.answers.specs.Best.{BestTerm, bestAt}
+use Rattle.answers.specs.Variants.{variantsAt}
 use Rattle.extract.specs.Promises.{ClassRoot, BaseRoot}
 use Rattle.extract.proofs.WayLaws.{known-of, class-way, base-way}
+use Rattle.extract.proofs.VariantWayLaws.{class-known, class-outcome, base-kept}
 use Rattle.room.specs.Promises.{Promises}
 use Rattle.room.proofs.ChoiceLaws.{RoomAfter, one-choice, ByVerdict, class-told, literal-told}
 use Rattle.room.proofs.AnswerLaws.{
@@ -29,6 +31,15 @@ use Rattle.room.proofs.AnswerLaws.{
   room-then,
   room-when,
   returned,
+}
+use Rattle.room.proofs.VariantLaws.{
+  rows-full-told,
+  rows-full-refused,
+  rows-room-told,
+  rows-room-kept,
+  rows-returned,
+  literal-full-told,
+  literal-full-refused,
 }
 
 module _ (file : List ℕ) (root v : ℕ) (t : Table) (s : Store) where
@@ -84,4 +95,27 @@ promises = record {
       let u = number (literalOf t v) in
       let a = bestAt file root v s in
       found-fits s u (a .store) (a .answer) (of-literal file root v t s r f) b e .0;
+  variants-no-room = λ file root v n t l r f.
+      let k = class-known file root v n t l r in
+      let c : ℕ = flatClass t root v in
+      let a = variantsAt file root v n l in
+      let o = class-outcome file root v n t l r f in (
+        rows-full-told t k root (r .sort) c n l f a o,
+        λ q. rows-full-refused t k root (r .sort) c n l f a o (q .0) (q .1),
+      );
+  variants-given-room = λ file root v n t l r f.
+      let k = class-known file root v n t l r in
+      let c : ℕ = flatClass t root v in
+      let a = variantsAt file root v n l in
+      let o = class-outcome file root v n t l r f in (
+        λ q. rows-room-told t k root (r .sort) c n l f a o (q .0) (q .1),
+        λ q. rows-room-kept t k root (r .sort) c n l f a o (q .0) (q .1) (q .2),
+      );
+  variants-returned-fits = λ file root v n t l r f.
+      rows-returned t (class-known file root v n t l r) root (r .sort) (flatClass t root v) n l f
+      (variantsAt file root v n l) (class-outcome file root v n t l r f);
+  variants-literal-no-room = λ file root v n t l r f.
+      let a = variantsAt file root v n l in
+      let o = base-kept file root v n t l r f in
+      (literal-full-told l (literalOf t v) f a o, literal-full-refused l (literalOf t v) f a o);
 }

@@ -64,8 +64,8 @@ use Rattle.room.proofs.AppendLaws.{NameOf, Appended, append-leaves, sam
 pub record Within (s s′ : Store) : Type 0 where
   pub terms : (i : ℕ) → i < s .terms → Holds s′ (treeAt s i)
   pub names : (k : ℕ) → k < s .symbols → HasName s′ (symbolAt s k)
-  pub sameTerms : termRoom s′ ≡ termRoom s
-  pub sameNames : symbolRoom s′ ≡ symbolRoom s
+  pub sameTermRoom : termRoom s′ ≡ termRoom s
+  pub sameNameRoom : symbolRoom s′ ≡ symbolRoom s
 
 pub within-of-fits : (s s′ : Store) → wellFormed s ≡ true → Fits s s′ → Within s s′
 within-of-fits s s′ f g =
@@ -77,8 +77,8 @@ within-of-fits s s′ f g =
         means = means-kept s w s′ (g .nodes) l (treeAt-means s w i l);
       };
       names = λ k l. record { place = k; below = omega (arith, g .moreNames, l); is = g .names k l };
-      sameTerms = g .sameTerms;
-      sameNames = g .sameNames;
+      sameTermRoom = g .sameTermRoom;
+      sameNameRoom = g .sameNameRoom;
     }
 
 pub fits-self : (s : Store) → wellFormed s ≡ true → Fits s s
@@ -88,8 +88,8 @@ fits-self s f = record {
   nodes = λ i l. refl;
   moreNames = omega arith;
   names = λ k l. refl;
-  sameTerms = refl;
-  sameNames = refl;
+  sameTermRoom = refl;
+  sameNameRoom = refl;
 }
 
 pub fits-trans : (a b c : Store) → Fits a b → Fits b c → Fits a c
@@ -99,8 +99,8 @@ fits-trans a b c f g = record {
   nodes = λ i l. g .nodes i (omega (arith, f .more)) ∙ f .nodes i l;
   moreNames = omega (arith, f .moreNames, g .moreNames);
   names = λ k l. g .names k (omega (arith, f .moreNames)) ∙ f .names k l;
-  sameTerms = g .sameTerms ∙ f .sameTerms;
-  sameNames = g .sameNames ∙ f .sameNames;
+  sameTermRoom = g .sameTermRoom ∙ f .sameTermRoom;
+  sameNameRoom = g .sameNameRoom ∙ f .sameNameRoom;
 }
 
 -- what an addition leaves: G of the store, or Bad where there was no room
@@ -151,8 +151,8 @@ module _ (s : Store) (node : Node) (formed : wellFormed s ≡ true) (fit : Fit s
         nodes = g .grows .nodes;
         moreNames = a .renamed .more;
         names = a .renamed .old;
-        sameTerms = same-term-room s (NameOf node) (append s node) (a .renamed);
-        sameNames = same-symbol-room s (NameOf node) (append s node) (a .renamed);
+        sameTermRoom = same-term-room s (NameOf node) (append s node) (a .renamed);
+        sameNameRoom = same-symbol-room s (NameOf node) (append s node) (a .renamed);
       }
 
   pub add-fits : GoodAdd (Fits s) Unit (add s node)
@@ -195,7 +195,7 @@ module _
   term-room : findTerm s node ≡ Missing → ltb (s .terms) (termRoom s) ≡ true
   term-room m =
       let l : s .terms < s′ .terms = fewer-terms s s′ sound u (within .terms) held (absent m) in
-      lt-ltb (s .terms) (termRoom s) (omega (arith, l, terms-within s′ formed′, within .sameTerms))
+      lt-ltb (s .terms) (termRoom s) (omega (arith, l, terms-within s′ formed′, within .sameTermRoom))
 
   new-name : (n : List ℕ) → findSymbol s n ≡ Missing → (k : ℕ) → k < s .symbols → symbolAt s k ≡ n → ⊥
   new-name n m k l =
@@ -210,7 +210,7 @@ module _
       (λ e.
       let l : s .symbols < s′ .symbols = fewer-names s s′ sound n (within .names) h (new-name n e) in
       rw (e, roomForName)
-      (lt-ltb (s .symbols) (symbolRoom s) (omega (arith, l, names-within s′ formed′, within .sameNames))))
+      (lt-ltb (s .symbols) (symbolRoom s) (omega (arith, l, names-within s′ formed′, within .sameNameRoom))))
 
   room-by :
       (x : Node) → NodeTree s x u → ltb (s .terms) (termRoom s) ≡ true → roomFor s x ≡ true
@@ -266,8 +266,8 @@ module _
           cases (ltb i (s .terms)) (λ e. old-held i (ltb-true i (s .terms) e))
           (λ e. new-held i (omega (arith, ltb-false i (s .terms) e, l, a .count)));
       names = λ k l. name-by k (a .renamed .new k l);
-      sameTerms = within .sameTerms ∙ sym (same-term-room s (NameOf node) s₂ (a .renamed));
-      sameNames = within .sameNames ∙ sym (same-symbol-room s (NameOf node) s₂ (a .renamed));
+      sameTermRoom = within .sameTermRoom ∙ sym (same-term-room s (NameOf node) s₂ (a .renamed));
+      sameNameRoom = within .sameNameRoom ∙ sym (same-symbol-room s (NameOf node) s₂ (a .renamed));
     }
 
   -- the node goes in, and the store stays within the second

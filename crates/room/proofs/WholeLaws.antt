@@ -32,7 +32,7 @@ use Rattle.room.proofs.StepLaws.{
   add-fits,
   add-within,
 }
-use Rattle.room.proofs.BuildLaws.{Good, build-good}
+use Rattle.room.proofs.BuildLaws.{Good, Step, build-good}
 
 not-full : {P : Type 0} {t n m : ℕ} → Done t n m ≡ Full → P
 not-full e = let z : _≡_ {A = ℕ} 0 1 = cc in absurd (omega arith)
@@ -44,9 +44,21 @@ RoomBuilt s u (Done i n m) rs ls ns =
 RoomBuilt s u Full rs ls ns = NoRoomFor s u
 
 -- no tree need be anything
-all-trees : (ts : Trees) → AllTrees (λ (u : Tree). Unit) ts
+pub all-trees : (ts : Trees) → AllTrees (λ (u : Tree). Unit) ts
 all-trees none = tt
 all-trees (more t ts) = (tt, all-trees ts)
+
+-- what is within a store that holds the term stays within it
+pub within-step : (s′ : Store) → wellFormed s′ ≡ true → Step (λ (b : Store). Within b s′) (Holds s′) ⊥
+within-step s′ g b node v f fit e n w = add-within b s′ f g w node v fit e n
+
+-- what fits still fits
+pub fits-step : (s : Store) → Step (Fits s) (λ (v : Tree). Unit) Unit
+fits-step s b node v f fit e n k = on (add b node) (add-fits b node f fit)
+  where
+    on : (a : Adds) → GoodAdd (Fits b) Unit a → GoodAdd (Fits s) Unit a
+    on (at i s₂) q = fits-trans s b s₂ k q
+    on noRoom q = tt
 
 module _
     (p : Plan) (rank : ℕ → ℕ) (ranked : Ranked p rank) (s : Store) (c : ℕ) (formed : wellFormed s ≡ true)
@@ -59,19 +71,15 @@ module _
   never-full s′ g k =
       build-good p rank ranked (λ (b : Store). Within b s′) (Holds s′) ⊥
       (children-held s′ (sound-of-wellFormed s′ (g .formed)))
-      (λ b node v f fit e n w. add-within b s′ f (g .formed) w node v fit e n)
+      (within-step s′ (g .formed))
       (rank c + 1) (state (replicate 512 0) s) c (tracks-of-zeros p 512 s formed) h (omega arith)
       (record { tree = u; of = tree; need = k }) (within-of-fits s s′ formed g)
-
-  fits-on : (b : Store) → Fits s b → (a : Adds) → GoodAdd (Fits b) Unit a → GoodAdd (Fits s) Unit a
-  fits-on b k (at i s₂) q = fits-trans s b s₂ k q
-  fits-on b k noRoom q = tt
 
   -- what is built fits
   always-fits : Good (Fits s) Unit built
   always-fits =
       build-good p rank ranked (Fits s) (λ (v : Tree). Unit) Unit (λ n ts q. all-trees ts)
-      (λ b node v f fit e n k. fits-on b k (add b node) (add-fits b node f fit))
+      (fits-step s)
       (rank c + 1) (state (replicate 512 0) s) c (tracks-of-zeros p 512 s formed) h (omega arith)
       (record { tree = u; of = tree; need = tt }) (fits-self s formed)
 

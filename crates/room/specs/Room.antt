@@ -4,6 +4,7 @@
 use Prim.Native.Nat.{ℕ, _≤_, _<_}
 use mathlib.Core.Path.{_≡_}
 use mathlib.Core.Bool.{true}
+use mathlib.Core.List.{List}
 use Rattle.store.specs.Lent.{Store, symbolAt, termRoom, symbolRoom}
 use Rattle.store.specs.WellFormed.{wellFormed}
 use Rattle.store.specs.Nodes.{nodeAt, Tree as Term, Means}
@@ -15,6 +16,7 @@ use Rattle.rules.specs.Rows.{tableRows, usable}
 use Rattle.rules.specs.Terms.{termOf}
 use Rattle.rules.specs.Choosing.{limit}
 use Rattle.answers.specs.Plan.{planFor}
+use Rattle.variant_facts.specs.Terms.{RowTerms}
 
 -- One of the store's numbers means the term.
 pub record Holds (s : Store) (u : Term) : Type 0 where
@@ -23,15 +25,16 @@ pub record Holds (s : Store) (u : Term) : Type 0 where
   pub means : Means s place u
 
 -- What the first store may become in its room: a well-formed store with the same room for terms and for names, in
--- which every term and every name of the first has its number. What stands past the counts may be anything.
+-- which every term and every name of the first, also one that no term has, keeps its number. What stands past the
+-- counts may be anything.
 pub record Fits (s s′ : Store) : Type 0 where
   pub formed : wellFormed s′ ≡ true
   pub more : s .terms ≤ s′ .terms
   pub nodes : (i : ℕ) → i < s .terms → nodeAt s′ i ≡ nodeAt s i
   pub moreNames : s .symbols ≤ s′ .symbols
   pub names : (k : ℕ) → k < s .symbols → symbolAt s′ k ≡ symbolAt s k
-  pub sameTerms : termRoom s′ ≡ termRoom s
-  pub sameNames : symbolRoom s′ ≡ symbolRoom s
+  pub sameTermRoom : termRoom s′ ≡ termRoom s
+  pub sameNameRoom : symbolRoom s′ ≡ symbolRoom s
 
 -- Some such store holds the term,
 pub record HasRoom (s : Store) (u : Term) : Type 0 where
@@ -55,3 +58,15 @@ pub record Choice (t : Table) (root c : ℕ) : Type 0 where
 -- Its term.
 abbrev pub chosenTerm : (t : Table) (root c : ℕ) → Choice t root c → Term
 chosenTerm t root c x = termOf t (x .tree)
+
+-- Some store that the first may become holds the terms of the rows: of each its function's name over its children's
+-- terms, each class by its edge,
+pub record HasRoomForRows (t : Table) (root : ℕ) (s : Store) (rows : List ℕ) : Type 0 where
+  pub store : Store
+  pub numbers : List ℕ
+  pub fits : Fits s store
+  pub terms : RowTerms t root store rows numbers
+
+-- or none does.
+abbrev pub NoRoomForRows : Table → ℕ → Store → List ℕ → Type 0
+NoRoomForRows t root s rows = (s′ : Store) (us : List ℕ) → Fits s s′ → RowTerms t root s′ rows us → ⊥
