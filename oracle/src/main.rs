@@ -3,7 +3,8 @@
 use standin::modes::{self, End};
 use std::process::ExitCode;
 
-const USAGE: &str = "oracle needs one of these modes: run, answer, gen SEED N, gen short, gen flips, stats SEED N, terms, \
+const USAGE: &str =
+    "oracle needs one of these modes: run, answer, gen SEED N, gen short, gen flips, stats SEED N, terms, \
 answer-terms, gen-terms SEED N, edges, record FOLDER, smallest, diff CASES EXPECTED GOT";
 
 fn number<T: std::str::FromStr>(word: &str, what: &str) -> Result<T, End> {
