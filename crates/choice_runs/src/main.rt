@@ -2,7 +2,6 @@
 // them. Assumes nothing.
 use entries::Name;
 use lent_steps::Held;
-use libc::STDOUT_FILENO;
 use several::VariantsAnswer;
 use single::BestAnswer;
 
@@ -20,15 +19,6 @@ fn bound(h: Held, ns: &[Name], t: usize) {
     printing::write_let(answer, &out);
 }
 
-fn write_three(a: u64, b: u64, c: u64) {
-    printing::write_number(a);
-    io::write_all(STDOUT_FILENO, b" ");
-    printing::write_number(b);
-    io::write_all(STDOUT_FILENO, b" ");
-    printing::write_number(c);
-    io::write_all(STDOUT_FILENO, b"\n");
-}
-
 // The best term of class `value` of sort 0, on an empty store, and its texts.
 fn best(file: &[u8], value: u64) {
     let h = lent_steps::empty();
@@ -40,8 +30,8 @@ fn best(file: &[u8], value: u64) {
     let answer = s.answer;
     match answer {
         BestAnswer::Found(cost, term, passes, terms, symbols) => {
-            io::write_all(STDOUT_FILENO, b"best ");
-            write_three(cost, terms as u64, passes);
+            let list = [cost, terms as u64, passes];
+            printing::write_line(b"best", &list);
             let after = Held { ts, terms, symbols };
             bound(after, &ns, term);
             plain(after, &ns, term);
@@ -51,8 +41,8 @@ fn best(file: &[u8], value: u64) {
 }
 
 fn variant(h: Held, ns: &[Name], i: usize, cost: u64, term: u64) {
-    io::write_all(STDOUT_FILENO, b"variant ");
-    write_three(i as u64, cost, h.terms as u64);
+    let list = [i as u64, cost, h.terms as u64];
+    printing::write_line(b"variant", &list);
     plain(h, ns, term as usize);
 }
 
@@ -79,11 +69,8 @@ fn variants(file: &[u8]) {
     let answer = s.answer;
     match answer {
         VariantsAnswer::Kept(k, passes, terms, symbols) => {
-            io::write_all(STDOUT_FILENO, b"variants ");
-            printing::write_number(k as u64);
-            io::write_all(STDOUT_FILENO, b" ");
-            printing::write_number(passes);
-            io::write_all(STDOUT_FILENO, b"\n");
+            let list = [k as u64, passes];
+            printing::write_line(b"variants", &list);
             let after = Held { ts, terms, symbols };
             all_kept(after, &ns, costs, found, k);
         }

@@ -3,6 +3,7 @@ pub mod RecordLaws
 pub mod CopyLaws
 pub mod Values
 pub mod Lending
+pub mod ArrayLaws
 pub mod Calling
 pub mod StoreLaws
 pub mod Promises

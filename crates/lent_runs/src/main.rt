@@ -3,6 +3,7 @@
 // texts, and what can be found: as the oracle answers them (oracle/lent-runs). Assumes nothing.
 use entries::Name;
 use lent_steps::Held;
+use lent_steps::Step;
 use libc::STDOUT_FILENO;
 use orders::Ordering;
 use refusals::Refusal;
@@ -18,9 +19,8 @@ fn next(x: u64) -> u64 {
 }
 
 fn write_term(i: usize) {
-    io::write_all(STDOUT_FILENO, b"term ");
-    printing::write_number(i as u64);
-    io::write_all(STDOUT_FILENO, b"\n");
+    let list = [i as u64];
+    printing::write_line(b"term", &list);
 }
 
 fn write_order(order: Ordering) {
@@ -37,20 +37,10 @@ fn write_order(order: Ordering) {
     }
 }
 
-fn write_sorted(a: u64, b: u64, c: u64, d: u64) {
-    io::write_all(STDOUT_FILENO, b"sorted ");
-    printing::write_number(a);
-    io::write_all(STDOUT_FILENO, b" ");
-    printing::write_number(b);
-    io::write_all(STDOUT_FILENO, b" ");
-    printing::write_number(c);
-    io::write_all(STDOUT_FILENO, b" ");
-    printing::write_number(d);
-    io::write_all(STDOUT_FILENO, b"\n");
-}
-
 // Writes what an adding call answered; the store after it.
-fn added(answer: Added, ts: [Term; 40], n: usize, m: usize) -> Held {
+fn added(s: Step, n: usize, m: usize) -> Held {
+    let ts = s.ts;
+    let answer = s.answer;
     match answer {
         Added::Term(i, terms, symbols) => {
             write_term(i);
@@ -85,18 +75,14 @@ fn add_literal(h: Held, ns: &[Name], x: u64) -> Held {
     let ts = h.ts;
     let z = value(x);
     let s = lent_steps::add_literal(ts, ns, h.terms, h.symbols, z);
-    let after = s.ts;
-    let answer = s.answer;
-    added(answer, after, h.terms, h.symbols)
+    added(s, h.terms, h.symbols)
 }
 
 fn add_variable(h: Held, ns: &mut [Name], x: u64) -> Held {
     let ts = h.ts;
     let name = [118, printing::digit(x / 16)];
     let s = lent_steps::add_variable(ts, ns, h.terms, h.symbols, &name);
-    let after = s.ts;
-    let answer = s.answer;
-    added(answer, after, h.terms, h.symbols)
+    added(s, h.terms, h.symbols)
 }
 
 fn add_application(h: Held, ns: &mut [Name], x: u64) -> Held {
@@ -105,9 +91,7 @@ fn add_application(h: Held, ns: &mut [Name], x: u64) -> Held {
     let children = [x / 64 % 32, x / 2048 % 32, x / 65536 % 32];
     let n = (x / 16 % 4) as usize;
     let s = lent_steps::add_application(ts, ns, h.terms, h.symbols, &name, &children[..n]);
-    let after = s.ts;
-    let answer = s.answer;
-    added(answer, after, h.terms, h.symbols)
+    added(s, h.terms, h.symbols)
 }
 
 fn find_application(h: Held, ns: &[Name], x: u64) {
@@ -134,7 +118,7 @@ fn sort(h: Held, ns: &[Name], x: u64) {
     let mut list = [x / 64 % 40, x / 2048 % 40, x / 65536 % 40, x / 131072 % 40];
     let answer = lent_steps::sort(ts, ns, h.terms, h.symbols, &mut list);
     match answer {
-        Verdict::Done => write_sorted(list[0], list[1], list[2], list[3]),
+        Verdict::Done => printing::write_line(b"sorted", &list),
         Verdict::Refused(refusal) => printing::write_refusal(refusal),
     }
 }
@@ -179,9 +163,8 @@ fn size(h: Held, ns: &[Name]) {
     let ts = h.ts;
     match lent_steps::size(ts, ns, h.terms, h.symbols) {
         Counted::Terms(n) => {
-            io::write_all(STDOUT_FILENO, b"size ");
-            printing::write_number(n as u64);
-            io::write_all(STDOUT_FILENO, b"\n");
+            let list = [n as u64];
+            printing::write_line(b"size", &list);
         }
         Counted::Refused(refusal) => printing::write_refusal(refusal),
     }
@@ -217,17 +200,6 @@ fn write_name(ns: &[Name], k: u64) {
     io::write_all(STDOUT_FILENO, &names[a..e]);
 }
 
-fn write_children(children: [u64; 8], count: u64) {
-    let mut j: usize = 0;
-    while j < 8 {
-        if (j as u64) < count {
-            io::write_all(STDOUT_FILENO, b" ");
-            printing::write_number(children[j]);
-        }
-        j += 1;
-    }
-}
-
 fn write_record(t: Term, ns: &[Name]) {
     if t.kind == 0 {
         io::write_all(STDOUT_FILENO, b"literal ");
@@ -242,7 +214,7 @@ fn write_record(t: Term, ns: &[Name]) {
     io::write_all(STDOUT_FILENO, b"app ");
     write_name(ns, t.symbol);
     let children = t.children;
-    write_children(children, t.count);
+    printing::write_list(&children, t.count as usize);
 }
 
 fn get(h: Held, ns: &[Name], t: usize) {

@@ -10,7 +10,7 @@ pub fn digit(n: u64) -> u8 {
 }
 
 // A number below 1,000.
-pub fn write_number(n: u64) {
+fn write_number(n: u64) {
     if n < 10 {
         let one = [digit(n)];
         io::write_all(STDOUT_FILENO, &one);
@@ -25,10 +25,28 @@ pub fn write_number(n: u64) {
     io::write_all(STDOUT_FILENO, &three);
 }
 
-pub fn write_refusal(refusal: Refusal) {
-    io::write_all(STDOUT_FILENO, b"refused ");
-    write_number(refusals::number(refusal) as u64);
+// The first `n` numbers, a space before each.
+pub fn write_list(list: &[u64], n: usize) {
+    let mut i: usize = 0;
+    while i < n {
+        if i < list.len() {
+            io::write_all(STDOUT_FILENO, b" ");
+            write_number(list[i]);
+        }
+        i += 1;
+    }
+}
+
+// A line of a word and numbers.
+pub fn write_line(word: &[u8], list: &[u64]) {
+    io::write_all(STDOUT_FILENO, word);
+    write_list(list, list.len());
     io::write_all(STDOUT_FILENO, b"\n");
+}
+
+pub fn write_refusal(refusal: Refusal) {
+    let list = [refusals::number(refusal) as u64];
+    write_line(b"refused", &list);
 }
 
 fn write_byte(b: u8) {

@@ -2,11 +2,11 @@
 -- Assumes nothing.
 use native.Mathlib.Omega.{arith}
 use Prim.Native.Nat.{_*_}
-use mathlib.Core.Path.{_≡_, sym, ap, _∙_}
+use mathlib.Core.Path.{_≡_, sym, _∙_}
 use mir.Syntax.{w64}
 use mir.Val.{toZ, ofZ}
 use lib.Seq.{length-take-le}
-use lib.ListN.{length, take}
+use lib.ListN.{length}
 use Rattle.lent_terms.proofs.AddedLaws.{added-same-names}
 use Rattle.store.specs.Lent.{Store}
 use Rattle.terms.specs.Calls.{addLiteral}

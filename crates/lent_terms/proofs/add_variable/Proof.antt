@@ -1,6 +1,6 @@
 -- `lent_terms::add_variable` meets its contract: a walk of its MIR, by hand. The records are copied, `add_variable_in`
 -- does the work, and the records are put back. Assumes nothing.
-use mathlib.Core.Path.{_≡_, refl, ap, subst}
+use mathlib.Core.Path.{_≡_, refl}
 use Prim.Native.Nat.{ℕ, _≤_}
 use mathlib.Core.List.{List, [], _∷_, _++_}
 use lib.ListN.{length, drop as dropped}
@@ -42,7 +42,6 @@ use denote.Exit.{yes}
 use denote.Struct.Laws as LL
 use Rattle.store.specs.declared.Term.{Term}
 use Rattle.store.proofs.Term as T
-use Rattle.store.proofs.Term.Laws as T′
 use Rattle.lent.specs.declared.Flat.{Flat}
 use Rattle.lent.proofs.Flat as F
 use Rattle.lent.proofs.Flat.Laws as F′
@@ -66,7 +65,6 @@ use Rattle.lent.specs.Copies.{Loaded, Whole, storeIn}
 use Rattle.lent.proofs.Lending.{ref, slice-shown, slice-unshown}
 use Rattle.lent.proofs.Calling.{Of, calls-plain, calls-changing}
 use denote.Enum.Laws as EL
-use Rattle.terms.specs.declared.Added.{Added}
 use Rattle.terms.proofs.Added as R
 use Rattle.terms.proofs.Added.Laws as R′
 use Rattle.store.specs.Lent.{Store}
@@ -74,6 +72,7 @@ use Rattle.terms.specs.Calls.{addVariable}
 use Rattle.lent.specs.Records.{lentStore}
 use Rattle.lent.proofs.StoreLaws.{loaded-fits}
 use Rattle.lent_terms.specs.Lists.{AddedIn, LentAdded}
+use Rattle.lent_terms.proofs.AddingLaws.{spelled, is-flat, answer-val, is-answer}
 use Rattle.lent_terms.proofs.AddedLaws.{lent-added}
 use Rattle.lent_terms.proofs.add_variable.Key.{name as #it}
 use Rattle.lent_terms.proofs.add_variable as it
@@ -94,23 +93,6 @@ stayed = (
     ),
   ),
 )
-
--- of the work's struct: its machine value, its copy of the records, and its answer
-spelled : (r : Adding) (u : Val) → Is D.the-row r (u ∷ []) → u ≡ D′.lowered r
-spelled r u is = ap only (D′.lowers .val-is r (u ∷ []) is)
-
-is-flat : (r : Adding) (vs : List Val) → Is D.the-row r vs → Is F.the-row (r .flat) (F′.lowered (r .flat) ∷ [])
-is-flat r vs is =
-    let p = LL.owed D.the-type D′.the-laws r vs is .0 in
-    subst (Is F.the-row (r .flat)) (F′.lowers .val-is (r .flat) _ p) p
-
-abbrev answer-val : Adding → Val
-answer-val r = R′.lowered (r .added)
-
-is-answer : (r : Adding) (vs : List Val) → Is D.the-row r vs → Is R.the-row (r .added) (answer-val r ∷ [])
-is-answer r vs is =
-    let p = LL.owed D.the-type D′.the-laws r vs is .1 .0 in
-    subst (Is R.the-row (r .added)) (R′.lowers .val-is (r .added) _ p) p
 
 module _ {M : Type 1} (𝓤 : URA M) (H : Heap 𝓤) (A : Atoms 𝓤) (W : Given 𝓤 H A)
     (mem : Memory → SProp 𝓤) (run : Routine → Fun 𝓤)

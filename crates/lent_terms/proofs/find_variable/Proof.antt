@@ -40,7 +40,6 @@ use denote.Exit.{yes}
 use denote.Struct.Laws as LL
 use Rattle.store.specs.declared.Term.{Term}
 use Rattle.store.proofs.Term as T
-use Rattle.store.proofs.Term.Laws as T′
 use Rattle.lent.specs.declared.Flat.{Flat}
 use Rattle.lent.proofs.Flat as F
 use Rattle.lent.proofs.Flat.Laws as F′
@@ -53,7 +52,7 @@ use Rattle.lent_terms.proofs.find_variable_in.Symbol as wrk-def
 use Rattle.lent_terms.proofs.find_variable_in.Symbol.{name as #wrk}
 use Rattle.lent_terms.proofs.find_variable_in.Met as wrk-thm
 use Rattle.lent.specs.Copies.{Loaded, Whole, storeIn}
-use Rattle.lent.proofs.Calling.{Of, calls-plain, calls-changing}
+use Rattle.lent.proofs.Calling.{Of, calls-plain}
 use denote.Enum.Laws as EL
 use Rattle.terms.specs.declared.Looked.{Looked}
 use Rattle.terms.proofs.Looked as R

@@ -1,7 +1,7 @@
 -- `lent_terms::get_in` meets its contract: the entries are copied, and `terms::get` does the work. Assumes nothing.
 use native.Mathlib.Omega.{arith}
 use Prim.Native.Nat.{_*_}
-use mathlib.Core.Path.{_≡_, sym, ap, _∙_}
+use mathlib.Core.Path.{sym, ap, _∙_}
 use lib.Seq.{length-take-le}
 use Rattle.store.specs.Lent.{Store}
 use Rattle.terms.specs.Calls.{getTerm}

@@ -41,7 +41,6 @@ use denote.Exit.{yes}
 use denote.Struct.Laws as LL
 use Rattle.store.specs.declared.Term.{Term}
 use Rattle.store.proofs.Term as T
-use Rattle.store.proofs.Term.Laws as T′
 use Rattle.lent.specs.declared.Flat.{Flat}
 use Rattle.lent.proofs.Flat as F
 use Rattle.lent.proofs.Flat.Laws as F′

@@ -1,15 +1,15 @@
--- `lent_runs::write_children` is safe and ends: at most eight children are written. Assumes nothing.
+-- `printing::write_list` is safe and ends: no number past the end is read. Assumes nothing.
 use Prim.Native.Nat.{_≤_, _-_}
 use borrow.Author.Needs.{needs}
 use native.Mathlib.Omega.{arith}
-use Rattle.lent_runs.proofs.write_children.Statement.{statement}
-use Rattle.lent_runs.proofs.write_children.Tie as tie
+use Rattle.printing.proofs.write_list.Statement.{statement}
+use Rattle.printing.proofs.write_list.Tie as tie
 
 abbrev Inv-loop : tie.InvT-loop
-Inv-loop count children j₀ t5 j = (j ≤ 8)
+Inv-loop list n i₀ t5 i = (i ≤ n)
 
 abbrev μ-loop : tie.MeasureT-loop
-μ-loop count children j₀ t5 j = 8 - j
+μ-loop list n i₀ t5 i = n - i
 
 loop-holds : tie.Need-loop-holds Inv-loop μ-loop
 loop-holds c = search needs
@@ -23,14 +23,14 @@ write-all-requires c κs = search needs
 mul-write-number : tie.Need-mul-write-number Inv-loop μ-loop
 mul-write-number c = search needs
 
-array-read-write-number : tie.Need-array-read-write-number Inv-loop μ-loop
-array-read-write-number c = search needs
+shared-slice-read-write-number : tie.Need-shared-slice-read-write-number Inv-loop μ-loop
+shared-slice-read-write-number c = search needs
 
 write-number-requires : tie.Need-write-number-requires Inv-loop μ-loop
 write-number-requires c κs = search needs
 
-add-j : tie.Need-add-j Inv-loop μ-loop
-add-j c = search needs
+add-i : tie.Need-add-i Inv-loop μ-loop
+add-i c = search needs
 
 loop-less : tie.Need-loop-less Inv-loop μ-loop
 loop-less c = search needs
@@ -41,8 +41,8 @@ loop-again c = search needs
 returns : tie.Need-returns Inv-loop μ-loop
 returns c = search needs
 
-pub write-children-spec : {M : Type 1} → statement M
-write-children-spec =
+pub write-list-spec : {M : Type 1} → statement M
+write-list-spec =
     tie.close
     (tie.spec
     Inv-loop
@@ -51,9 +51,9 @@ write-children-spec =
     slice-aggregate-write-all
     write-all-requires
     mul-write-number
-    array-read-write-number
+    shared-slice-read-write-number
     write-number-requires
-    add-j
+    add-i
     loop-less
     loop-again
     returns)
