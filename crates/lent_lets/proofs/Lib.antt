@@ -1,0 +1,2 @@
+-- The laws of the crate `lent_lets`.
+pub mod Promises

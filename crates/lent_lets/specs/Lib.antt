@@ -1,0 +1,2 @@
+-- The definitions of the crate `lent_lets`.
+pub mod Promises
