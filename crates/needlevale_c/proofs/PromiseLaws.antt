@@ -113,7 +113,10 @@ module _ (input out : List ℕ) where
 
   pub no-room-when : (replied input out .answer ≡ refusal 13) ↔ ((answerTo input ≡ refusal 13) ⊎ TooLong input out)
   unfolding Cases
-  no-room-when = (all-cases (answerTo input) refl .2, λ x. elim x [ inl e ↦ refusal-told 13 e | inr t ↦ long-refused t ])
+  no-room-when = (
+    all-cases (answerTo input) refl .2,
+    λ x. elim x [ inl e ↦ refusal-told 13 e | inr t ↦ long-refused t ],
+  )
 
 -- A literal's number and the count of terms then.
 module _ (s : Store) (v : ℤ) where

@@ -1,6 +1,6 @@
 -- What the library for C promises, beside its contracts: document 01, 'The program', 'Terms' and 'Refusal numbers'.
--- `replied` and `addLiteral` are the definitions that its two functions equal. Assumes nothing: a record, with one field
--- for each theorem.
+-- `replied` and `addLiteral` are the definitions that its two functions equal. Assumes nothing: a record, with one
+-- field for each theorem.
 use Prim.Native.Nat.{ℕ, _+_, _<_}
 use mathlib.Core.Path.{_≡_}
 use mathlib.Core.List.{List, _++_}

@@ -17,7 +17,8 @@ use Rattle.terms.proofs.add_literal.Reads as add-literal-reads
 
 -- the store that is lent
 abbrev lent : tie.Start → Store
-lent s = store (s .args .records .now) (s .args .literals .now) (s .args .names .now) (s .args .terms) (s .args .symbols)
+lent s =
+    store (s .args .records .now) (s .args .literals .now) (s .args .names .now) (s .args .terms) (s .args .symbols)
 
 -- src/lib.rt:41:9
 add-literal-requires : tie.Need-add-literal-requires
@@ -65,7 +66,8 @@ returns c =
     (rw (toZ-ofZ (s .fits .value)) at (a .ensures)) (t .0 .0) (t .0 .1 .0) (t .0 .1 .1 .0) (t .1) in
     adds-term (lent s) (s .args .value) (a .last .0) (a .last .1 .0) (s .args .names .now)
     (s .args .terms) (s .args .symbols) (a .result)
-    (rw (toZ-ofZ (s .fits .value)) at (a .ensures)) (t .0 .0) (t .0 .1 .0) (t .0 .1 .1 .0) _ (t .1) (toZ-pos w64 (omega (arith, l)))
+    (rw (toZ-ofZ (s .fits .value)) at (a .ensures))
+    (t .0 .0) (t .0 .1 .0) (t .0 .1 .1 .0) _ (t .1) (toZ-pos w64 (omega (arith, l)))
 
 -- src/lib.rt:28:1
 same-length-3 : tie.Need-same-length-3
@@ -83,7 +85,8 @@ returns-2 c =
     let t = c .before .before .added2 .given in
     adds-refused (lent s) (s .args .value) (a .last .0) (a .last .1 .0) (s .args .names .now)
     (s .args .terms) (s .args .symbols) (a .result)
-    (rw (toZ-ofZ (s .fits .value)) at (a .ensures)) (t .0 .0) _ (t .1) (toZ-ofZ (record { sfits = c .below-zero .ok }) ∙ c .below-zero .ensures)
+    (rw (toZ-ofZ (s .fits .value)) at (a .ensures))
+    (t .0 .0) _ (t .1) (toZ-ofZ (record { sfits = c .below-zero .ok }) ∙ c .below-zero .ensures)
 
 pub needlevale-add-literal-spec : {M : Type 1} → statement M
 needlevale-add-literal-spec =
