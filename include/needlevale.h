@@ -1,8 +1,8 @@
 /* Needlevale as a C library: the program's answer and one call on a term store, from libneedlevale_c.a (x86-64 Linux).
  *
  * Proved, for every content of the buffers: a call returns, reads and writes nothing outside them, and gives exactly
- * the answer that the definitions written from document 01 give (crates/replies/specs/Reply.antt, `replied`;
- * crates/terms/specs/Calls.antt, `addLiteral`). A refusal changes no buffer, and bytes past a text's length stay: these
+ * the answer that the definitions written from document 01 give (crates/program_rules/specs/Reply.antt, `replied`;
+ * crates/term/specs/Calls.antt, `addLiteral`). A refusal changes no buffer, and bytes past a text's length stay: these
  * and the rest in crates/needlevale_c/specs/Promises.antt.
  *
  * Not proved, and the caller's part: each pointer stands for as many readable elements as its length says, those that

@@ -12,13 +12,13 @@ use lib.Seq.{getD-set-same, getD-set-other, set-out}
 use lib.Dec.{ltb}
 use lib.IntN.{ℤ}
 use borrow.Author.Tests.{ltb-true, ltb-false}
-use Rattle.store.specs.Lent.{Store}
-use Rattle.store.specs.WellFormed.{wellFormed}
-use Rattle.store.specs.Nodes.{Node, literal, application, number, applied, isNumber, isApplied}
-use Rattle.store.specs.Adding.{Adds, at, noRoom, add}
-use Rattle.adding.specs.Growing.{Beyond, Grows, Takes, Gives}
-use Rattle.adding.proofs.PasteLaws.{getD-zeros}
-use Rattle.adding.proofs.AddingLaws.{grows-refl, grows-trans, add-gives}
+use Rattle.term_rules.specs.Lent.{Store}
+use Rattle.term_rules.specs.WellFormed.{wellFormed}
+use Rattle.term_rules.specs.Nodes.{Node, literal, application, number, applied, isNumber, isApplied}
+use Rattle.term_rules.specs.Adding.{Adds, at, noRoom, add}
+use Rattle.term_rules.specs.Growing.{Beyond, Grows, Takes, Gives}
+use Rattle.term_rules.proofs.Adding.PasteLaws.{getD-zeros}
+use Rattle.term_rules.proofs.Adding.AddingLaws.{grows-refl, grows-trans, add-gives}
 use Rattle.build.specs.Plan.{Child, class, value, Plan, ofRow, ofClass, ofValue}
 use Rattle.build.specs.Building.{State, state, Out, done, full, added, kept, childIn, childrenIn, ownIn, buildIn}
 use Rattle.build.specs.Standing.{Stands, Tracks, Builds, Stuck}

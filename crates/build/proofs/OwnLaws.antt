@@ -6,13 +6,13 @@ use native.Mathlib.Omega.{arith}
 use mathlib.Core.List.{List}
 use lib.ListN.{set}
 use lib.IntN.{ℤ}
-use Rattle.store.specs.Lent.{Store, store}
-use Rattle.store.specs.Nodes.{Node, application}
-use Rattle.store.specs.Adding.{at, noRoom, add}
-use Rattle.store.specs.WellFormed.{wellFormed}
-use Rattle.store.proofs.FactsLaws.{sound-of-wellFormed}
-use Rattle.adding.specs.Growing.{Fit, Takes, Gives}
-use Rattle.adding.proofs.AddingLaws.{add-gives}
+use Rattle.term_rules.specs.Lent.{Store, store}
+use Rattle.term_rules.specs.Nodes.{Node, application}
+use Rattle.term_rules.specs.Adding.{at, noRoom, add}
+use Rattle.term_rules.specs.WellFormed.{wellFormed}
+use Rattle.term_rules.proofs.FactsLaws.{sound-of-wellFormed}
+use Rattle.term_rules.specs.Growing.{Fit, Takes, Gives}
+use Rattle.term_rules.proofs.Adding.AddingLaws.{add-gives}
 use Rattle.build.specs.Building.{state, done, full, added, kept, ownIn}
 
 module _ (me : List ℕ) (s : Store) where

@@ -4,9 +4,9 @@ use mathlib.Core.Path.{_≡_, refl, sym, ap, _∙_}
 use mathlib.Core.List.{List, [], _∷_, _++_}
 use native.Mathlib.Omega.{arith}
 use lib.ListN.{length, getD}
-use Rattle.store.specs.Lent.{Store}
-use Rattle.store.specs.Nodes.{Tree, applied, Trees, none, more, MeansAll, isNone, isMore}
-use Rattle.adding.specs.Growing.{Grows}
+use Rattle.term_rules.specs.Lent.{Store}
+use Rattle.term_rules.specs.Nodes.{Tree, applied, Trees, none, more, MeansAll, isNone, isMore}
+use Rattle.term_rules.specs.Growing.{Grows}
 use Rattle.build.specs.Plan.{Child, Plan, TreeOf, ofRow, ChildTree, ofClass, ofValue, TreesOf, ofNone, ofMore}
 use Rattle.build.specs.Standing.{Stands}
 

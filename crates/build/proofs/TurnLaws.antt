@@ -11,8 +11,8 @@ use lib.ListN.{length, getD, set, take, drop, length-set}
 use lib.Seq.{take-suc-set, getD-set-same, getD-set-other}
 use lib.IntN.{ℤ}
 use borrow.Author.Tests.{lt-ltb, le-ltb}
-use Rattle.store.specs.Nodes.{literal}
-use Rattle.store.specs.Adding.{add}
+use Rattle.term_rules.specs.Nodes.{literal}
+use Rattle.term_rules.specs.Adding.{add}
 use Rattle.build.specs.Plan.{Child, class, value, Plan, countOf, placeOf, childOf, planOf}
 use Rattle.build.specs.Building.{State, Out, done, full, added, childIn, childrenIn, ownIn, buildIn}
 use Rattle.build.specs.Standing.{Tracks}

@@ -6,9 +6,9 @@ use mathlib.Core.List.{List, [], _∷_, _++_}
 use lib.ListN.{getD, set}
 use lib.Dec.{ltb}
 use lib.IntN.{ℤ}
-use Rattle.store.specs.Lent.{Store}
-use Rattle.store.specs.Nodes.{literal, application}
-use Rattle.store.specs.Adding.{Adds, at, noRoom, add}
+use Rattle.term_rules.specs.Lent.{Store}
+use Rattle.term_rules.specs.Nodes.{literal, application}
+use Rattle.term_rules.specs.Adding.{Adds, at, noRoom, add}
 use Rattle.build.specs.Plan.{Child, class, value, Plan}
 
 -- what was built so far: of each class 0, or one more than its term's number; and the store

@@ -1,5 +1,7 @@
 -- The definitions of the crate `build`.
+pub mod Copied
 pub mod Plan
 pub mod Building
 pub mod Standing
 pub mod Ready
+pub mod Whole

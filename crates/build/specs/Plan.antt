@@ -7,8 +7,8 @@ use mathlib.Core.List.{List, [], _∷_, map}
 use lib.ListN.{getD, take, drop}
 use lib.Dec.{ltb}
 use lib.IntN.{ℤ, pos}
-use Rattle.names.specs.Entries.{nameAt}
-use Rattle.store.specs.Nodes.{Tree, number, applied, Trees, none, more}
+use Rattle.name.specs.Entries.{nameAt}
+use Rattle.term_rules.specs.Nodes.{Tree, number, applied, Trees, none, more}
 
 -- a child: a class, or a literal
 pub data Child : Type 0 where

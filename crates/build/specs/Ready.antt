@@ -5,12 +5,12 @@ use mathlib.Core.Bool.{true}
 use mathlib.Core.List.{List, [], _∷_}
 use lib.ListN.{length, getD}
 use lib.IntN.{ℤ}
-use Rattle.names.specs.Name.{valid}
-use Rattle.names.specs.Entries.{lengthAt, nameAt}
-use Rattle.store.specs.Lent.{Store, store}
-use Rattle.store.specs.WellFormed.{wellFormed}
-use Rattle.store.specs.Nodes.{literal}
-use Rattle.store.specs.Adding.{add}
+use Rattle.name.specs.Name.{valid}
+use Rattle.name.specs.Entries.{lengthAt, nameAt}
+use Rattle.term_rules.specs.Lent.{Store, store}
+use Rattle.term_rules.specs.WellFormed.{wellFormed}
+use Rattle.term_rules.specs.Nodes.{literal}
+use Rattle.term_rules.specs.Adding.{add}
 use Rattle.build.specs.Plan.{Child, class, value, Plan, functionOf, countOf, placeOf, planOf}
 use Rattle.build.specs.Building.{State, state, Out, done, full, added, buildIn}
 use Rattle.build.specs.Standing.{Tracks}

@@ -5,11 +5,11 @@ use mathlib.Core.Bool.{true}
 use mathlib.Core.List.{List}
 use lib.ListN.{getD}
 use lib.IntN.{ℤ}
-use Rattle.store.specs.Lent.{Store}
-use Rattle.store.specs.WellFormed.{wellFormed}
-use Rattle.store.specs.Nodes.{Node, Tree, Means}
-use Rattle.store.specs.Adding.{add, noRoom}
-use Rattle.adding.specs.Growing.{Grows}
+use Rattle.term_rules.specs.Lent.{Store}
+use Rattle.term_rules.specs.WellFormed.{wellFormed}
+use Rattle.term_rules.specs.Nodes.{Node, Tree, Means}
+use Rattle.term_rules.specs.Adding.{add, noRoom}
+use Rattle.term_rules.specs.Growing.{Grows}
 use Rattle.build.specs.Plan.{Child, class, Plan, ChildTree}
 use Rattle.build.specs.Building.{State}
 

@@ -5,13 +5,16 @@ ghost use Prim.Native.Nat.{ℕ, _+_, _*_, _<_, _≤_};
 ghost use mathlib.Core.Bool.{true};
 ghost use lib.ListN.{length, getD};
 ghost use lib.IntN.{pos};
-ghost use Rattle.names.specs.Entries.{nameAt};
-ghost use Rattle.store.specs.Lent.{store};
-ghost use Rattle.store.specs.WellFormed.{wellFormed};
+ghost use Rattle.name.specs.Entries.{nameAt};
+ghost use Rattle.term_rules.specs.Lent.{store};
+ghost use Rattle.term_rules.specs.WellFormed.{wellFormed};
 ghost use Rattle.build.specs.Plan.{planOf, functionOf};
 ghost use Rattle.build.specs.Building.{state, done, ownIn};
 ghost use Rattle.build.specs.Ready.{Ready, OwnReady, Exact, LiteralExact, seen};
-use interning::Added;
+use term_add::Added;
+
+pub mod copies; // copies.rt: copying what is lent, and putting it back: "Nothing lent is changed" on a refusal
+pub mod whole; // whole.rt: a class's best term as one call: all or nothing
 
 // The term's number and the counts of terms and symbols then; or that the store has no room for a term.
 pub enum Built {
@@ -38,7 +41,7 @@ pub fn literal_term(
         r (now (records .exit)) (now (literals .exit)) (now (names .entry))
         ⌝ }
 {
-    let Added::Term(t, n, k) = interning::intern_literal(
+    let Added::Term(t, n, k) = term_add::intern_literal(
         records,
         literals,
         names,
@@ -80,7 +83,7 @@ fn own_term(
     let f = plan[c * 10] as usize * 32;
     let a = f + 1;
     let e = a + functions[f] as usize;
-    let Added::Term(t, n, k) = interning::intern_application(
+    let Added::Term(t, n, k) = term_add::intern_application(
         records,
         literals,
         names,

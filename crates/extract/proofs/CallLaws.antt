@@ -5,23 +5,23 @@ use Prim.Native.Nat.{ℕ, _<_, _≤_}
 use native.Mathlib.Omega.{arith}
 use lib.IntN.{ℤ, pos}
 use lib.ListN.{length, getD}
-use Rattle.refusals.specs.declared.Refusal.{Refusal}
-use Rattle.store.specs.Lent.{Store}
-use Rattle.fields.specs.Got.{Got, got}
-use Rattle.format.specs.Table.{Table}
-use Rattle.format.specs.File.{tableAt}
-use Rattle.format.specs.Reading.{OnGot}
-use Rattle.rules.specs.Facts.{Known}
-use Rattle.held.proofs.KnownLaws.{known-of-accepted}
-use Rattle.prepare.specs.Flattened.{Space}
-use Rattle.loading.specs.Loading.{askedIn, Standing, Loads}
-use Rattle.loading.specs.declared.Loaded.{Loaded}
-use Rattle.loading.specs.declared.Loaded.the-variants.{Refused as NotLoaded, Class, Literal}
-use Rattle.loading.proofs.LoadLaws.{accepted-of}
-use Rattle.answers.specs.Answers.{After, refused}
-use Rattle.answers.specs.Best.{BestTerm, bestAt}
-use Rattle.solving.proofs.ZeroLaws.{zeros, zeros-room}
-use Rattle.single.specs.Single.{literalAnswer, FlatClass, SomeClass, ClassAnswers}
+use Rattle.refusal.specs.declared.Refusal.{Refusal}
+use Rattle.term_rules.specs.Lent.{Store}
+use Rattle.bits.specs.Got.{Got, got}
+use Rattle.file_rules.specs.Table.{Table}
+use Rattle.file_rules.specs.File.{tableAt}
+use Rattle.file_rules.specs.Reading.{OnGot}
+use Rattle.table_rules.specs.Rules.Facts.{Known}
+use Rattle.table_rows.proofs.Held.KnownLaws.{known-of-accepted}
+use Rattle.table_rows.specs.Flattened.{Space}
+use Rattle.table_rows.specs.Loading.{askedIn, Standing, Loads}
+use Rattle.table_rows.specs.declared.Loaded.{Loaded}
+use Rattle.table_rows.specs.declared.Loaded.the-variants.{Refused as NotLoaded, Class, Literal}
+use Rattle.table_rows.proofs.LoadLaws.{accepted-of}
+use Rattle.answer_rules.specs.Answers.{After, refused}
+use Rattle.answer_rules.specs.Best.{BestTerm, bestAt}
+use Rattle.price.proofs.ZeroLaws.{zeros, zeros-room}
+use Rattle.best_root.specs.Single.{literalAnswer, FlatClass, SomeClass, ClassAnswers}
 use Rattle.extract.proofs.TableLaws.{functions-length, labels-length, values-length, value-is, flat-class}
 use Rattle.extract.proofs.RootLaws.{LiteralRoot, ClassRoot, best-refuses, literal-root, class-root}
 

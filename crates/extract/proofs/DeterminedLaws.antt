@@ -3,14 +3,14 @@ use mathlib.Core.Path.{_≡_, refl, ap, sym, _∙_}
 use mathlib.Core.List.{List}
 use Prim.Native.Nat.{ℕ}
 use lib.IntN.{ℤ}
-use Rattle.refusals.specs.declared.Refusal.{Refusal}
-use Rattle.refusals.proofs.NumberLaws.{number-once}
-use Rattle.answers.specs.Answers.{After}
-use Rattle.answers.specs.Best.{BestTerm}
-use Rattle.variant_facts.proofs.OutcomeLaws.{not-refused, same-number, same-value}
-use Rattle.single.specs.declared.BestAnswer.{BestAnswer}
-use Rattle.single.specs.declared.BestAnswer.the-variants.{Found, Refused}
-use Rattle.single.specs.Single.{seenBest}
+use Rattle.refusal.specs.declared.Refusal.{Refusal}
+use Rattle.refusal.proofs.NumberLaws.{number-once}
+use Rattle.answer_rules.specs.Answers.{After}
+use Rattle.answer_rules.specs.Best.{BestTerm}
+use Rattle.extract.proofs.VariantFacts.OutcomeLaws.{not-refused, same-number, same-value}
+use Rattle.best_root.specs.declared.BestAnswer.{BestAnswer}
+use Rattle.best_root.specs.declared.BestAnswer.the-variants.{Found, Refused}
+use Rattle.best_root.specs.Single.{seenBest}
 
 found-same :
     {w w′ i i′ p p′ n n′ m m′ : ℕ} →

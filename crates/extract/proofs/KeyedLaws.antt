@@ -7,24 +7,24 @@ use native.Mathlib.Decide.{decLt}
 use native.Mathlib.Omega.{arith}
 use lib.IntN.{ℤ}
 use lib.ListN.{length, getD, take, drop, length-map, List·getD-eq-default}
-use Rattle.names.specs.Entries.{lengthAt, entry}
-use Rattle.names.proofs.EntryLaws.{entry-length}
-use Rattle.adding.proofs.NamingLaws.{valid-short}
-use Rattle.format.specs.Table.{Function, Row, Table}
-use Rattle.format.specs.Every.{Every}
-use Rattle.format.specs.Arrays.{pad, blocks}
-use Rattle.format.proofs.ArraysLaws.{padWith-length}
-use Rattle.format.proofs.BlockLaws.{every-map, blocks-length}
-use Rattle.rules.specs.Rows.{noFunction, noTableRow, functionOf, tableRowOf}
-use Rattle.rules.specs.Facts.{Known, arityOf}
-use Rattle.held.proofs.PlaceLaws.{pad-get, pad-map-get, block-take}
-use Rattle.held.proofs.HeldLaws.{every-of-get}
-use Rattle.loading.specs.Loading.{Standing}
-use Rattle.loading.specs.declared.Loaded.{Loaded}
-use Rattle.loading.specs.declared.Loaded.the-variants.{Class}
-use Rattle.ranking.specs.Arrays.{cellsIn}
-use Rattle.variants.specs.Flat.{VariantTable}
-use Rattle.several.specs.Several.{KeyedTable}
+use Rattle.name.specs.Entries.{lengthAt, entry}
+use Rattle.name.proofs.EntryLaws.{entry-length}
+use Rattle.term_rules.proofs.Adding.NamingLaws.{valid-short}
+use Rattle.file_rules.specs.Table.{Function, Row, Table}
+use Rattle.file_rules.specs.Every.{Every}
+use Rattle.file_rules.specs.Arrays.{pad, blocks}
+use Rattle.file_rules.proofs.ArraysLaws.{padWith-length}
+use Rattle.file_rules.proofs.BlockLaws.{every-map, blocks-length}
+use Rattle.table_rules.specs.Rules.Rows.{noFunction, noTableRow, functionOf, tableRowOf}
+use Rattle.table_rules.specs.Rules.Facts.{Known, arityOf}
+use Rattle.table_rows.proofs.Held.PlaceLaws.{pad-get, pad-map-get, block-take}
+use Rattle.table_rows.proofs.Held.HeldLaws.{every-of-get}
+use Rattle.table_rows.specs.Loading.{Standing}
+use Rattle.table_rows.specs.declared.Loaded.{Loaded}
+use Rattle.table_rows.specs.declared.Loaded.the-variants.{Class}
+use Rattle.variant_order.specs.Arrays.{cellsIn}
+use Rattle.variants_root.specs.Flat.{VariantTable}
+use Rattle.variants_root.specs.Several.{KeyedTable}
 use Rattle.extract.proofs.TableLaws.{
   functions-length,
   labels-length,

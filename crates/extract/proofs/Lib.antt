@@ -1,4 +1,5 @@
 -- The laws of the crate `extract`.
+pub mod VariantFacts
 pub mod TableLaws
 pub mod RootLaws
 pub mod CallLaws
@@ -11,3 +12,4 @@ pub mod DeterminedLaws
 pub mod VariantWayLaws
 pub mod VariantDeterminedLaws
 pub mod Promises
+pub mod Room

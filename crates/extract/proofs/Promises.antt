@@ -3,18 +3,18 @@ use mathlib.Core.Path.{_≡_, refl, ap, sym, _∙_, subst}
 use mathlib.Core.Bool.{true}
 use mathlib.Core.List.{List}
 use Prim.Native.Nat.{ℕ}
-use Rattle.store.specs.Lent.{Store}
-use Rattle.store.specs.WellFormed.{wellFormed}
-use Rattle.store.specs.Nodes.{literal}
-use Rattle.store.specs.Adding.{add}
-use Rattle.format.specs.Table.{Table}
-use Rattle.rules.specs.Classes.{flatClass}
-use Rattle.rules.specs.Terms.{literalOf}
-use Rattle.rules.specs.Choosing.{limit, answerFor}
-use Rattle.answers.specs.Answers.{value, After}
-use Rattle.answers.specs.Best.{BestTerm, bestAt}
-use Rattle.answers.specs.Variants.{keptRows, variantsAt}
-use Rattle.variant_facts.proofs.OutcomeLaws.{
+use Rattle.term_rules.specs.Lent.{Store}
+use Rattle.term_rules.specs.WellFormed.{wellFormed}
+use Rattle.term_rules.specs.Nodes.{literal}
+use Rattle.term_rules.specs.Adding.{add}
+use Rattle.file_rules.specs.Table.{Table}
+use Rattle.table_rules.specs.Rules.Classes.{flatClass}
+use Rattle.table_rules.specs.Rules.Terms.{literalOf}
+use Rattle.table_rules.specs.Rules.Choosing.{limit, answerFor}
+use Rattle.answer_rules.specs.Answers.{value, After}
+use Rattle.answer_rules.specs.Best.{BestTerm, bestAt}
+use Rattle.answer_rules.specs.Variants.{keptRows, variantsAt}
+use Rattle.extract.proofs.VariantFacts.OutcomeLaws.{
   dear-told,
   dear-refused,
   full-told,
@@ -22,8 +22,8 @@ use Rattle.variant_facts.proofs.OutcomeLaws.{
   literal-full,
   literal-refused,
 }
-use Rattle.variant_facts.proofs.WayLaws.{at-fault}
-use Rattle.variant_facts.proofs.CallLaws.{
+use Rattle.extract.proofs.VariantFacts.WayLaws.{at-fault}
+use Rattle.extract.proofs.VariantFacts.CallLaws.{
   literal-after,
   variants-returned,
   variants-rest,
@@ -35,8 +35,8 @@ use Rattle.variant_facts.proofs.CallLaws.{
   bad-store-then as bad-store-told,
   bad-store-when,
 }
-use Rattle.variant_facts.proofs.FirstLaws.{first-rows}
-use Rattle.variant_facts.proofs.ClassLaws.{
+use Rattle.extract.proofs.VariantFacts.FirstLaws.{first-rows}
+use Rattle.extract.proofs.VariantFacts.ClassLaws.{
   class-full,
   class-comes-back,
   class-passes as kept-passes,

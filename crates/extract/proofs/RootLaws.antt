@@ -7,27 +7,27 @@ use native.Mathlib.Omega.{arith}
 use borrow.Author.Tests.{ltb-true, lt-ltb, eqb-false}
 use lib.Dec.{eqb, ltb}
 use lib.ListN.{length}
-use Rattle.refusals.specs.declared.Refusal.{Refusal}
-use Rattle.refusals.specs.declared.Refusal.the-variants.{BadRoot}
-use Rattle.orders.proofs.OrderLaws.{cases}
-use Rattle.store.specs.Lent.{Store}
-use Rattle.store.specs.Nodes.{literal}
-use Rattle.store.specs.Adding.{add}
-use Rattle.store.proofs.TestLaws.{and-first, and-second}
-use Rattle.fields.specs.Got.{Got, got, refused as fault}
-use Rattle.format.specs.Table.{Table}
-use Rattle.format.specs.File.{tableAt}
-use Rattle.rules.specs.Classes.{sortOf, classCount, flatClass, rangeOf, isRoot}
-use Rattle.rules.specs.Terms.{literalOf}
-use Rattle.rules.proofs.ClassLaws.{flatClass-below}
-use Rattle.rules.proofs.CoverLaws.{rangeOf-eq}
-use Rattle.prepare.specs.Rooted.{rootOf}
-use Rattle.prepare.specs.declared.Root.the-variants.{Bad, Class as RootClass, Literal as RootLiteral}
-use Rattle.loading.specs.Loading.{fault as asFault, literal as asLiteral, class as asClass, askedOf, asked}
-use Rattle.answers.specs.Answers.{refused}
-use Rattle.rules.specs.Choosing.{answerFor}
-use Rattle.answers.specs.Best.{bestLiteral, bestClass, bestOf, bestAt}
-use Rattle.single.specs.Single.{ifFormed, literalAnswer, classAnswer}
+use Rattle.refusal.specs.declared.Refusal.{Refusal}
+use Rattle.refusal.specs.declared.Refusal.the-variants.{BadRoot}
+use Rattle.order.proofs.OrderLaws.{cases}
+use Rattle.term_rules.specs.Lent.{Store}
+use Rattle.term_rules.specs.Nodes.{literal}
+use Rattle.term_rules.specs.Adding.{add}
+use Rattle.term_rules.proofs.TestLaws.{and-first, and-second}
+use Rattle.bits.specs.Got.{Got, got, refused as fault}
+use Rattle.file_rules.specs.Table.{Table}
+use Rattle.file_rules.specs.File.{tableAt}
+use Rattle.table_rules.specs.Rules.Classes.{sortOf, classCount, flatClass, rangeOf, isRoot}
+use Rattle.table_rules.specs.Rules.Terms.{literalOf}
+use Rattle.table_rules.proofs.Rules.ClassLaws.{flatClass-below}
+use Rattle.table_rules.proofs.Rules.CoverLaws.{rangeOf-eq}
+use Rattle.table_rows.specs.Rooted.{rootOf}
+use Rattle.table_rows.specs.declared.prepare.Root.the-variants.{Bad, Class as RootClass, Literal as RootLiteral}
+use Rattle.table_rows.specs.Loading.{fault as asFault, literal as asLiteral, class as asClass, askedOf, asked}
+use Rattle.answer_rules.specs.Answers.{refused}
+use Rattle.table_rules.specs.Rules.Choosing.{answerFor}
+use Rattle.answer_rules.specs.Best.{bestLiteral, bestClass, bestOf, bestAt}
+use Rattle.best_root.specs.Single.{ifFormed, literalAnswer, classAnswer}
 
 pub differ : {P : Type 0} → _≡_ {A = ℕ} 0 1 → P
 differ z = absurd (omega arith)

@@ -7,26 +7,26 @@ use native.Mathlib.Omega.{arith}
 use lib.IntN.{ℤ, pos}
 use lib.ListN.{length, getD, take, drop, replicate, length-map}
 use lib.Seq.{length-take-le, getD-drop, drop-drop, take-append-seam}
-use Rattle.names.specs.Entries.{lengthAt, nameAt, entry}
-use Rattle.names.proofs.EntryLaws.{entry-length}
-use Rattle.adding.proofs.NamingLaws.{valid-short}
-use Rattle.format.specs.Table.{Function, Row, Table}
-use Rattle.format.specs.Every.{Every}
-use Rattle.format.specs.Arrays.{padWith, pad, blocks}
-use Rattle.format.proofs.ArraysLaws.{padWith-length, padWith-get}
-use Rattle.format.proofs.BlockLaws.{every-map, blocks-drop, blocks-length}
-use Rattle.rules.specs.Classes.{classCount}
-use Rattle.rules.specs.Rows.{noFunction, noTableRow, functionOf, tableRowOf}
-use Rattle.rules.specs.Terms.{literalOf, nameOf}
-use Rattle.rules.specs.Facts.{Known}
-use Rattle.held.proofs.PlaceLaws.{pad-map-get}
-use Rattle.held.proofs.HeldLaws.{every-of-get}
-use Rattle.prepare.specs.Flattened.{Flattened}
-use Rattle.loading.specs.Loading.{OnClass, Standing}
-use Rattle.loading.specs.declared.Loaded.{Loaded}
-use Rattle.loading.specs.declared.Loaded.the-variants.{Class}
-use Rattle.best.specs.Flat.{FlatTable}
-use Rattle.single.specs.Single.{FlatClass}
+use Rattle.name.specs.Entries.{lengthAt, nameAt, entry}
+use Rattle.name.proofs.EntryLaws.{entry-length}
+use Rattle.term_rules.proofs.Adding.NamingLaws.{valid-short}
+use Rattle.file_rules.specs.Table.{Function, Row, Table}
+use Rattle.file_rules.specs.Every.{Every}
+use Rattle.file_rules.specs.Arrays.{padWith, pad, blocks}
+use Rattle.file_rules.proofs.ArraysLaws.{padWith-length, padWith-get}
+use Rattle.file_rules.proofs.BlockLaws.{every-map, blocks-drop, blocks-length}
+use Rattle.table_rules.specs.Rules.Classes.{classCount}
+use Rattle.table_rules.specs.Rules.Rows.{noFunction, noTableRow, functionOf, tableRowOf}
+use Rattle.table_rules.specs.Rules.Terms.{literalOf, nameOf}
+use Rattle.table_rules.specs.Rules.Facts.{Known}
+use Rattle.table_rows.proofs.Held.PlaceLaws.{pad-map-get}
+use Rattle.table_rows.proofs.Held.HeldLaws.{every-of-get}
+use Rattle.table_rows.specs.Flattened.{Flattened}
+use Rattle.table_rows.specs.Loading.{OnClass, Standing}
+use Rattle.table_rows.specs.declared.Loaded.{Loaded}
+use Rattle.table_rows.specs.declared.Loaded.the-variants.{Class}
+use Rattle.best_class.specs.Flat.{FlatTable}
+use Rattle.best_root.specs.Single.{FlatClass}
 
 -- The functions' names in an array of n bytes, 32 for each.
 module _

@@ -4,16 +4,16 @@ use mathlib.Core.List.{List}
 use Prim.Native.Nat.{ℕ}
 use lib.IntN.{ℤ, pos}
 use lib.ListN.{length, getD}
-use Rattle.refusals.specs.declared.Refusal.{Refusal}
-use Rattle.format.specs.File.{tableAt}
-use Rattle.rules.specs.Facts.{Known}
-use Rattle.held.proofs.KnownLaws.{known-of-accepted}
-use Rattle.loading.specs.Loading.{askedIn, Standing, Loads}
-use Rattle.loading.specs.declared.Loaded.{Loaded}
-use Rattle.loading.specs.declared.Loaded.the-variants.{Refused as NotLoaded, Class, Literal}
-use Rattle.loading.proofs.LoadLaws.{accepted-of}
-use Rattle.answers.specs.Variants.{VariantsAfter, Lending, variantsRefused, variantsAt}
-use Rattle.several.specs.Several.{literalAnswer, KeyedTable, SomeTable, ClassAnswers}
+use Rattle.refusal.specs.declared.Refusal.{Refusal}
+use Rattle.file_rules.specs.File.{tableAt}
+use Rattle.table_rules.specs.Rules.Facts.{Known}
+use Rattle.table_rows.proofs.Held.KnownLaws.{known-of-accepted}
+use Rattle.table_rows.specs.Loading.{askedIn, Standing, Loads}
+use Rattle.table_rows.specs.declared.Loaded.{Loaded}
+use Rattle.table_rows.specs.declared.Loaded.the-variants.{Refused as NotLoaded, Class, Literal}
+use Rattle.table_rows.proofs.LoadLaws.{accepted-of}
+use Rattle.answer_rules.specs.Variants.{VariantsAfter, Lending, variantsRefused, variantsAt}
+use Rattle.variants_root.specs.Several.{literalAnswer, KeyedTable, SomeTable, ClassAnswers}
 use Rattle.extract.proofs.TableLaws.{value-is}
 use Rattle.extract.proofs.KeyedLaws.{arities-length, cells-length, keyed-table}
 use Rattle.extract.proofs.VariantRootLaws.{LiteralRoot, ClassRoot, variants-refuse, literal-root, class-root}

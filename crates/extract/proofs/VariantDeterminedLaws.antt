@@ -3,12 +3,12 @@ use mathlib.Core.Path.{_≡_, refl, ap, sym, _∙_}
 use mathlib.Core.List.{List}
 use Prim.Native.Nat.{ℕ}
 use lib.IntN.{ℤ}
-use Rattle.answers.specs.Variants.{Kept as KeptRows, VariantsAfter}
-use Rattle.several.specs.declared.VariantsAnswer.{VariantsAnswer}
-use Rattle.several.specs.declared.VariantsAnswer.the-variants.{Kept, Refused}
-use Rattle.several.specs.Several.{seenVariants}
-use Rattle.variant_facts.proofs.OutcomeLaws.{not-refused, same-number, same-value}
-use Rattle.refusals.proofs.NumberLaws.{number-once}
+use Rattle.answer_rules.specs.Variants.{Kept as KeptRows, VariantsAfter}
+use Rattle.variants_root.specs.declared.VariantsAnswer.{VariantsAnswer}
+use Rattle.variants_root.specs.declared.VariantsAnswer.the-variants.{Kept, Refused}
+use Rattle.variants_root.specs.Several.{seenVariants}
+use Rattle.extract.proofs.VariantFacts.OutcomeLaws.{not-refused, same-number, same-value}
+use Rattle.refusal.proofs.NumberLaws.{number-once}
 
 kept-same :
     {k k′ p p′ n n′ m m′ : ℕ} → k ≡ k′ → p ≡ p′ → n ≡ n′ → m ≡ m′ → Kept k p n m ≡ Kept k′ p′ n′ m′

@@ -5,19 +5,19 @@ use mathlib.Core.List.{List}
 use Prim.Native.Nat.{ℕ, _<_}
 use lib.Dec.{eqb}
 use lib.ListN.{length}
-use Rattle.refusals.specs.declared.Refusal.{Refusal}
-use Rattle.refusals.specs.declared.Refusal.the-variants.{BadRoot}
-use Rattle.orders.proofs.OrderLaws.{cases}
-use Rattle.store.specs.Nodes.{literal}
-use Rattle.store.specs.Adding.{add}
-use Rattle.fields.specs.Got.{Got, got, refused as fault}
-use Rattle.format.specs.Table.{Table}
-use Rattle.format.specs.File.{tableAt}
-use Rattle.rules.specs.Classes.{sortOf, flatClass, isRoot}
-use Rattle.rules.specs.Terms.{literalOf}
-use Rattle.prepare.specs.Rooted.{rootOf}
-use Rattle.loading.specs.Loading.{fault as asFault, literal as asLiteral, class as asClass, askedOf, asked}
-use Rattle.answers.specs.Variants.{
+use Rattle.refusal.specs.declared.Refusal.{Refusal}
+use Rattle.refusal.specs.declared.Refusal.the-variants.{BadRoot}
+use Rattle.order.proofs.OrderLaws.{cases}
+use Rattle.term_rules.specs.Nodes.{literal}
+use Rattle.term_rules.specs.Adding.{add}
+use Rattle.bits.specs.Got.{Got, got, refused as fault}
+use Rattle.file_rules.specs.Table.{Table}
+use Rattle.file_rules.specs.File.{tableAt}
+use Rattle.table_rules.specs.Rules.Classes.{sortOf, flatClass, isRoot}
+use Rattle.table_rules.specs.Rules.Terms.{literalOf}
+use Rattle.table_rows.specs.Rooted.{rootOf}
+use Rattle.table_rows.specs.Loading.{fault as asFault, literal as asLiteral, class as asClass, askedOf, asked}
+use Rattle.answer_rules.specs.Variants.{
   Lending,
   keptRows,
   variantLiteral,
@@ -26,8 +26,8 @@ use Rattle.answers.specs.Variants.{
   variantsRefused,
   variantsAt,
 }
-use Rattle.several.specs.Several.{ifFormed, literalAnswer, classAnswer}
-use Rattle.variant_facts.proofs.WayLaws.{at-fault, at-bad}
+use Rattle.variants_root.specs.Several.{ifFormed, literalAnswer, classAnswer}
+use Rattle.extract.proofs.VariantFacts.WayLaws.{at-fault, at-bad}
 use Rattle.extract.proofs.RootLaws.{differ, root-bad, root-literal, root-class, sort-below, literal-below}
 
 -- What variants answer, by the file, the root and its kind.

@@ -4,15 +4,15 @@ use mathlib.Core.Bool.{true}
 use mathlib.Core.List.{List}
 use Prim.Native.Nat.{ℕ}
 use borrow.Author.Tests.{eq-eqb, ne-eqb}
-use Rattle.store.specs.WellFormed.{wellFormed}
-use Rattle.format.specs.Table.{Table}
-use Rattle.rules.specs.Classes.{sortOf, flatClass}
-use Rattle.rules.specs.Terms.{literalOf}
-use Rattle.rules.specs.Facts.{Known}
-use Rattle.rules.proofs.CoverLaws.{ReachedClass, root-class}
-use Rattle.answers.specs.Variants.{keptRows, Lending, variantsAt}
-use Rattle.variant_facts.proofs.OutcomeLaws.{Outcome, LiteralOutcome}
-use Rattle.variant_facts.proofs.WayLaws.{at-class, at-literal}
+use Rattle.term_rules.specs.WellFormed.{wellFormed}
+use Rattle.file_rules.specs.Table.{Table}
+use Rattle.table_rules.specs.Rules.Classes.{sortOf, flatClass}
+use Rattle.table_rules.specs.Rules.Terms.{literalOf}
+use Rattle.table_rules.specs.Rules.Facts.{Known}
+use Rattle.table_rules.proofs.Rules.CoverLaws.{ReachedClass, root-class}
+use Rattle.answer_rules.specs.Variants.{keptRows, Lending, variantsAt}
+use Rattle.extract.proofs.VariantFacts.OutcomeLaws.{Outcome, LiteralOutcome}
+use Rattle.extract.proofs.VariantFacts.WayLaws.{at-class, at-literal}
 use Rattle.extract.specs.Promises.{ClassRoot, BaseRoot}
 use Rattle.extract.proofs.WayLaws.{known-of, class-root-in, base-root-in}
 

@@ -3,16 +3,16 @@ use mathlib.Core.Path.{_≡_, ap, sym, _∙_, subst}
 use mathlib.Core.Logic.{_⊎_, inl, inr}
 use Prim.Native.Nat.{ℕ, _<_, _≤_}
 use native.Mathlib.Omega.{arith}
-use Rattle.store.specs.Lent.{Store}
-use Rattle.choice.specs.Deriving.{Tree, treeCost}
-use Rattle.choice.specs.Answer.{Answer as Verdict, noTerm, tooDear, best}
-use Rattle.demand.specs.Deriving.{Answered}
-use Rattle.format.specs.Table.{Table}
-use Rattle.rules.specs.Rows.{tableRows, usable}
-use Rattle.answers.specs.Answers.{Answer, value, refusal, After}
-use Rattle.answers.specs.Best.{BestTerm}
-use Rattle.answers.specs.Demand.{ComesBack, HasNoRoom, BestOutcome, Kept}
-use Rattle.variant_facts.proofs.OutcomeLaws.{not-refused, same-number, same-value}
+use Rattle.term_rules.specs.Lent.{Store}
+use Rattle.choice_rules.specs.Deriving.{Tree, treeCost}
+use Rattle.choice_rules.specs.Answer.{Answer as Verdict, noTerm, tooDear, best}
+use Rattle.choice_rules.specs.Demand.Deriving.{Answered}
+use Rattle.file_rules.specs.Table.{Table}
+use Rattle.table_rules.specs.Rules.Rows.{tableRows, usable}
+use Rattle.answer_rules.specs.Answers.{Answer, value, refusal, After}
+use Rattle.answer_rules.specs.Best.{BestTerm}
+use Rattle.answer_rules.specs.Demand.{ComesBack, HasNoRoom, BestOutcome, Kept}
+use Rattle.extract.proofs.VariantFacts.OutcomeLaws.{not-refused, same-number, same-value}
 use Rattle.extract.specs.Promises.{Derivation}
 
 -- The outcome of a best verdict, by its answer.

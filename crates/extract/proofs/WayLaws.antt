@@ -10,43 +10,43 @@ use borrow.Author.Tests.{eqb-false, eq-eqb, ne-eqb}
 use lib.Dec.{eqb}
 use lib.IntN.{ℤ}
 use lib.ListN.{length}
-use Rattle.refusals.specs.declared.Refusal.{Refusal}
-use Rattle.refusals.specs.declared.Refusal.the-variants.{BadRoot, BadStore}
-use Rattle.orders.proofs.OrderLaws.{cases}
-use Rattle.fields.specs.Got.{Got, got, refused as fault}
-use Rattle.store.specs.Lent.{Store}
-use Rattle.store.specs.WellFormed.{wellFormed}
-use Rattle.store.specs.Nodes.{literal}
-use Rattle.store.specs.Adding.{Adds, at, noRoom, add}
-use Rattle.adding.specs.Growing.{Grows, Gives}
-use Rattle.adding.proofs.AddingLaws.{add-gives}
-use Rattle.choice.specs.Run.{costed}
-use Rattle.choice.specs.Answer.{Answer as Verdict, noTerm, tooDear, best}
-use Rattle.choice.proofs.Promises.{promises}
-use Rattle.demand.specs.Deriving.{Answered}
+use Rattle.refusal.specs.declared.Refusal.{Refusal}
+use Rattle.refusal.specs.declared.Refusal.the-variants.{BadRoot, BadStore}
+use Rattle.order.proofs.OrderLaws.{cases}
+use Rattle.bits.specs.Got.{Got, got, refused as fault}
+use Rattle.term_rules.specs.Lent.{Store}
+use Rattle.term_rules.specs.WellFormed.{wellFormed}
+use Rattle.term_rules.specs.Nodes.{literal}
+use Rattle.term_rules.specs.Adding.{Adds, at, noRoom, add}
+use Rattle.term_rules.specs.Growing.{Grows, Gives}
+use Rattle.term_rules.proofs.Adding.AddingLaws.{add-gives}
+use Rattle.choice_rules.specs.Run.{costed}
+use Rattle.choice_rules.specs.Answer.{Answer as Verdict, noTerm, tooDear, best}
+use Rattle.choice_rules.proofs.Promises.{promises}
+use Rattle.choice_rules.specs.Demand.Deriving.{Answered}
 use Rattle.build.specs.declared.Built.{Built}
 use Rattle.build.specs.declared.Built.the-variants.{Done, Full}
-use Rattle.whole.specs.Whole.{Left, whole}
-use Rattle.format.specs.Table.{Table}
-use Rattle.format.specs.File.{tableAt}
-use Rattle.rules.specs.Classes.{sortOf, classCount, flatClass, rangeOf, isRoot}
-use Rattle.rules.specs.Rows.{tableRows, usable}
-use Rattle.rules.specs.Order.{scanned}
-use Rattle.rules.specs.Terms.{literalOf}
-use Rattle.rules.specs.Choosing.{limit, runOf, answerFor}
-use Rattle.rules.specs.Facts.{Known}
-use Rattle.rules.proofs.CoverLaws.{rangeOf-eq, scanned-within}
-use Rattle.held.proofs.KnownLaws.{known-of-accepted}
-use Rattle.loading.proofs.LoadLaws.{accepted-of}
-use Rattle.answers.specs.Answers.{Answer, value, refusal, After, refused}
-use Rattle.answers.specs.Best.{BestTerm, bestLiteral, bestBuilt, bestClass, bestOf, bestAt}
-use Rattle.answers.specs.Plan.{planFor, rankFor}
-use Rattle.answers.specs.Demand.{HasNoRoom, Kept}
-use Rattle.answers.proofs.BestLaws.{DemandThree, demand-three}
-use Rattle.variant_facts.proofs.OutcomeLaws.{not-refused, same-number, same-value}
+use Rattle.build.specs.Whole.{Left, whole}
+use Rattle.file_rules.specs.Table.{Table}
+use Rattle.file_rules.specs.File.{tableAt}
+use Rattle.table_rules.specs.Rules.Classes.{sortOf, classCount, flatClass, rangeOf, isRoot}
+use Rattle.table_rules.specs.Rules.Rows.{tableRows, usable}
+use Rattle.table_rules.specs.Rules.Order.{scanned}
+use Rattle.table_rules.specs.Rules.Terms.{literalOf}
+use Rattle.table_rules.specs.Rules.Choosing.{limit, runOf, answerFor}
+use Rattle.table_rules.specs.Rules.Facts.{Known}
+use Rattle.table_rules.proofs.Rules.CoverLaws.{rangeOf-eq, scanned-within}
+use Rattle.table_rows.proofs.Held.KnownLaws.{known-of-accepted}
+use Rattle.table_rows.proofs.LoadLaws.{accepted-of}
+use Rattle.answer_rules.specs.Answers.{Answer, value, refusal, After, refused}
+use Rattle.answer_rules.specs.Best.{BestTerm, bestLiteral, bestBuilt, bestClass, bestOf, bestAt}
+use Rattle.answer_rules.specs.Plan.{planFor, rankFor}
+use Rattle.answer_rules.specs.Demand.{HasNoRoom, Kept}
+use Rattle.answer_rules.proofs.BestLaws.{DemandThree, demand-three}
+use Rattle.extract.proofs.VariantFacts.OutcomeLaws.{not-refused, same-number, same-value}
 use Rattle.extract.specs.Promises.{Holding, ClassRoot, BaseRoot, PassCount, BaseOutcome}
 use Rattle.extract.proofs.RootLaws.{sort-below, value-in-sort, root-in, best-fault, best-bad, best-rooted}
-use Rattle.single.proofs.SingleLaws.{unformed-refuses, formed-is}
+use Rattle.best_root.proofs.SingleLaws.{unformed-refuses, formed-is}
 use Rattle.extract.proofs.VerdictLaws.{found-then, number-told}
 
 -- The ways that best takes: the first that the file, the root and the store allow.

@@ -1,2 +1,7 @@
--- The definitions of the crate `extract`: what its calls promise.
+-- The definitions of the crate `extract`.
+pub mod Returned
+pub mod Terms
+pub mod Told
+pub mod First
 pub mod Promises
+pub mod Room

@@ -9,33 +9,33 @@ use mathlib.Core.Logic.{_↔_, _⊎_}
 use Prim.Native.Nat.{ℕ, _+_, _<_, _≤_}
 use lib.IntN.{ℤ}
 use lib.ListN.{length}
-use Rattle.refusals.specs.declared.Refusal.{Refusal}
-use Rattle.fields.specs.Got.{got, refused as fault}
-use Rattle.store.specs.Lent.{Store}
-use Rattle.store.specs.WellFormed.{wellFormed}
-use Rattle.store.specs.Nodes.{literal}
-use Rattle.store.specs.Adding.{add, noRoom}
-use Rattle.adding.specs.Growing.{Grows, Takes}
-use Rattle.choice.specs.Deriving.{Tree, treeCost}
-use Rattle.choice.specs.Run.{Run, blank, FirstStill, costed}
-use Rattle.demand.specs.Deriving.{Deriving}
-use Rattle.format.specs.Table.{Table}
-use Rattle.format.specs.File.{tableAt}
-use Rattle.rules.specs.Classes.{sortOf, classCount, flatClass, isRoot}
-use Rattle.rules.specs.Rows.{tableRows, usable}
-use Rattle.rules.specs.Order.{scanned}
-use Rattle.rules.specs.Terms.{literalOf}
-use Rattle.rules.specs.Choosing.{limit}
-use Rattle.answers.specs.Answers.{Answer, value, refusal, After, refused}
-use Rattle.answers.specs.Best.{BestTerm, bestAt}
-use Rattle.answers.specs.Demand.{ComesBack, HasNoRoom, BestOutcome}
-use Rattle.answers.specs.Variants.{keptRows, Kept, VariantsAfter, Lending, variantsRefused, variantsAt}
-use Rattle.ranking.specs.Arrays.{AllBelow}
-use Rattle.several.specs.declared.VariantsAnswer.{VariantsAnswer}
-use Rattle.several.specs.Several.{seenVariants}
-use Rattle.variant_facts.specs.Returned.{Returned}
-use Rattle.variant_facts.specs.First.{FirstRows, keptFileRows, keptCosts, ComeBack}
-use Rattle.variant_facts.specs.Told.{
+use Rattle.refusal.specs.declared.Refusal.{Refusal}
+use Rattle.bits.specs.Got.{got, refused as fault}
+use Rattle.term_rules.specs.Lent.{Store}
+use Rattle.term_rules.specs.WellFormed.{wellFormed}
+use Rattle.term_rules.specs.Nodes.{literal}
+use Rattle.term_rules.specs.Adding.{add, noRoom}
+use Rattle.term_rules.specs.Growing.{Grows, Takes}
+use Rattle.choice_rules.specs.Deriving.{Tree, treeCost}
+use Rattle.choice_rules.specs.Run.{Run, blank, FirstStill, costed}
+use Rattle.choice_rules.specs.Demand.Deriving.{Deriving}
+use Rattle.file_rules.specs.Table.{Table}
+use Rattle.file_rules.specs.File.{tableAt}
+use Rattle.table_rules.specs.Rules.Classes.{sortOf, classCount, flatClass, isRoot}
+use Rattle.table_rules.specs.Rules.Rows.{tableRows, usable}
+use Rattle.table_rules.specs.Rules.Order.{scanned}
+use Rattle.table_rules.specs.Rules.Terms.{literalOf}
+use Rattle.table_rules.specs.Rules.Choosing.{limit}
+use Rattle.answer_rules.specs.Answers.{Answer, value, refusal, After, refused}
+use Rattle.answer_rules.specs.Best.{BestTerm, bestAt}
+use Rattle.answer_rules.specs.Demand.{ComesBack, HasNoRoom, BestOutcome}
+use Rattle.answer_rules.specs.Variants.{keptRows, Kept, VariantsAfter, Lending, variantsRefused, variantsAt}
+use Rattle.variant_order.specs.Arrays.{AllBelow}
+use Rattle.variants_root.specs.declared.VariantsAnswer.{VariantsAnswer}
+use Rattle.variants_root.specs.Several.{seenVariants}
+use Rattle.extract.specs.Returned.{Returned}
+use Rattle.extract.specs.First.{FirstRows, keptFileRows, keptCosts, ComeBack}
+use Rattle.extract.specs.Told.{
   OneOf,
   HasDear,
   NoPlaces,
@@ -48,8 +48,8 @@ use Rattle.variant_facts.specs.Told.{
   NotFalling,
   OneLiteral,
 }
-use Rattle.single.specs.declared.BestAnswer.{BestAnswer}
-use Rattle.single.specs.Single.{seenBest}
+use Rattle.best_root.specs.declared.BestAnswer.{BestAnswer}
+use Rattle.best_root.specs.Single.{seenBest}
 
 -- The file is accepted and holds table t.
 pub record Holding (file : List ℕ) (t : Table) : Type 0 where

@@ -2,15 +2,15 @@
 // extract_best_with_sort and extract_variants_with_sort)
 // A refusal leaves all that is lent as it was.
 ghost use mathlib.Core.Path.{_≡_};
-ghost use Rattle.store.specs.Lent.{store};
-ghost use Rattle.answers.specs.Best.{bestAt};
-ghost use Rattle.answers.specs.Variants.{variantsAt};
+ghost use Rattle.term_rules.specs.Lent.{store};
+ghost use Rattle.answer_rules.specs.Best.{bestAt};
+ghost use Rattle.answer_rules.specs.Variants.{variantsAt};
 ghost use Rattle.variant_answers.specs.Kept.{lending};
-ghost use Rattle.several.specs.Several.{seenVariants};
-ghost use Rattle.single.specs.Single.{seenBest};
-use loading::Loaded;
-use several::VariantsAnswer;
-use single::BestAnswer;
+ghost use Rattle.variants_root.specs.Several.{seenVariants};
+ghost use Rattle.best_root.specs.Single.{seenBest};
+use best_root::BestAnswer;
+use table_rows::Loaded;
+use variants_root::VariantsAnswer;
 
 // The best term of the root: the first fault of the file, else the first of BadRoot, BadStore, NoTerm, TooDear and
 // NoRoom, else the cost and the number of the term in the store, which then has it and every term that it had.
@@ -40,7 +40,7 @@ pub fn best(
     let mut heads: [u64; 1024] = [0; 1024];
     let mut starts: [usize; 1025] = [0; 1025];
     let mut children: [u64; 8192] = [0; 8192];
-    let loaded = loading::load(
+    let loaded = table_rows::load(
         file,
         sort,
         value,
@@ -57,7 +57,7 @@ pub fn best(
     );
     match loaded {
         Loaded::Refused(r) => BestAnswer::Refused(r),
-        Loaded::Literal(i) => single::of_literal(
+        Loaded::Literal(i) => best_root::of_literal(
             &values,
             i,
             records,
@@ -66,7 +66,7 @@ pub fn best(
             terms,
             symbols,
         ),
-        Loaded::Class(c, n, m, w) => single::of_class(
+        Loaded::Class(c, n, m, w) => best_root::of_class(
             &flat,
             &heads,
             &starts,
@@ -122,7 +122,7 @@ pub fn variants(
     let mut heads: [u64; 1024] = [0; 1024];
     let mut starts: [usize; 1025] = [0; 1025];
     let mut children: [u64; 8192] = [0; 8192];
-    let loaded = loading::load(
+    let loaded = table_rows::load(
         file,
         sort,
         value,
@@ -139,7 +139,7 @@ pub fn variants(
     );
     match loaded {
         Loaded::Refused(r) => VariantsAnswer::Refused(r),
-        Loaded::Literal(i) => several::of_literal(
+        Loaded::Literal(i) => variants_root::of_literal(
             &values,
             i,
             records,
@@ -150,7 +150,7 @@ pub fn variants(
             costs,
             found,
         ),
-        Loaded::Class(c, n, m, w) => several::of_class(
+        Loaded::Class(c, n, m, w) => variants_root::of_class(
             &flat,
             &heads,
             &starts,

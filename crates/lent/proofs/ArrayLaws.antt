@@ -11,9 +11,9 @@ use types.Kit.{Given}
 use denote.Array.{Array, array-makes, array-lawful}
 use denote.Laws.{Is, Makes}
 use denote.Struct.Laws as LL
-use Rattle.store.specs.declared.Term.{Term}
-use Rattle.store.proofs.Term as T
-use Rattle.store.proofs.Term.Laws as T′
+use Rattle.term_rules.specs.declared.Term.{Term}
+use Rattle.term_rules.proofs.Term as T
+use Rattle.term_rules.proofs.Term.Laws as T′
 
 module _ {M : Type 1} {𝓤 : URA M} {H : Heap 𝓤} {A : Atoms 𝓤} (W : Given 𝓤 H A) (n : ℕ) where
   pub records-makes : Makes 𝓤 H A (Array T.the-row n) (Is (Array T.the-row n))

@@ -9,8 +9,8 @@ use native.Mathlib.Omega.{arith}
 use lib.ListN.{length, getD, take, drop, set, length-append, length-take, length-drop}
 use lib.Seq.{paste, take-all, take-suc, take-paste, take-suc-set, take-nil, drop-cons, getD-take, set-at}
 use lib.IntN.{ℤ, pos}
-use Rattle.store.specs.declared.Term.{Term}
-use Rattle.store.specs.Lent.{recordIn, numbers as numbersOf}
+use Rattle.term_rules.specs.declared.Term.{Term}
+use Rattle.term_rules.specs.Lent.{recordIn, numbers as numbersOf}
 use Rattle.lent.specs.declared.Flat.{Flat}
 use Rattle.lent.specs.Records.{noTerm, Eight, flat, literalsOf, recordsIn}
 use Rattle.lent.specs.Copies.{AllEight, Loaded, Whole}

@@ -19,8 +19,8 @@ use lib.Seq.{
   getD-take,
 }
 use lib.IntN.{ℤ, pos}
-use Rattle.store.specs.declared.Term.{Term}
-use Rattle.store.specs.Lent.{recordIn, numbers}
+use Rattle.term_rules.specs.declared.Term.{Term}
+use Rattle.term_rules.specs.Lent.{recordIn, numbers}
 use Rattle.lent.specs.Records.{noTerm, Eight, flat, literalsOf, recordsIn}
 use Rattle.lent.specs.Copies.{AllEight}
 

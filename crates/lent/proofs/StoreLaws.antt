@@ -9,8 +9,8 @@ use lib.Dec.{T as Holds, leb, leb→le, nleb→lt}
 use lib.ListN.{length, getD, take, drop, length-take, take-append-drop, drop-of-length-le}
 use lib.Seq.{getD-take, take-at, take-take, take-length, take-all, take-nil}
 use lib.IntN.{ℤ, pos}
-use Rattle.entries.specs.Entries.{entriesOf, entriesIn, nameOf, AllWide, entriesAfter}
-use Rattle.entries.proofs.EntriesLaws.{
+use Rattle.lent_entries.specs.Entries.{entriesOf, entriesIn, nameOf, AllWide, entriesAfter}
+use Rattle.lent_entries.proofs.EntriesLaws.{
   entriesIn-entriesOf,
   entriesOf-entriesIn,
   entriesIn-length,
@@ -18,8 +18,8 @@ use Rattle.entries.proofs.EntriesLaws.{
   nameAt-entriesOf,
   drop-min,
 }
-use Rattle.store.specs.declared.Term.{Term}
-use Rattle.store.specs.Lent.{Store, store, recordIn, recordAt, symbolAt, termRoom, symbolRoom}
+use Rattle.term_rules.specs.declared.Term.{Term}
+use Rattle.term_rules.specs.Lent.{Store, store, recordIn, recordAt, symbolAt, termRoom, symbolRoom}
 use Rattle.lent.specs.declared.Flat.{Flat}
 use Rattle.lent.specs.Records.{noTerm, flat, literalsOf, lentStore, recordsIn, recordsAfter}
 use Rattle.lent.specs.Copies.{AllEight, Loaded, storeIn}

@@ -11,9 +11,9 @@ use denote.Laws.{Is}
 use denote.Plain.{uint-vals}
 use denote.Signed.{sint-vals}
 use denote.Struct.Laws as LL
-use Rattle.store.specs.declared.Term.{Term}
-use Rattle.store.proofs.Term as T
-use Rattle.store.proofs.Term.Laws as T′
+use Rattle.term_rules.specs.declared.Term.{Term}
+use Rattle.term_rules.proofs.Term as T
+use Rattle.term_rules.proofs.Term.Laws as T′
 use Rattle.lent.specs.declared.Flat.{Flat}
 use Rattle.lent.proofs.Flat as F
 use Rattle.lent.proofs.Flat.Laws as F′

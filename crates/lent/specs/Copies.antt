@@ -3,9 +3,9 @@ use Prim.Native.Nat.{ℕ, _*_, _≤_, _<_, min}
 use mathlib.Core.Path.{_≡_}
 use mathlib.Core.List.{List}
 use lib.ListN.{length, getD, take}
-use Rattle.entries.specs.Entries.{entriesOf}
-use Rattle.store.specs.declared.Term.{Term}
-use Rattle.store.specs.Lent.{Store, store}
+use Rattle.lent_entries.specs.Entries.{entriesOf}
+use Rattle.term_rules.specs.declared.Term.{Term}
+use Rattle.term_rules.specs.Lent.{Store, store}
 use Rattle.lent.specs.Records.{noTerm, Eight, flat, literalsOf}
 use Rattle.lent.specs.declared.Flat.{Flat}
 

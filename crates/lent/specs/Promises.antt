@@ -4,9 +4,9 @@ use Prim.Native.Nat.{ℕ, _*_, _≤_, _<_, min}
 use mathlib.Core.Path.{_≡_}
 use mathlib.Core.List.{List, []}
 use lib.ListN.{length, getD, take}
-use Rattle.entries.specs.Entries.{AllWide, nameOf, entriesOf, entriesAfter}
-use Rattle.store.specs.declared.Term.{Term}
-use Rattle.store.specs.Lent.{Store, store, recordAt, symbolAt, termRoom, symbolRoom}
+use Rattle.lent_entries.specs.Entries.{AllWide, nameOf, entriesOf, entriesAfter}
+use Rattle.term_rules.specs.declared.Term.{Term}
+use Rattle.term_rules.specs.Lent.{Store, store, recordAt, symbolAt, termRoom, symbolRoom}
 use Rattle.lent.specs.Records.{noTerm, lentStore, recordsAfter}
 use Rattle.lent.specs.Copies.{AllEight}
 

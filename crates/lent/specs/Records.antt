@@ -5,9 +5,9 @@ use mathlib.Core.Path.{_≡_}
 use mathlib.Core.List.{List, [], _∷_, _++_}
 use lib.ListN.{length, getD, take, drop}
 use lib.IntN.{ℤ, pos}
-use Rattle.entries.specs.Entries.{entriesOf}
-use Rattle.store.specs.declared.Term.{Term}
-use Rattle.store.specs.Lent.{Store, store, recordIn, numbers}
+use Rattle.lent_entries.specs.Entries.{entriesOf}
+use Rattle.term_rules.specs.declared.Term.{Term}
+use Rattle.term_rules.specs.Lent.{Store, store, recordIn, numbers}
 
 -- what `getD` gives past the end of a list of records
 abbrev pub noTerm : Term

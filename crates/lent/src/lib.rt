@@ -4,11 +4,11 @@ ghost use Prim.Native.Nat.{_<_, _≤_, _*_, _+_, _-_, min};
 ghost use mathlib.Core.List.{_∷_, _++_};
 ghost use lib.ListN.{length, getD, set, take, drop};
 ghost use lib.Seq.{paste};
-ghost use Rattle.store.specs.Lent.{numbers};
-ghost use Rattle.records.specs.Flat.{InRecords};
+ghost use Rattle.term_rules.specs.Lent.{numbers};
+ghost use Rattle.term_record.specs.Flat.{InRecords};
 ghost use Rattle.lent.specs.Records.{noTerm, Eight, recordsIn};
 ghost use Rattle.lent.specs.Copies.{Loaded};
-use store::Term;
+use term_rules::Term;
 
 // Record `i`.
 pub fn record_at(ts: &[Term], i: usize) -> Term
@@ -126,7 +126,7 @@ pub fn unload(ts: &mut [Term], f: Flat)
     let n = f.room;
     let mut i = 0;
     while i < n {
-        let t = records::record_at(&records, &literals, i);
+        let t = term_record::record_at(&records, &literals, i);
         put_at(ts, i, t);
         i += 1;
     }

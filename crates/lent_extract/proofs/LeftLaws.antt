@@ -5,10 +5,10 @@ use mathlib.Core.List.{List, [], _∷_, _++_}
 use lib.ListN.{length, take, drop}
 use lib.Seq.{take-at}
 use lib.IntN.{ℤ}
-use Rattle.entries.specs.Entries.{entriesOf, entriesAfter, AllWide}
-use Rattle.entries.proofs.EntriesLaws.{entriesAfter-front}
-use Rattle.store.specs.declared.Term.{Term}
-use Rattle.store.specs.Lent.{Store, store}
+use Rattle.lent_entries.specs.Entries.{entriesOf, entriesAfter, AllWide}
+use Rattle.lent_entries.proofs.EntriesLaws.{entriesAfter-front}
+use Rattle.term_rules.specs.declared.Term.{Term}
+use Rattle.term_rules.specs.Lent.{Store, store}
 use Rattle.lent.specs.declared.Flat.{Flat}
 use Rattle.lent.specs.Records.{lentStore, recordsIn, recordsAfter}
 use Rattle.lent.specs.Copies.{Loaded, storeIn}
@@ -20,15 +20,15 @@ use Rattle.lent.proofs.StoreLaws.{
   recordsAfter-same,
   entriesAfter-same,
 }
-use Rattle.answers.specs.Answers.{After}
-use Rattle.answers.specs.Best.{BestTerm}
-use Rattle.answers.specs.Variants.{VariantsAfter}
-use Rattle.single.specs.Single.{seenBest}
-use Rattle.single.specs.declared.BestAnswer.{BestAnswer}
-use Rattle.single.specs.declared.BestAnswer.the-variants.{Found, Refused}
-use Rattle.several.specs.Several.{seenVariants}
-use Rattle.several.specs.declared.VariantsAnswer.{VariantsAnswer}
-use Rattle.several.specs.declared.VariantsAnswer.the-variants.{Kept, Refused as NotKept}
+use Rattle.answer_rules.specs.Answers.{After}
+use Rattle.answer_rules.specs.Best.{BestTerm}
+use Rattle.answer_rules.specs.Variants.{VariantsAfter}
+use Rattle.best_root.specs.Single.{seenBest}
+use Rattle.best_root.specs.declared.BestAnswer.{BestAnswer}
+use Rattle.best_root.specs.declared.BestAnswer.the-variants.{Found, Refused}
+use Rattle.variants_root.specs.Several.{seenVariants}
+use Rattle.variants_root.specs.declared.VariantsAnswer.{VariantsAnswer}
+use Rattle.variants_root.specs.declared.VariantsAnswer.the-variants.{Kept, Refused as NotKept}
 use Rattle.lent_extract.specs.Left.{Seen, Lent, Worked}
 
 -- what a result says has the lists that it is seen with

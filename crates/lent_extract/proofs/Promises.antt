@@ -1,7 +1,7 @@
 -- The promises of the crate `lent_extract` hold. Assumes nothing.
 use mathlib.Core.Path.{ap, sym, _∙_}
 use Rattle.lent.specs.Records.{lentStore}
-use Rattle.answers.specs.Variants.{VariantsAfter, Lending, variantsAt}
+use Rattle.answer_rules.specs.Variants.{VariantsAfter, Lending, variantsAt}
 use Rattle.variant_answers.specs.Kept.{lending}
 use Rattle.extract.proofs.VariantDeterminedLaws.{costs-seen, terms-seen}
 use Rattle.extract.proofs.Promises.{promises as flat}

@@ -4,18 +4,18 @@ use mathlib.Core.Path.{_≡_}
 use mathlib.Core.List.{List}
 use lib.ListN.{take}
 use lib.IntN.{ℤ}
-use Rattle.entries.specs.Entries.{entriesOf, entriesAfter}
-use Rattle.store.specs.declared.Term.{Term}
-use Rattle.store.specs.Lent.{Store}
+use Rattle.lent_entries.specs.Entries.{entriesOf, entriesAfter}
+use Rattle.term_rules.specs.declared.Term.{Term}
+use Rattle.term_rules.specs.Lent.{Store}
 use Rattle.lent.specs.Records.{lentStore, recordsAfter}
 use Rattle.lent.specs.declared.Flat.{Flat}
-use Rattle.answers.specs.Answers.{After}
-use Rattle.answers.specs.Best.{BestTerm}
-use Rattle.answers.specs.Variants.{VariantsAfter}
-use Rattle.single.specs.declared.BestAnswer.{BestAnswer}
-use Rattle.single.specs.Single.{seenBest}
-use Rattle.several.specs.declared.VariantsAnswer.{VariantsAnswer}
-use Rattle.several.specs.Several.{seenVariants}
+use Rattle.answer_rules.specs.Answers.{After}
+use Rattle.answer_rules.specs.Best.{BestTerm}
+use Rattle.answer_rules.specs.Variants.{VariantsAfter}
+use Rattle.best_root.specs.declared.BestAnswer.{BestAnswer}
+use Rattle.best_root.specs.Single.{seenBest}
+use Rattle.variants_root.specs.declared.VariantsAnswer.{VariantsAnswer}
+use Rattle.variants_root.specs.Several.{seenVariants}
 use Rattle.lent_extract.specs.declared.Chosen.{Chosen}
 use Rattle.lent_extract.specs.declared.Varied.{Varied}
 

@@ -3,14 +3,14 @@
 use Prim.Native.Nat.{ℕ}
 use mathlib.Core.Path.{_≡_}
 use mathlib.Core.List.{List}
-use Rattle.store.specs.declared.Term.{Term}
+use Rattle.term_rules.specs.declared.Term.{Term}
 use Rattle.lent.specs.Records.{lentStore}
-use Rattle.answers.specs.Answers.{After, refusal}
-use Rattle.answers.specs.Best.{BestTerm, bestAt}
-use Rattle.answers.specs.Variants.{VariantsAfter, variantsAt}
+use Rattle.answer_rules.specs.Answers.{After, refusal}
+use Rattle.answer_rules.specs.Best.{BestTerm, bestAt}
+use Rattle.answer_rules.specs.Variants.{VariantsAfter, variantsAt}
 use Rattle.variant_answers.specs.Kept.{lending}
-use Rattle.several.specs.declared.VariantsAnswer.{VariantsAnswer}
-use Rattle.single.specs.declared.BestAnswer.{BestAnswer}
+use Rattle.variants_root.specs.declared.VariantsAnswer.{VariantsAnswer}
+use Rattle.best_root.specs.declared.BestAnswer.{BestAnswer}
 use Rattle.lent_extract.specs.Left.{LentBest, LentVariants}
 
 pub record Promises : Type 0 where

@@ -2,17 +2,17 @@
 // entries. Each copies the records and the entries once into arrays of its own, hands them to the call of the same
 // name in the crate `extract`, and puts them back. Assumes nothing.
 ghost use mathlib.Core.Path.{_≡_};
-ghost use Rattle.answers.specs.Best.{bestAt};
-ghost use Rattle.answers.specs.Variants.{variantsAt};
+ghost use Rattle.answer_rules.specs.Best.{bestAt};
+ghost use Rattle.answer_rules.specs.Variants.{variantsAt};
 ghost use Rattle.variant_answers.specs.Kept.{lending};
 ghost use Rattle.lent.specs.Records.{lentStore};
 ghost use Rattle.lent.specs.Copies.{Whole, storeIn};
 ghost use Rattle.lent_extract.specs.Left.{LentBest, BestIn, LentVariants, VariantsIn};
-use entries::Name;
+use best_root::BestAnswer;
 use lent::Flat;
-use several::VariantsAnswer;
-use single::BestAnswer;
-use store::Term;
+use lent_entries::Name;
+use term_rules::Term;
+use variants_root::VariantsAnswer;
 
 // A call's own copy of the records after it, and what it answers.
 pub struct Chosen {
@@ -46,7 +46,7 @@ fn best_in(
     let room = f.room;
     let e = room * 11;
     let mut names = [0u8; 4096];
-    let k = entries::load_names(ns, &mut names);
+    let k = lent_entries::load_names(ns, &mut names);
     let b = k * 32;
     let answer = extract::best(
         file,
@@ -58,7 +58,7 @@ fn best_in(
         terms,
         symbols,
     );
-    entries::unload_names(ns, &names);
+    lent_entries::unload_names(ns, &names);
     let flat = Flat {
         records,
         literals,
@@ -114,7 +114,7 @@ fn variants_in(
     let room = f.room;
     let e = room * 11;
     let mut names = [0u8; 4096];
-    let k = entries::load_names(ns, &mut names);
+    let k = lent_entries::load_names(ns, &mut names);
     let b = k * 32;
     let answer = extract::variants(
         file,
@@ -129,7 +129,7 @@ fn variants_in(
         costs,
         found,
     );
-    entries::unload_names(ns, &names);
+    lent_entries::unload_names(ns, &names);
     let flat = Flat {
         records,
         literals,

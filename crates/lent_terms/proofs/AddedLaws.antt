@@ -6,10 +6,10 @@ use native.Mathlib.Omega.{arith}
 use lib.ListN.{length, take, drop}
 use lib.Seq.{take-at}
 use lib.IntN.{ℤ}
-use Rattle.entries.specs.Entries.{entriesOf, entriesAfter, AllWide}
-use Rattle.entries.proofs.EntriesLaws.{entriesAfter-front}
-use Rattle.store.specs.declared.Term.{Term}
-use Rattle.store.specs.Lent.{Store, store}
+use Rattle.lent_entries.specs.Entries.{entriesOf, entriesAfter, AllWide}
+use Rattle.lent_entries.proofs.EntriesLaws.{entriesAfter-front}
+use Rattle.term_rules.specs.declared.Term.{Term}
+use Rattle.term_rules.specs.Lent.{Store, store}
 use Rattle.lent.specs.declared.Flat.{Flat}
 use Rattle.lent.specs.Records.{lentStore, recordsIn, recordsAfter}
 use Rattle.lent.specs.Copies.{Loaded, storeIn}
@@ -21,9 +21,9 @@ use Rattle.lent.proofs.StoreLaws.{
   recordsAfter-same,
   entriesAfter-same,
 }
-use Rattle.terms.specs.Answers.{Answer, seenAdded}
-use Rattle.terms.specs.declared.Added.{Added}
-use Rattle.terms.specs.declared.Added.the-variants.{Term as added, Refused as refused}
+use Rattle.term.specs.Answers.{Answer, seenAdded}
+use Rattle.term.specs.declared.Added.{Added}
+use Rattle.term.specs.declared.Added.the-variants.{Term as added, Refused as refused}
 use Rattle.lent_terms.specs.declared.Adding.{Adding}
 use Rattle.lent_terms.specs.Lists.{LentAdded, AddedIn}
 

@@ -8,8 +8,8 @@ use denote.Steps.{only}
 use denote.Struct.Laws as LL
 use Rattle.lent.proofs.Flat as F
 use Rattle.lent.proofs.Flat.Laws as F′
-use Rattle.terms.proofs.Added as R
-use Rattle.terms.proofs.Added.Laws as R′
+use Rattle.term.proofs.Added as R
+use Rattle.term.proofs.Added.Laws as R′
 use Rattle.lent_terms.specs.declared.Adding.{Adding}
 use Rattle.lent_terms.proofs.Adding as D
 use Rattle.lent_terms.proofs.Adding.Laws as D′

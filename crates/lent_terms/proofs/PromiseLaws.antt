@@ -2,14 +2,14 @@
 use Prim.Native.Nat.{ℕ}
 use mathlib.Core.Path.{_≡_, sym, _∙_, subst}
 use mathlib.Core.List.{List}
-use Rattle.store.specs.declared.Term.{Term}
-use Rattle.store.specs.Lent.{Store}
-use Rattle.store.specs.Nodes.{Node}
+use Rattle.term_rules.specs.declared.Term.{Term}
+use Rattle.term_rules.specs.Lent.{Store}
+use Rattle.term_rules.specs.Nodes.{Node}
 use Rattle.lent.specs.Records.{lentStore}
-use Rattle.terms.specs.declared.Added.{Added}
-use Rattle.terms.specs.Answers.{Answer, refused}
-use Rattle.terms.specs.Promises.{After, AfterAnswer}
-use Rattle.terms.proofs.Promises.{promises}
+use Rattle.term.specs.declared.Added.{Added}
+use Rattle.term.specs.Answers.{Answer, refused}
+use Rattle.term.specs.Promises.{After, AfterAnswer}
+use Rattle.term.proofs.Promises.{promises}
 use Rattle.lent_terms.specs.Lists.{LentAdded}
 use Rattle.lent_terms.specs.Promises.{RefusalKeeps}
 

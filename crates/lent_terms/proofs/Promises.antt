@@ -1,8 +1,8 @@
 -- The promises of the crate `lent_terms` hold. Assumes nothing.
-use Rattle.store.specs.Lent.{Store}
-use Rattle.store.specs.Nodes.{literal, variable, application}
-use Rattle.terms.specs.Calls.{addLiteral, addVariable, addApplication}
-use Rattle.terms.proofs.Promises.{promises as flat}
+use Rattle.term_rules.specs.Lent.{Store}
+use Rattle.term_rules.specs.Nodes.{literal, variable, application}
+use Rattle.term.specs.Calls.{addLiteral, addVariable, addApplication}
+use Rattle.term.proofs.Promises.{promises as flat}
 use Rattle.lent_terms.specs.Promises.{Promises}
 use Rattle.lent_terms.proofs.PromiseLaws.{refusal-keeps, added-determined}
 

@@ -3,13 +3,13 @@ use Prim.Native.Nat.{ℕ, _*_}
 use mathlib.Core.Path.{_≡_}
 use mathlib.Core.List.{List}
 use lib.ListN.{take}
-use Rattle.entries.specs.Entries.{entriesOf, entriesAfter}
-use Rattle.store.specs.declared.Term.{Term}
-use Rattle.store.specs.Lent.{Store}
+use Rattle.lent_entries.specs.Entries.{entriesOf, entriesAfter}
+use Rattle.term_rules.specs.declared.Term.{Term}
+use Rattle.term_rules.specs.Lent.{Store}
 use Rattle.lent.specs.Records.{lentStore, recordsAfter}
 use Rattle.lent.specs.declared.Flat.{Flat}
-use Rattle.terms.specs.Answers.{Answer, seenAdded}
-use Rattle.terms.specs.declared.Added.{Added}
+use Rattle.term.specs.Answers.{Answer, seenAdded}
+use Rattle.term.specs.declared.Added.{Added}
 use Rattle.lent_terms.specs.declared.Adding.{Adding}
 
 -- The call answers as wanted, and the lent lists are then the wanted store. Where that is the store as it was lent,

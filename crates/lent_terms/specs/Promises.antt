@@ -4,12 +4,12 @@ use Prim.Native.Nat.{ℕ}
 use mathlib.Core.Path.{_≡_}
 use mathlib.Core.List.{List}
 use lib.IntN.{ℤ}
-use Rattle.store.specs.declared.Term.{Term}
-use Rattle.store.specs.Lent.{Store}
+use Rattle.term_rules.specs.declared.Term.{Term}
+use Rattle.term_rules.specs.Lent.{Store}
 use Rattle.lent.specs.Records.{lentStore}
-use Rattle.terms.specs.declared.Added.{Added}
-use Rattle.terms.specs.Answers.{Answer, refused}
-use Rattle.terms.specs.Calls.{addLiteral, addVariable, addApplication}
+use Rattle.term.specs.declared.Added.{Added}
+use Rattle.term.specs.Answers.{Answer, refused}
+use Rattle.term.specs.Calls.{addLiteral, addVariable, addApplication}
 use Rattle.lent_terms.specs.Lists.{LentAdded}
 
 -- "Each returns its number alone. Nothing lent is changed."

@@ -1,9 +1,9 @@
 // The store's calls on a lent slice of term records and a lent slice of name entries. Each copies the records and the
-// entries once into arrays of its own, hands them to the call of the same name in the crate `terms`, and, where it
+// entries once into arrays of its own, hands them to the call of the same name in the crate `term`, and, where it
 // adds, puts them back.
 ghost use mathlib.Core.Path.{_≡_};
-ghost use Rattle.terms.specs.Answers.{seenFound, seenCount, seenOrder, seenSort};
-ghost use Rattle.terms.specs.Calls.{
+ghost use Rattle.term.specs.Answers.{seenFound, seenCount, seenOrder, seenSort};
+ghost use Rattle.term.specs.Calls.{
   addLiteral,
   addVariable,
   addApplication,
@@ -18,15 +18,15 @@ ghost use Rattle.terms.specs.Calls.{
 ghost use Rattle.lent.specs.Records.{lentStore};
 ghost use Rattle.lent.specs.Copies.{Whole, storeIn};
 ghost use Rattle.lent_terms.specs.Lists.{LentAdded, AddedIn};
-use entries::Name;
 use lent::Flat;
-use store::Term;
-use terms::Added;
-use terms::Compared;
-use terms::Counted;
-use terms::Got;
-use terms::Looked;
-use terms::Verdict;
+use lent_entries::Name;
+use term::Added;
+use term::Compared;
+use term::Counted;
+use term::Got;
+use term::Looked;
+use term::Verdict;
+use term_rules::Term;
 
 // A call's own copy of the records after it, and what it answers.
 pub struct Adding {
@@ -43,9 +43,9 @@ fn size_in(f: Flat, ns: &[Name], terms: usize, symbols: usize) -> Counted
     let room = f.room;
     let e = room * 11;
     let mut names = [0u8; 4096];
-    let k = entries::load_names(ns, &mut names);
+    let k = lent_entries::load_names(ns, &mut names);
     let b = k * 32;
-    terms::size(
+    term::size(
         &records[..e],
         &literals[..room],
         &names[..b],
@@ -74,9 +74,9 @@ fn add_literal_in(f: Flat, ns: &[Name], terms: usize, symbols: usize, literal: i
     let room = f.room;
     let e = room * 11;
     let mut names = [0u8; 4096];
-    let k = entries::load_names(ns, &mut names);
+    let k = lent_entries::load_names(ns, &mut names);
     let b = k * 32;
-    let added = terms::add_literal(
+    let added = term::add_literal(
         &mut records[..e],
         &mut literals[..room],
         &names[..b],
@@ -124,9 +124,9 @@ fn add_variable_in(f: Flat, ns: &mut [Name], terms: usize, symbols: usize, name:
     let room = f.room;
     let e = room * 11;
     let mut names = [0u8; 4096];
-    let k = entries::load_names(ns, &mut names);
+    let k = lent_entries::load_names(ns, &mut names);
     let b = k * 32;
-    let added = terms::add_variable(
+    let added = term::add_variable(
         &mut records[..e],
         &mut literals[..room],
         &mut names[..b],
@@ -134,7 +134,7 @@ fn add_variable_in(f: Flat, ns: &mut [Name], terms: usize, symbols: usize, name:
         symbols,
         name,
     );
-    entries::unload_names(ns, &names);
+    lent_entries::unload_names(ns, &names);
     let flat = Flat {
         records,
         literals,
@@ -183,9 +183,9 @@ fn add_application_in(
     let room = f.room;
     let e = room * 11;
     let mut names = [0u8; 4096];
-    let k = entries::load_names(ns, &mut names);
+    let k = lent_entries::load_names(ns, &mut names);
     let b = k * 32;
-    let added = terms::add_application(
+    let added = term::add_application(
         &mut records[..e],
         &mut literals[..room],
         &mut names[..b],
@@ -194,7 +194,7 @@ fn add_application_in(
         name,
         children,
     );
-    entries::unload_names(ns, &names);
+    lent_entries::unload_names(ns, &names);
     let flat = Flat {
         records,
         literals,
@@ -234,9 +234,9 @@ fn find_literal_in(f: Flat, ns: &[Name], terms: usize, symbols: usize, literal: 
     let room = f.room;
     let e = room * 11;
     let mut names = [0u8; 4096];
-    let k = entries::load_names(ns, &mut names);
+    let k = lent_entries::load_names(ns, &mut names);
     let b = k * 32;
-    terms::find_literal(
+    term::find_literal(
         &records[..e],
         &literals[..room],
         &names[..b],
@@ -266,9 +266,9 @@ fn find_variable_in(f: Flat, ns: &[Name], terms: usize, symbols: usize, name: &[
     let room = f.room;
     let e = room * 11;
     let mut names = [0u8; 4096];
-    let k = entries::load_names(ns, &mut names);
+    let k = lent_entries::load_names(ns, &mut names);
     let b = k * 32;
-    terms::find_variable(
+    term::find_variable(
         &records[..e],
         &literals[..room],
         &names[..b],
@@ -306,9 +306,9 @@ fn find_application_in(
     let room = f.room;
     let e = room * 11;
     let mut names = [0u8; 4096];
-    let k = entries::load_names(ns, &mut names);
+    let k = lent_entries::load_names(ns, &mut names);
     let b = k * 32;
-    terms::find_application(
+    term::find_application(
         &records[..e],
         &literals[..room],
         &names[..b],
@@ -347,9 +347,9 @@ fn get_in(f: Flat, ns: &[Name], terms: usize, symbols: usize, i: usize) -> Got
     let room = f.room;
     let e = room * 11;
     let mut names = [0u8; 4096];
-    let k = entries::load_names(ns, &mut names);
+    let k = lent_entries::load_names(ns, &mut names);
     let b = k * 32;
-    terms::get(
+    term::get(
         &records[..e],
         &literals[..room],
         &names[..b],
@@ -376,9 +376,9 @@ fn compare_in(f: Flat, ns: &[Name], terms: usize, symbols: usize, i: usize, j: u
     let room = f.room;
     let e = room * 11;
     let mut names = [0u8; 4096];
-    let k = entries::load_names(ns, &mut names);
+    let k = lent_entries::load_names(ns, &mut names);
     let b = k * 32;
-    terms::compare(
+    term::compare(
         &records[..e],
         &literals[..room],
         &names[..b],
@@ -419,9 +419,9 @@ fn sort_in(f: Flat, ns: &[Name], terms: usize, symbols: usize, list: &mut [u64])
     let room = f.room;
     let e = room * 11;
     let mut names = [0u8; 4096];
-    let k = entries::load_names(ns, &mut names);
+    let k = lent_entries::load_names(ns, &mut names);
     let b = k * 32;
-    terms::sort(
+    term::sort(
         &records[..e],
         &literals[..room],
         &names[..b],

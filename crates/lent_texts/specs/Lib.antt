@@ -1,2 +1,3 @@
 -- The definitions of the crate `lent_texts`.
-pub mod Promises
+pub mod Plain
+pub mod Lets

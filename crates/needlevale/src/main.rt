@@ -9,6 +9,6 @@ fn main() {
     let mut input = [0u8; 21389];
     let n = io::read_full(STDIN_FILENO, &mut input);
     let mut out = [0u8; 16384];
-    let k = answering::respond(&input[..n], &mut out);
+    let k = program::respond(&input[..n], &mut out);
     io::write_all(STDOUT_FILENO, &out[..k]);
 }

@@ -5,22 +5,22 @@ use Prim.Native.Nat.{ℕ, _+_, _≤_, _<_}
 use native.Mathlib.Omega.{arith}
 use lib.IntN.{ℤ, pos}
 use lib.ListN.{length, drop, length-append}
-use Rattle.refusals.specs.declared.Refusal.{Refusal}
-use Rattle.codes.specs.Below.{belowZero}
-use Rattle.store.specs.Lent.{Store, store}
-use Rattle.store.specs.Nodes.{literal}
-use Rattle.terms.specs.Answers as terms
-use Rattle.terms.specs.Answers.{seenAdded}
-use Rattle.terms.specs.Calls.{addLiteral}
-use Rattle.terms.specs.Promises.{After}
-use Rattle.terms.specs.declared.Added.{Added}
-use Rattle.terms.specs.declared.Added.the-variants.{Term, Refused as NotAdded}
-use Rattle.terms.proofs.Promises.{promises}
-use Rattle.replies.specs.Reply.{answerTo, inRoom, replied, Replied}
-use Rattle.replies.specs.Seen.{seen}
-use Rattle.replies.specs.declared.Answered.{Answered}
-use Rattle.replies.specs.declared.Answered.the-variants.{Written, Refused}
-use Rattle.answering.proofs.RespondLaws.{when-written}
+use Rattle.refusal.specs.declared.Refusal.{Refusal}
+use Rattle.needlevale_c.specs.Codes.Below.{belowZero}
+use Rattle.term_rules.specs.Lent.{Store, store}
+use Rattle.term_rules.specs.Nodes.{literal}
+use Rattle.term.specs.Answers as terms
+use Rattle.term.specs.Answers.{seenAdded}
+use Rattle.term.specs.Calls.{addLiteral}
+use Rattle.term.specs.Promises.{After}
+use Rattle.term.specs.declared.Added.{Added}
+use Rattle.term.specs.declared.Added.the-variants.{Term, Refused as NotAdded}
+use Rattle.term.proofs.Promises.{promises}
+use Rattle.program_rules.specs.Reply.{answerTo, inRoom, replied, Replied}
+use Rattle.program_rules.specs.Seen.{seen}
+use Rattle.program_rules.specs.declared.replies.Answered.{Answered}
+use Rattle.program_rules.specs.declared.replies.Answered.the-variants.{Written, Refused}
+use Rattle.program.proofs.RespondLaws.{when-written}
 use Rattle.needlevale_c.specs.Coded.{coded, Replies, codedTerm, Adds}
 
 -- The answer to an input in a lent buffer.

@@ -9,17 +9,17 @@ use borrow.Author.Tests.{lt-leb, leb-false}
 use lib.Dec.{leb}
 use lib.IntN.{ℤ}
 use lib.ListN.{length, drop}
-use Rattle.refusals.specs.declared.Refusal.{Refusal}
-use Rattle.names.specs.declared.Found.{Found}
-use Rattle.names.specs.declared.Found.the-variants.{At, Missing}
-use Rattle.store.specs.Lent.{Store}
-use Rattle.store.specs.Nodes.{Node, literal, nodeAt, sameNode}
-use Rattle.store.specs.Adding.{Adds, at, noRoom, add, append, withRecord, findTerm, roomFor}
-use Rattle.store.proofs.SearchLaws.{first-at}
-use Rattle.terms.specs.Answers as terms
-use Rattle.terms.specs.Calls.{Faults, fine, fault, literalFaults, adding, added, addLiteral}
-use Rattle.answers.specs.Answers.{Answer, value, refusal}
-use Rattle.replies.specs.Reply.{answerTo, inRoom, putIn, replied, Replied}
+use Rattle.refusal.specs.declared.Refusal.{Refusal}
+use Rattle.name.specs.declared.Found.{Found}
+use Rattle.name.specs.declared.Found.the-variants.{At, Missing}
+use Rattle.term_rules.specs.Lent.{Store}
+use Rattle.term_rules.specs.Nodes.{Node, literal, nodeAt, sameNode}
+use Rattle.term_rules.specs.Adding.{Adds, at, noRoom, add, append, withRecord, findTerm, roomFor}
+use Rattle.term_rules.proofs.SearchLaws.{first-at}
+use Rattle.term.specs.Answers as terms
+use Rattle.term.specs.Calls.{Faults, fine, fault, literalFaults, adding, added, addLiteral}
+use Rattle.answer_rules.specs.Answers.{Answer, value, refusal}
+use Rattle.program_rules.specs.Reply.{answerTo, inRoom, putIn, replied, Replied}
 use Rattle.needlevale_c.specs.Promises.{Stands, TooLong, Counts}
 
 -- which case an answer is, and its number

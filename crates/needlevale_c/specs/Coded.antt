@@ -3,10 +3,10 @@ use mathlib.Core.Path.{_≡_}
 use mathlib.Core.List.{List}
 use Prim.Native.Nat.{ℕ}
 use lib.IntN.{ℤ, pos, negℤ}
-use Rattle.store.specs.Lent.{Store}
-use Rattle.terms.specs.Answers as terms
-use Rattle.answers.specs.Answers.{Answer, value, refusal}
-use Rattle.replies.specs.Reply.{Replied}
+use Rattle.term_rules.specs.Lent.{Store}
+use Rattle.term.specs.Answers as terms
+use Rattle.answer_rules.specs.Answers.{Answer, value, refusal}
+use Rattle.program_rules.specs.Reply.{Replied}
 
 -- The length of a text, or the number of a refusal below zero.
 abbrev pub coded : Answer ℕ → ℤ

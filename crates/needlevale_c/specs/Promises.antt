@@ -7,11 +7,11 @@ use mathlib.Core.List.{List, _++_}
 use mathlib.Core.Logic.{_⊎_, _↔_}
 use lib.IntN.{ℤ}
 use lib.ListN.{length, drop}
-use Rattle.store.specs.Lent.{Store}
-use Rattle.terms.specs.Answers as terms
-use Rattle.terms.specs.Calls.{addLiteral}
-use Rattle.answers.specs.Answers.{value, refusal}
-use Rattle.replies.specs.Reply.{answerTo, replied, Replied}
+use Rattle.term_rules.specs.Lent.{Store}
+use Rattle.term.specs.Answers as terms
+use Rattle.term.specs.Calls.{addLiteral}
+use Rattle.answer_rules.specs.Answers.{value, refusal}
+use Rattle.program_rules.specs.Reply.{answerTo, replied, Replied}
 use Rattle.needlevale_c.specs.Coded.{Replies, Adds}
 
 -- The text that answers an input stands at the start of the buffer, and what is past it stays.

@@ -3,12 +3,14 @@
 // Assumed of the caller, as include/needlevale.h says: each pointer stands for as many elements as its length says, and
 // no two overlap.
 ghost use mathlib.Core.Path.{_≡_};
-ghost use Rattle.store.specs.Lent.{store};
-ghost use Rattle.terms.specs.Calls.{addLiteral};
-ghost use Rattle.replies.specs.Reply.{replied};
+ghost use Rattle.term_rules.specs.Lent.{store};
+ghost use Rattle.term.specs.Calls.{addLiteral};
+ghost use Rattle.program_rules.specs.Reply.{replied};
 ghost use Rattle.needlevale_c.specs.Coded.{Replies, Adds};
-use replies::Answered;
-use terms::Added;
+use program_rules::replies::Answered;
+use term::Added;
+
+pub mod codes; // codes.rt: a refusal as one number below zero, for callers that are told everything in one number
 
 // The answer to a query and a table file: its text at the start of `output`, and its length.
 #[no_mangle]
@@ -17,7 +19,7 @@ pub extern "C" fn needlevale_answer(input: &[u8], output: &mut [u8]) -> i64
         Replies (replied (now (input .entry)) (now (output .entry))) z (now (output .exit))
         ⌝ }
 {
-    let answered = answering::answer(input, output);
+    let answered = program::answer(input, output);
     match answered {
         Answered::Written(n) => n as i64,
         Answered::Refused(r) => codes::below_zero(r),
@@ -38,7 +40,7 @@ pub extern "C" fn needlevale_add_literal(
         (addLiteral (store (now (records .entry)) (now (literals .entry)) (now (names .entry)) terms symbols) value)
         z (now (records .exit)) (now (literals .exit)) ⌝ }
 {
-    let added = terms::add_literal(records, literals, names, terms, symbols, value);
+    let added = term::add_literal(records, literals, names, terms, symbols, value);
     match added {
         Added::Term(i, _, _) => i as i64,
         Added::Refused(r) => codes::below_zero(r),

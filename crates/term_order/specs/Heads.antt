@@ -3,11 +3,11 @@ use Prim.Native.Nat.{ℕ, _+_, _*_, _≤_, _<_}
 use mathlib.Core.Path.{_≡_}
 use mathlib.Core.List.{List}
 use lib.ListN.{length, getD}
-use Rattle.names.specs.Entries.{lengthAt}
-use Rattle.orders.specs.declared.Ordering.{Ordering}
-use Rattle.orders.specs.declared.Ordering.the-variants.{Less, Same, More}
-use Rattle.orders.specs.Compare.{thenBy, numbers, lists}
-use Rattle.store.specs.Nodes.{Node, literal, variable, application}
+use Rattle.name.specs.Entries.{lengthAt}
+use Rattle.order.specs.declared.Ordering.{Ordering}
+use Rattle.order.specs.declared.Ordering.the-variants.{Less, Same, More}
+use Rattle.order.specs.Compare.{thenBy, numbers, lists}
+use Rattle.term_rules.specs.Nodes.{Node, literal, variable, application}
 use Rattle.term_order.specs.TreeOrder.{ints}
 
 -- nodes by kind, then literal, or name, or name and child count

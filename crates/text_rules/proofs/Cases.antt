@@ -6,7 +6,7 @@ use mathlib.Core.List.{List, [], _∷_}
 use lib.ListN.{getD}
 use lib.IntN.{pos}
 use Rattle.decimal.specs.Decimal.{digits, digitsIn, literalText}
-use Rattle.store.specs.Nodes.{Node, literal, variable, application}
+use Rattle.term_rules.specs.Nodes.{Node, literal, variable, application}
 use Rattle.text_rules.specs.Forms.{each, form, shown, childText, lineIn, line}
 use Rattle.text_rules.specs.Counts.{
   inTurn,

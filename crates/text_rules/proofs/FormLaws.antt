@@ -6,7 +6,7 @@ use native.Mathlib.Omega.{arith}
 use native.Mathlib.Numerals.{add-one}
 use lib.ListN.{length, take, drop, getD, length-append, take-append-drop}
 use lib.Seq.{take-suc, split-at}
-use Rattle.store.specs.Nodes.{Node, literal, variable, application}
+use Rattle.term_rules.specs.Nodes.{Node, literal, variable, application}
 use Rattle.text_rules.specs.Forms.{children, each, form, Called, shown, childText, lineIn, line}
 
 module _ (gap : List ℕ) (text : ℕ → List ℕ) where

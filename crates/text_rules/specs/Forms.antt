@@ -2,7 +2,7 @@
 use Prim.Native.Nat.{ℕ, zero, suc}
 use mathlib.Core.List.{List, [], _∷_, _++_}
 use Rattle.decimal.specs.Decimal.{literalText}
-use Rattle.store.specs.Nodes.{Node, literal, variable, application}
+use Rattle.term_rules.specs.Nodes.{Node, literal, variable, application}
 
 -- the child numbers of a term
 abbrev pub children : Node → List ℕ

@@ -5,8 +5,8 @@ use mathlib.Core.List.{List, [], _∷_, _++_}
 use lib.ListN.{length, replicate}
 use lib.Dec.{eqb, ltb}
 use Rattle.decimal.specs.Decimal.{digits}
-use Rattle.store.specs.Lent.{Store}
-use Rattle.store.specs.Nodes.{Node, nodeAt}
+use Rattle.term_rules.specs.Lent.{Store}
+use Rattle.term_rules.specs.Nodes.{Node, nodeAt}
 use Rattle.text_rules.specs.Forms.{children, form, Called, byName, byText, childText, lineIn}
 use Rattle.text_rules.specs.Bindings.{Bound, Place, nowhere, place, find, bindings}
 

@@ -1,8 +1,8 @@
 -- Plain text: document 01, 'Terms'. Assumes nothing: these are definitions.
 use Prim.Native.Nat.{ℕ}
 use mathlib.Core.List.{List}
-use Rattle.store.specs.Lent.{Store}
-use Rattle.store.specs.Nodes.{Node, nodeAt}
+use Rattle.term_rules.specs.Lent.{Store}
+use Rattle.term_rules.specs.Nodes.{Node, nodeAt}
 use Rattle.text_rules.specs.Forms.{Called, byText, line}
 
 -- on one line, every child by its own text

@@ -9,14 +9,14 @@ use lib.Dec.{leb}
 use lib.IntN.{ℤ}
 use lib.ListN.{length, getD, take, replicate}
 use lib.Seq.{paste, length-take-le}
-use Rattle.refusals.specs.declared.Refusal.the-variants.{TooDear, NoRoom}
-use Rattle.store.specs.Lent.{Store, store}
-use Rattle.copies.specs.Copied.{copied}
-use Rattle.demand.proofs.OrderLaws.{map-length}
+use Rattle.refusal.specs.declared.Refusal.the-variants.{TooDear, NoRoom}
+use Rattle.term_rules.specs.Lent.{Store, store}
+use Rattle.build.specs.Copied.{copied}
+use Rattle.choice_rules.proofs.Demand.OrderLaws.{map-length}
 use Rattle.build.specs.Plan.{Child, Plan}
 use Rattle.build.specs.Building.{state, Out, done, full}
-use Rattle.answers.specs.Variants.{VariantsAfter, Lending, variantsRefused, variantsKept, roomForResults}
-use Rattle.row_terms.specs.Rows.{Deep}
+use Rattle.answer_rules.specs.Variants.{VariantsAfter, Lending, variantsRefused, variantsKept, roomForResults}
+use Rattle.variant_terms.specs.Rows.{Deep}
 use Rattle.variant_terms.specs.Turned.{Wholly, whole, nothing, wholly, rowsIn, RowsWhole, seenWholly}
 use Rattle.variant_terms.specs.declared.Turned.the-variants.{All, Full as None}
 use Rattle.variant_answers.specs.Kept.{lending, seen, dearIn, pricesOf, builtIn, answerIn, Results, Answers}

@@ -9,8 +9,8 @@ use native.Mathlib.Omega.{arith}
 use borrow.Author.Tests.{le-leb, lt-leb}
 use lib.ListN.{length, getD, set, drop, length-set, length-map, drop-of-length-le}
 use lib.Seq.{paste, paste-suc}
-use Rattle.relax.specs.Flat.{top}
-use Rattle.demand.proofs.OrderLaws.{map-get, map-length}
+use Rattle.price_passes.specs.Flat.{top}
+use Rattle.choice_rules.proofs.Demand.OrderLaws.{map-get, map-length}
 use Rattle.variant_terms.proofs.TurnLaws.{rows-next}
 use Rattle.variant_answers.specs.Kept.{dearIn, pricesOf}
 

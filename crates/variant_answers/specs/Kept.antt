@@ -8,16 +8,16 @@ use lib.Dec.{leb}
 use lib.IntN.{ℤ}
 use lib.ListN.{length, getD, take, replicate}
 use lib.Seq.{paste}
-use Rattle.refusals.specs.declared.Refusal.the-variants.{TooDear, NoRoom}
-use Rattle.refusals.specs.Numbers.{refusalNo}
-use Rattle.store.specs.Lent.{Store, store}
-use Rattle.relax.specs.Flat.{top}
+use Rattle.refusal.specs.declared.Refusal.the-variants.{TooDear, NoRoom}
+use Rattle.refusal.specs.Numbers.{refusalNo}
+use Rattle.term_rules.specs.Lent.{Store, store}
+use Rattle.price_passes.specs.Flat.{top}
 use Rattle.build.specs.Plan.{Child, Plan, planOf}
 use Rattle.build.specs.Building.{state}
-use Rattle.ranking.specs.Arrays.{AllBelow}
-use Rattle.answers.specs.Answers.{value, refusal}
-use Rattle.answers.specs.Variants.{VariantsAfter, Lending, variantsRefused, variantsKept, roomForResults}
-use Rattle.row_terms.specs.Rows.{Deep}
+use Rattle.variant_order.specs.Arrays.{AllBelow}
+use Rattle.answer_rules.specs.Answers.{value, refusal}
+use Rattle.answer_rules.specs.Variants.{VariantsAfter, Lending, variantsRefused, variantsKept, roomForResults}
+use Rattle.variant_terms.specs.Rows.{Deep}
 use Rattle.variant_terms.specs.Turned.{AllListed, Steady, Wholly, whole, nothing, wholly, rowsIn, nameIn, kidsIn}
 use Rattle.variant_answers.specs.declared.Variants.{Variants}
 use Rattle.variant_answers.specs.declared.Variants.the-variants.{Kept, TooDear as Dear, NoRoom as Full}

@@ -4,12 +4,13 @@ ghost use mathlib.Core.Path.{_≡_};
 ghost use Prim.Native.Nat.{_≤_};
 ghost use lib.ListN.{length};
 ghost use lib.Seq.{paste};
-ghost use Rattle.store.specs.Lent.{store};
+ghost use Rattle.term_rules.specs.Lent.{store};
 ghost use Rattle.build.specs.Plan.{planOf};
-ghost use Rattle.ranking.specs.Arrays.{AllBelow};
+ghost use Rattle.variant_order.specs.Arrays.{AllBelow};
 ghost use Rattle.variant_terms.specs.Turned.{nameIn, kidsIn};
 ghost use Rattle.variant_answers.specs.Kept.{lending, seen, dearIn, pricesOf, ResultsFit, Results};
 ghost use Rattle.variant_answers.specs.Kept.{AnswerReady, Answers};
+use build::copies;
 use variant_terms::Turned;
 
 // How many are kept, the passes and the counts of terms and symbols then; or the refusal.

@@ -7,14 +7,14 @@ use native.Mathlib.Omega.{arith}
 use lib.IntN.{ℤ}
 use lib.ListN.{length, getD, set, take, drop, length-set, drop-of-length-le}
 use lib.Seq.{drop-cons, take-suc-set}
-use Rattle.adding.specs.Growing.{Grows}
-use Rattle.adding.proofs.AddingLaws.{grows-trans}
+use Rattle.term_rules.specs.Growing.{Grows}
+use Rattle.term_rules.proofs.Adding.AddingLaws.{grows-trans}
 use Rattle.build.specs.Plan.{Child, Plan, childOf}
 use Rattle.build.specs.Building.{State, Out, done, full, childrenIn, buildIn}
 use Rattle.build.specs.Standing.{Tracks}
-use Rattle.answers.specs.Variants.{ownVariant}
-use Rattle.row_terms.specs.Rows.{Deep, RowMade}
-use Rattle.row_terms.proofs.TurnLaws.{stuck-after}
+use Rattle.answer_rules.specs.Variants.{ownVariant}
+use Rattle.variant_terms.specs.Rows.{Deep, RowMade}
+use Rattle.variant_terms.proofs.row.TurnLaws.{stuck-after}
 use Rattle.variant_terms.specs.Turned.{rowsIn, RowsMade}
 
 module _ (p : Plan) (d : ℕ) (name : ℕ → List ℕ) (kids : ℕ → List Child) (s : State) (ts : List ℕ) where

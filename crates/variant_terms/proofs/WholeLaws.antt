@@ -4,7 +4,7 @@ use mathlib.Core.Path.{_≡_, ap, _∙_}
 use mathlib.Core.List.{List}
 use lib.IntN.{ℤ}
 use lib.ListN.{replicate}
-use Rattle.store.specs.Lent.{Store, store}
+use Rattle.term_rules.specs.Lent.{Store, store}
 use Rattle.build.specs.Plan.{Child, Plan}
 use Rattle.build.specs.Building.{State, state, done, full}
 use Rattle.variant_terms.specs.Turned.{RowsMade, Wholly, whole, nothing, wholly, RowsWhole}

@@ -1,2 +1,3 @@
--- The definitions of the crate `variant_terms`: the terms of rows in turn.
+-- The definitions of the crate `variant_terms`.
+pub mod Rows
 pub mod Turned

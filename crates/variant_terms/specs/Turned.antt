@@ -6,16 +6,16 @@ use mathlib.Core.Bool.{true}
 use mathlib.Core.List.{List, [], _∷_, _++_, map}
 use lib.IntN.{ℤ}
 use lib.ListN.{length, getD, replicate}
-use Rattle.names.specs.Entries.{nameAt}
-use Rattle.store.specs.Lent.{Store, store}
-use Rattle.store.specs.WellFormed.{wellFormed}
-use Rattle.relax.specs.Flat.{partOf}
+use Rattle.name.specs.Entries.{nameAt}
+use Rattle.term_rules.specs.Lent.{Store, store}
+use Rattle.term_rules.specs.WellFormed.{wellFormed}
+use Rattle.price_passes.specs.Flat.{partOf}
 use Rattle.build.specs.Plan.{Child, Plan, childOf}
 use Rattle.build.specs.Building.{State, state, Out, done, full, childrenIn, buildIn}
 use Rattle.build.specs.Standing.{Stuck}
 use Rattle.build.specs.Ready.{Planned}
-use Rattle.answers.specs.Variants.{ownVariant}
-use Rattle.row_terms.specs.Rows.{Deep, RowIn}
+use Rattle.answer_rules.specs.Variants.{ownVariant}
+use Rattle.variant_terms.specs.Rows.{Deep, RowIn}
 use Rattle.variant_terms.specs.declared.Turned.{Turned}
 use Rattle.variant_terms.specs.declared.Turned.the-variants.{All, Full}
 

@@ -3,15 +3,18 @@
 ghost use mathlib.Core.Path.{_≡_};
 ghost use Prim.Native.Nat.{_≤_};
 ghost use lib.ListN.{length, getD, take};
-ghost use Rattle.store.specs.Lent.{store};
-ghost use Rattle.relax.specs.Flat.{partOf};
+ghost use Rattle.term_rules.specs.Lent.{store};
+ghost use Rattle.price_passes.specs.Flat.{partOf};
 ghost use Rattle.build.specs.Plan.{planOf};
 ghost use Rattle.build.specs.Building.{state};
 ghost use Rattle.build.specs.Ready.{seen};
-ghost use Rattle.row_terms.specs.Rows.{Builder, RowMade};
+ghost use Rattle.variant_terms.specs.Rows.{Builder, RowMade};
 ghost use Rattle.variant_terms.specs.Turned.{nameIn, kidsIn, Listed, AllListed, seenAll, RowsMade};
 ghost use Rattle.variant_terms.specs.Turned.{Steady, seenWholly, RowsWhole};
 use build::Built;
+use build::copies;
+
+pub mod row; // row.rt: the term of one row, as a variant is: each child class by its best term, then the row's own
 
 // The counts of terms and symbols then; or that the store has no room for a term.
 pub enum Turned {
@@ -53,7 +56,7 @@ fn one_row(
     let e = starts[i + 1];
     let r = order[i] as usize;
     let f = functions[r] as usize;
-    row_terms::row_term(
+    row::row_term(
         plan,
         ranks,
         labels,

@@ -9,7 +9,7 @@ use mathlib.Core.Logic.{⊎-elim}
 use lib.ListN.{getD}
 use lib.Seq.{length-take-le, getD-take}
 use lib.IntN.{pos}
-use Rattle.store.specs.Lent.{store}
+use Rattle.term_rules.specs.Lent.{store}
 use Rattle.build.specs.Plan.{Plan, countOf, placeOf, childOf, planOf}
 use Rattle.build.specs.Building.{State, state}
 use Rattle.build.proofs.PlanLaws.{childOf-class, childOf-value, ranked-of-planned}

@@ -5,8 +5,8 @@ use lib.ListN.{getD}
 use lib.IntN.{ℤ, pos}
 use mir.Syntax.{w64}
 use mir.ValLaws.{toZ-ofZ}
-use Rattle.store.specs.Lent.{Store, store}
-use Rattle.store.specs.Nodes.{literal}
+use Rattle.term_rules.specs.Lent.{Store, store}
+use Rattle.term_rules.specs.Nodes.{literal}
 use Rattle.build.proofs.OwnLaws.{added-of-term, added-of-noRoom}
 use Rattle.build.proofs.literal_term.Statement.{statement}
 use Rattle.build.proofs.literal_term.Tie as tie

@@ -2,9 +2,9 @@
 use native.Mathlib.Omega.{arith}
 use borrow.Author.Needs.{needs}
 use mathlib.Core.Path.{refl}
-use Rattle.names.specs.Entries.{nameAt}
-use Rattle.store.specs.Lent.{Store, store}
-use Rattle.store.specs.Nodes.{application}
+use Rattle.name.specs.Entries.{nameAt}
+use Rattle.term_rules.specs.Lent.{Store, store}
+use Rattle.term_rules.specs.Nodes.{application}
 use Rattle.build.specs.Plan.{functionOf}
 use Rattle.build.proofs.OwnLaws.{own-of-term, own-of-noRoom, number-limit}
 use Rattle.build.proofs.own_term.Statement.{statement}

@@ -1,7 +1,7 @@
 -- `extract::best` meets its contract: the table is loaded, then a literal or a class answered. Assumes nothing.
 use mathlib.Core.Path.{refl}
 use native.Mathlib.Omega.{arith}
-use Rattle.store.specs.Lent.{store}
+use Rattle.term_rules.specs.Lent.{store}
 use Rattle.extract.proofs.CallLaws.{
   space-of,
   refused-answer,
@@ -17,9 +17,9 @@ use Rattle.extract.proofs.CallLaws.{
 use borrow.Author.Needs.{needs}
 use Rattle.extract.proofs.best.Statement.{statement}
 use Rattle.extract.proofs.best.Tie as tie
-use Rattle.single.proofs.of_class.Reads as of-class-reads
-use Rattle.single.proofs.of_literal.Reads as of-literal-reads
-use Rattle.loading.proofs.load.Reads as load-reads
+use Rattle.best_root.proofs.of_class.Reads as of-class-reads
+use Rattle.best_root.proofs.of_literal.Reads as of-literal-reads
+use Rattle.table_rows.proofs.load.Reads as load-reads
 
 slice-aggregate-load : tie.Need-slice-aggregate-load
 slice-aggregate-load c = search needs

@@ -1,6 +1,6 @@
 -- `extract::variants` meets its contract: the table is loaded, then a literal or a class answered. Assumes nothing.
 use mathlib.Core.Path.{refl}
-use Rattle.store.specs.Lent.{store}
+use Rattle.term_rules.specs.Lent.{store}
 use Rattle.variant_answers.specs.Kept.{lending}
 use Rattle.extract.proofs.CallLaws.{
   space-of,

@@ -48,9 +48,9 @@ use denote.Triple.Table.{entered, cited}
 use denote.Triple.Walked.{says, Stays, stay-dropped, walkOf, goes-dropped, Walks, ends-at, walked, walk-meets}
 use denote.Exit.{yes}
 use denote.Struct.Laws as LL
-use Rattle.store.specs.declared.Term.{Term}
-use Rattle.store.proofs.Term as T
-use Rattle.store.proofs.Term.Laws as T′
+use Rattle.term_rules.specs.declared.Term.{Term}
+use Rattle.term_rules.proofs.Term as T
+use Rattle.term_rules.proofs.Term.Laws as T′
 use Rattle.lent.specs.declared.Flat.{Flat}
 use Rattle.lent.proofs.Flat as F
 use Rattle.lent.proofs.Flat.Laws as F′
@@ -78,9 +78,9 @@ use Rattle.lent.proofs.packed as pck
 use Rattle.lent.proofs.packed.Symbol as pck-def
 use Rattle.lent.proofs.packed.Symbol.{name as #pck}
 use Rattle.lent.proofs.packed.Met as pck-thm
-use Rattle.store.specs.Lent.{numbers}
+use Rattle.term_rules.specs.Lent.{numbers}
 use Rattle.lent.specs.Records.{noTerm, Eight}
-use Rattle.records.specs.Flat.{InRecords}
+use Rattle.term_record.specs.Flat.{InRecords}
 use Rattle.lent.specs.Copies.{Loaded}
 use Rattle.lent.proofs.CopyLaws.{Copied, copied-none, copied-more, copied-whole}
 use Rattle.lent.proofs.Lending.{ref, big-lit, array-lent, array-back}

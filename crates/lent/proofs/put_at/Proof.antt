@@ -43,9 +43,9 @@ use denote.Triple.Walked.{says, needs, Stays, stay-none, stay-slice, walkOf, goe
 use denote.Triple.Walked.{walked, walk-meets}
 use denote.Exit.{yes}
 use Rattle.lent.specs.Records.{noTerm}
-use Rattle.store.specs.declared.Term.{Term}
-use Rattle.store.proofs.Term as T
-use Rattle.store.proofs.Term.Laws as T′
+use Rattle.term_rules.specs.declared.Term.{Term}
+use Rattle.term_rules.proofs.Term as T
+use Rattle.term_rules.proofs.Term.Laws as T′
 use Rattle.lent.proofs.put_at.Key.{name as #it}
 use Rattle.lent.proofs.put_at as it
 use Rattle.lent.proofs.put_at.Statement as stated

@@ -4,7 +4,7 @@ use mathlib.Core.Path.{_≡_, refl, ap, sym, _∙_}
 use native.Mathlib.Numerals.{add-one}
 use lib.ListN.{length, set, length-set}
 use lib.Seq.{paste, paste-zero, paste-suc}
-use Rattle.store.specs.Lent.{numbers}
+use Rattle.term_rules.specs.Lent.{numbers}
 use Rattle.lent.proofs.RecordLaws.{numbers-length}
 use borrow.Author.Needs.{needs}
 use native.Mathlib.Omega.{arith}

@@ -1,5 +1,5 @@
 -- `lent::unload` meets its contract: a walk of its MIR, by hand. A loop puts record by record back: the two local
--- arrays are shown to `records::record_at` for each, and the slice is lent again to `put_at`. Assumes nothing.
+-- arrays are shown to `term_record::record_at` for each, and the slice is lent again to `put_at`. Assumes nothing.
 use mathlib.Core.Path.{_≡_, refl, sym, _∙_, ap, subst}
 use Prim.Native.Nat.{ℕ, _<_, _≤_, _+_, _-_, _^_}
 use native.Mathlib.Omega.{arith}
@@ -47,22 +47,22 @@ use denote.Triple.Walked.{says, needs, Stays, stay-dropped, stay-slice, walkOf, 
 use denote.Triple.Walked.{ends-at, walked, walk-meets}
 use denote.Exit.{yes}
 use denote.Struct.Laws as LL
-use Rattle.store.specs.declared.Term.{Term}
-use Rattle.store.proofs.Term as T
-use Rattle.store.proofs.Term.Laws as T′
+use Rattle.term_rules.specs.declared.Term.{Term}
+use Rattle.term_rules.proofs.Term as T
+use Rattle.term_rules.proofs.Term.Laws as T′
 use Rattle.lent.specs.declared.Flat.{Flat}
 use Rattle.lent.proofs.Flat as F
 use Rattle.lent.proofs.Flat.Laws as F′
-use Rattle.records.proofs.record_at as rof
-use Rattle.records.proofs.record_at.Symbol as rof-def
-use Rattle.records.proofs.record_at.Symbol.{name as #rof}
-use Rattle.records.proofs.record_at.Met as rof-thm
+use Rattle.term_record.proofs.record_at as rof
+use Rattle.term_record.proofs.record_at.Symbol as rof-def
+use Rattle.term_record.proofs.record_at.Symbol.{name as #rof}
+use Rattle.term_record.proofs.record_at.Met as rof-thm
 use Rattle.lent.proofs.put_at as put
 use Rattle.lent.proofs.put_at.Symbol as put-def
 use Rattle.lent.proofs.put_at.Symbol.{name as #put}
 use Rattle.lent.proofs.put_at.Met as put-thm
-use Rattle.store.specs.Lent.{recordIn}
-use Rattle.records.specs.Flat.{InRecords}
+use Rattle.term_rules.specs.Lent.{recordIn}
+use Rattle.term_record.specs.Flat.{InRecords}
 use Rattle.lent.proofs.Values.{numbers-of, literals-of, room-of}
 use Rattle.lent.proofs.CopyLaws.{putTo, putTo-none, putTo-more, putTo-length}
 use Rattle.lent.proofs.Lending.{ref, big-lit, array-shown, array-unshown, slice-lent, slice-back}
@@ -282,7 +282,7 @@ module _ {M : Type 1} (𝓤 : URA M) (H : Heap 𝓤) (A : Atoms 𝓤) (W : Given
           assigns ! (agg ! (and-then ! (load ! (from ! (stop !)) (look ! 10 refl))
           (and-then ! (big-lit ! (record { fits = lit< tt })) (no-more !)))) (from ! (stop !))
           (init ! 8 refl (tt, (tt, (record { fits = lit< tt }, tt)))) $
-          -- the arrays are shown to `records::record_at`
+          -- the arrays are shown to `term_record::record_at`
           move ! (26 ∷ []) $
           array-shown ! tt u64 tt 11264 l₃ (named 0) numbers-makes (lit< tt, lit< tt) rs vr isr (λ ν δ.
           move ! (27 ∷ []) $
@@ -430,6 +430,6 @@ unload-spec 𝓤 H 𝓜 𝓖 𝓡 =
     (tables 𝓤 H 𝓜 𝓡 code.env .C) (tables 𝓤 H 𝓜 𝓡 code.env .Λ) #it code.function (code.unfolded 𝓤 H 𝓜 𝓡)
     (meets 𝓤 H (𝓖 .A) (givenOf 𝓤 H 𝓜 𝓖) (𝓜 .mem) (𝓡 .run) (tablesOf 𝓤 H 𝓜 (tables 𝓤 H 𝓜 𝓡 code.env))
     (cited 𝓤 H (Of 𝓤 H (𝓖 .A) rof.ended (rof.clauses 𝓤 H (𝓖 .A) (𝓜 .mem) (𝓡 .run))) 𝓜 𝓡 code.env #rof rof-def.routine
-    code.calls-records·record-at (rof-thm.met 𝓤 H 𝓜 𝓖 𝓡))
+    code.calls-term-record·record-at (rof-thm.met 𝓤 H 𝓜 𝓖 𝓡))
     (cited 𝓤 H (Of 𝓤 H (𝓖 .A) put.ended (put.clauses 𝓤 H (𝓖 .A) (𝓜 .mem) (𝓡 .run))) 𝓜 𝓡 code.env #put put-def.routine
     code.calls-lent·put-at (put-thm.met 𝓤 H 𝓜 𝓖 𝓡)))

@@ -4,10 +4,10 @@ use Prim.Native.Nat.{ℕ, _*_}
 use mathlib.Core.Path.{_≡_, sym, ap, _∙_}
 use lib.ListN.{length, length-replicate}
 use lib.Seq.{length-take-le, length-front}
-use Rattle.store.specs.Lent.{Store}
-use Rattle.answers.specs.Answers.{After}
-use Rattle.answers.specs.Best.{BestTerm, bestAt}
-use Rattle.single.specs.Single.{seenBest}
+use Rattle.term_rules.specs.Lent.{Store}
+use Rattle.answer_rules.specs.Answers.{After}
+use Rattle.answer_rules.specs.Best.{BestTerm, bestAt}
+use Rattle.best_root.specs.Single.{seenBest}
 use Rattle.lent_extract.proofs.LeftLaws.{best-faithful, worked}
 use borrow.Author.Needs.{needs}
 use Rattle.lent_extract.proofs.best_in.Statement.{statement}

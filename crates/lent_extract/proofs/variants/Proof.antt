@@ -40,9 +40,9 @@ use denote.Triple.Walked.{says, Stays, stay-dropped, walkOf, goes-dropped, gave-
 use denote.Triple.Walked.{ends-at, walked, walk-meets}
 use denote.Exit.{yes}
 use denote.Struct.Laws as LL
-use Rattle.store.specs.declared.Term.{Term}
-use Rattle.store.proofs.Term as T
-use Rattle.store.proofs.Term.Laws as T′
+use Rattle.term_rules.specs.declared.Term.{Term}
+use Rattle.term_rules.proofs.Term as T
+use Rattle.term_rules.proofs.Term.Laws as T′
 use Rattle.lent.specs.declared.Flat.{Flat}
 use Rattle.lent.proofs.Flat as F
 use Rattle.lent.proofs.Flat.Laws as F′
@@ -66,15 +66,15 @@ use Rattle.lent.specs.Copies.{Loaded, Whole, storeIn}
 use Rattle.lent.proofs.Lending.{ref, slice-shown, slice-unshown}
 use Rattle.lent.proofs.Calling.{Of, calls-plain, calls-changing}
 use denote.Enum.Laws as EL
-use Rattle.several.specs.declared.VariantsAnswer.{VariantsAnswer}
-use Rattle.several.proofs.VariantsAnswer as R
-use Rattle.several.proofs.VariantsAnswer.Laws as R′
-use Rattle.store.specs.Lent.{Store}
+use Rattle.variants_root.specs.declared.VariantsAnswer.{VariantsAnswer}
+use Rattle.variants_root.proofs.VariantsAnswer as R
+use Rattle.variants_root.proofs.VariantsAnswer.Laws as R′
+use Rattle.term_rules.specs.Lent.{Store}
 use Rattle.lent.specs.Records.{lentStore}
 use Rattle.lent.proofs.StoreLaws.{loaded-fits}
-use Rattle.answers.specs.Variants.{VariantsAfter, variantsAt}
+use Rattle.answer_rules.specs.Variants.{VariantsAfter, variantsAt}
 use Rattle.variant_answers.specs.Kept.{lending}
-use Rattle.several.specs.Several.{seenVariants}
+use Rattle.variants_root.specs.Several.{seenVariants}
 use Rattle.lent_extract.specs.Left.{VariantsIn, LentVariants}
 use Rattle.lent_extract.proofs.LeftLaws.{lent-left}
 use Rattle.lent_extract.proofs.variants.Key.{name as #it}

@@ -4,10 +4,10 @@ use Prim.Native.Nat.{ℕ, _*_}
 use mathlib.Core.Path.{_≡_, sym, ap, _∙_}
 use lib.ListN.{length, length-replicate}
 use lib.Seq.{length-take-le, length-front}
-use Rattle.store.specs.Lent.{Store}
-use Rattle.answers.specs.Variants.{VariantsAfter, variantsAt}
+use Rattle.term_rules.specs.Lent.{Store}
+use Rattle.answer_rules.specs.Variants.{VariantsAfter, variantsAt}
 use Rattle.variant_answers.specs.Kept.{lending}
-use Rattle.several.specs.Several.{seenVariants}
+use Rattle.variants_root.specs.Several.{seenVariants}
 use Rattle.lent_extract.proofs.LeftLaws.{variants-faithful, worked}
 use borrow.Author.Needs.{needs}
 use Rattle.lent_extract.proofs.variants_in.Statement.{statement}

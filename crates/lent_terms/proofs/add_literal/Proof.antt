@@ -42,8 +42,8 @@ use denote.Triple.Walked.{says, Stays, stay-dropped, walkOf, goes-dropped, gave-
 use denote.Triple.Walked.{ends-at, walked, walk-meets}
 use denote.Exit.{yes}
 use denote.Struct.Laws as LL
-use Rattle.store.specs.declared.Term.{Term}
-use Rattle.store.proofs.Term as T
+use Rattle.term_rules.specs.declared.Term.{Term}
+use Rattle.term_rules.proofs.Term as T
 use Rattle.lent.specs.declared.Flat.{Flat}
 use Rattle.lent.proofs.Flat as F
 use Rattle.lent.proofs.Flat.Laws as F′
@@ -67,10 +67,10 @@ use Rattle.lent.specs.Copies.{Loaded, Whole, storeIn}
 use Rattle.lent.proofs.Lending.{ref, slice-shown, slice-unshown}
 use Rattle.lent.proofs.Calling.{Of, calls-plain, calls-changing}
 use denote.Enum.Laws as EL
-use Rattle.terms.proofs.Added as R
-use Rattle.terms.proofs.Added.Laws as R′
-use Rattle.store.specs.Lent.{Store}
-use Rattle.terms.specs.Calls.{addLiteral}
+use Rattle.term.proofs.Added as R
+use Rattle.term.proofs.Added.Laws as R′
+use Rattle.term_rules.specs.Lent.{Store}
+use Rattle.term.specs.Calls.{addLiteral}
 use Rattle.lent.specs.Records.{lentStore}
 use Rattle.lent.proofs.StoreLaws.{loaded-fits}
 use Rattle.lent_terms.specs.Lists.{AddedIn, LentAdded}

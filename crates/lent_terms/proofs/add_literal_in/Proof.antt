@@ -1,4 +1,4 @@
--- `lent_terms::add_literal_in` meets its contract: the entries are copied, and `terms::add_literal` does the work.
+-- `lent_terms::add_literal_in` meets its contract: the entries are copied, and `term::add_literal` does the work.
 -- Assumes nothing.
 use native.Mathlib.Omega.{arith}
 use Prim.Native.Nat.{_*_}
@@ -8,8 +8,8 @@ use mir.Val.{toZ, ofZ}
 use lib.Seq.{length-take-le}
 use lib.ListN.{length}
 use Rattle.lent_terms.proofs.AddedLaws.{added-same-names}
-use Rattle.store.specs.Lent.{Store}
-use Rattle.terms.specs.Calls.{addLiteral}
+use Rattle.term_rules.specs.Lent.{Store}
+use Rattle.term.specs.Calls.{addLiteral}
 use borrow.Author.Needs.{needs}
 use Rattle.lent_terms.proofs.add_literal_in.Statement.{statement}
 use Rattle.lent_terms.proofs.add_literal_in.Tie as tie

@@ -1,12 +1,12 @@
--- `lent_terms::add_variable_in` meets its contract: the entries are copied, `terms::add_variable` does the work, and
+-- `lent_terms::add_variable_in` meets its contract: the entries are copied, `term::add_variable` does the work, and
 -- the entries are put back. Assumes nothing.
 use native.Mathlib.Omega.{arith}
 use Prim.Native.Nat.{ℕ, _*_}
 use mathlib.Core.Path.{_≡_, sym, ap, _∙_}
 use lib.ListN.{length, length-replicate}
 use lib.Seq.{length-take-le, length-front}
-use Rattle.store.specs.Lent.{Store}
-use Rattle.terms.specs.Calls.{addVariable}
+use Rattle.term_rules.specs.Lent.{Store}
+use Rattle.term.specs.Calls.{addVariable}
 use Rattle.lent_terms.proofs.AddedLaws.{added-names}
 use borrow.Author.Needs.{needs}
 use Rattle.lent_terms.proofs.add_variable_in.Statement.{statement}

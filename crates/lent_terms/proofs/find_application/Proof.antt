@@ -38,8 +38,8 @@ use denote.Triple.Table.{entered, cited}
 use denote.Triple.Walked.{says, Stays, stay-dropped, walkOf, goes-dropped, Walks, ends-at, walked, walk-meets}
 use denote.Exit.{yes}
 use denote.Struct.Laws as LL
-use Rattle.store.specs.declared.Term.{Term}
-use Rattle.store.proofs.Term as T
+use Rattle.term_rules.specs.declared.Term.{Term}
+use Rattle.term_rules.proofs.Term as T
 use Rattle.lent.specs.declared.Flat.{Flat}
 use Rattle.lent.proofs.Flat as F
 use Rattle.lent.proofs.Flat.Laws as F′
@@ -54,12 +54,12 @@ use Rattle.lent_terms.proofs.find_application_in.Met as wrk-thm
 use Rattle.lent.specs.Copies.{Loaded, Whole, storeIn}
 use Rattle.lent.proofs.Calling.{Of, calls-plain}
 use denote.Enum.Laws as EL
-use Rattle.terms.specs.declared.Looked.{Looked}
-use Rattle.terms.proofs.Looked as R
-use Rattle.terms.proofs.Looked.Laws as R′
-use Rattle.store.specs.Lent.{Store}
-use Rattle.terms.specs.Answers.{seenFound}
-use Rattle.terms.specs.Calls.{findApplication}
+use Rattle.term.specs.declared.Looked.{Looked}
+use Rattle.term.proofs.Looked as R
+use Rattle.term.proofs.Looked.Laws as R′
+use Rattle.term_rules.specs.Lent.{Store}
+use Rattle.term.specs.Answers.{seenFound}
+use Rattle.term.specs.Calls.{findApplication}
 use Rattle.lent.specs.Records.{lentStore}
 use Rattle.lent.proofs.StoreLaws.{loaded-store}
 use Rattle.lent_terms.proofs.find_application.Key.{name as #it}

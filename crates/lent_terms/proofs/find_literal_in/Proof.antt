@@ -1,4 +1,4 @@
--- `lent_terms::find_literal_in` meets its contract: the entries are copied, and `terms::find_literal` does the work.
+-- `lent_terms::find_literal_in` meets its contract: the entries are copied, and `term::find_literal` does the work.
 -- Assumes nothing.
 use native.Mathlib.Omega.{arith}
 use Prim.Native.Nat.{_*_}
@@ -6,8 +6,8 @@ use mathlib.Core.Path.{_≡_, sym, ap, _∙_}
 use lib.Seq.{length-take-le}
 use mir.Syntax.{w64}
 use mir.Val.{toZ, ofZ}
-use Rattle.store.specs.Lent.{Store}
-use Rattle.terms.specs.Calls.{findLiteral}
+use Rattle.term_rules.specs.Lent.{Store}
+use Rattle.term.specs.Calls.{findLiteral}
 use Rattle.lent.proofs.StoreLaws.{storeIn-is}
 use borrow.Author.Needs.{needs}
 use Rattle.lent_terms.proofs.find_literal_in.Statement.{statement}

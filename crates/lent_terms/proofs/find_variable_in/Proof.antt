@@ -1,11 +1,11 @@
--- `lent_terms::find_variable_in` meets its contract: the entries are copied, and `terms::find_variable` does the work.
+-- `lent_terms::find_variable_in` meets its contract: the entries are copied, and `term::find_variable` does the work.
 -- Assumes nothing.
 use native.Mathlib.Omega.{arith}
 use Prim.Native.Nat.{_*_}
 use mathlib.Core.Path.{sym, ap, _∙_}
 use lib.Seq.{length-take-le}
-use Rattle.store.specs.Lent.{Store}
-use Rattle.terms.specs.Calls.{findVariable}
+use Rattle.term_rules.specs.Lent.{Store}
+use Rattle.term.specs.Calls.{findVariable}
 use Rattle.lent.proofs.StoreLaws.{storeIn-is}
 use borrow.Author.Needs.{needs}
 use Rattle.lent_terms.proofs.find_variable_in.Statement.{statement}

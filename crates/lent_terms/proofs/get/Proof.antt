@@ -38,8 +38,8 @@ use denote.Triple.Table.{entered, cited}
 use denote.Triple.Walked.{says, Stays, stay-dropped, walkOf, goes-dropped, Walks, ends-at, walked, walk-meets}
 use denote.Exit.{yes}
 use denote.Struct.Laws as LL
-use Rattle.store.specs.declared.Term.{Term}
-use Rattle.store.proofs.Term as T
+use Rattle.term_rules.specs.declared.Term.{Term}
+use Rattle.term_rules.proofs.Term as T
 use Rattle.lent.specs.declared.Flat.{Flat}
 use Rattle.lent.proofs.Flat as F
 use Rattle.lent.proofs.Flat.Laws as F′
@@ -53,11 +53,11 @@ use Rattle.lent_terms.proofs.get_in.Symbol.{name as #wrk}
 use Rattle.lent_terms.proofs.get_in.Met as wrk-thm
 use Rattle.lent.specs.Copies.{Loaded, Whole, storeIn}
 use Rattle.lent.proofs.Calling.{Of, calls-plain}
-use Rattle.terms.specs.declared.Got.{Got}
-use Rattle.terms.proofs.Got as R
-use Rattle.terms.proofs.Got.Laws as R′
-use Rattle.store.specs.Lent.{Store}
-use Rattle.terms.specs.Calls.{getTerm}
+use Rattle.term.specs.declared.Got.{Got}
+use Rattle.term.proofs.Got as R
+use Rattle.term.proofs.Got.Laws as R′
+use Rattle.term_rules.specs.Lent.{Store}
+use Rattle.term.specs.Calls.{getTerm}
 use Rattle.lent.specs.Records.{lentStore}
 use Rattle.lent.proofs.StoreLaws.{loaded-store}
 use Rattle.lent_terms.proofs.get.Key.{name as #it}

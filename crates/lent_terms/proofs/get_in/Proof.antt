@@ -1,10 +1,10 @@
--- `lent_terms::get_in` meets its contract: the entries are copied, and `terms::get` does the work. Assumes nothing.
+-- `lent_terms::get_in` meets its contract: the entries are copied, and `term::get` does the work. Assumes nothing.
 use native.Mathlib.Omega.{arith}
 use Prim.Native.Nat.{_*_}
 use mathlib.Core.Path.{sym, ap, _∙_}
 use lib.Seq.{length-take-le}
-use Rattle.store.specs.Lent.{Store}
-use Rattle.terms.specs.Calls.{getTerm}
+use Rattle.term_rules.specs.Lent.{Store}
+use Rattle.term.specs.Calls.{getTerm}
 use Rattle.lent.proofs.StoreLaws.{storeIn-is}
 use borrow.Author.Needs.{needs}
 use Rattle.lent_terms.proofs.get_in.Statement.{statement}

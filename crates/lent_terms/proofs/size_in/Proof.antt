@@ -1,9 +1,9 @@
--- `lent_terms::size_in` meets its contract: the entries are copied, and `terms::size` does the work. Assumes nothing.
+-- `lent_terms::size_in` meets its contract: the entries are copied, and `term::size` does the work. Assumes nothing.
 use native.Mathlib.Omega.{arith}
 use Prim.Native.Nat.{_*_}
 use mathlib.Core.Path.{sym, ap, _∙_}
 use lib.Seq.{length-take-le}
-use Rattle.terms.specs.Calls.{sizeOf}
+use Rattle.term.specs.Calls.{sizeOf}
 use Rattle.lent.proofs.StoreLaws.{storeIn-is}
 use borrow.Author.Needs.{needs}
 use Rattle.lent_terms.proofs.size_in.Statement.{statement}

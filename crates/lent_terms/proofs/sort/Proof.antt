@@ -39,8 +39,8 @@ use denote.Triple.Walked.{says, Stays, stay-dropped, walkOf, goes-dropped, gave-
 use denote.Triple.Walked.{ends-at, walked, walk-meets}
 use denote.Exit.{yes}
 use denote.Struct.Laws as LL
-use Rattle.store.specs.declared.Term.{Term}
-use Rattle.store.proofs.Term as T
+use Rattle.term_rules.specs.declared.Term.{Term}
+use Rattle.term_rules.proofs.Term as T
 use Rattle.lent.specs.declared.Flat.{Flat}
 use Rattle.lent.proofs.Flat as F
 use Rattle.lent.proofs.Flat.Laws as F′
@@ -55,12 +55,12 @@ use Rattle.lent_terms.proofs.sort_in.Met as wrk-thm
 use Rattle.lent.specs.Copies.{Loaded, Whole, storeIn}
 use Rattle.lent.proofs.Calling.{Of, calls-plain, calls-changing}
 use denote.Enum.Laws as EL
-use Rattle.terms.specs.declared.Verdict.{Verdict}
-use Rattle.terms.proofs.Verdict as R
-use Rattle.terms.proofs.Verdict.Laws as R′
-use Rattle.store.specs.Lent.{Store}
-use Rattle.terms.specs.Answers.{seenSort}
-use Rattle.terms.specs.Calls.{sortTerms}
+use Rattle.term.specs.declared.Verdict.{Verdict}
+use Rattle.term.proofs.Verdict as R
+use Rattle.term.proofs.Verdict.Laws as R′
+use Rattle.term_rules.specs.Lent.{Store}
+use Rattle.term.specs.Answers.{seenSort}
+use Rattle.term.specs.Calls.{sortTerms}
 use Rattle.lent.specs.Records.{lentStore}
 use Rattle.lent.proofs.StoreLaws.{loaded-store}
 use Rattle.lent_terms.proofs.sort.Key.{name as #it}

@@ -1,10 +1,10 @@
--- `lent_terms::sort_in` meets its contract: the entries are copied, and `terms::sort` does the work. Assumes nothing.
+-- `lent_terms::sort_in` meets its contract: the entries are copied, and `term::sort` does the work. Assumes nothing.
 use native.Mathlib.Omega.{arith}
 use Prim.Native.Nat.{_*_}
 use mathlib.Core.Path.{sym, ap, _∙_}
 use lib.Seq.{length-take-le}
-use Rattle.store.specs.Lent.{Store}
-use Rattle.terms.specs.Calls.{sortTerms}
+use Rattle.term_rules.specs.Lent.{Store}
+use Rattle.term.specs.Calls.{sortTerms}
 use Rattle.lent.proofs.StoreLaws.{storeIn-is}
 use borrow.Author.Needs.{needs}
 use Rattle.lent_terms.proofs.sort_in.Statement.{statement}

@@ -4,7 +4,7 @@ use mathlib.Core.Path.{_≡_, _∙_}
 use mir.Syntax.{w64}
 use mir.Facts.{toZ-ofZ, toZ-pos}
 use borrow.Author.Needs.{sfits-of}
-use Rattle.store.specs.Lent.{Store, store}
+use Rattle.term_rules.specs.Lent.{Store, store}
 use Rattle.needlevale_c.proofs.CodedLaws.{term-within, adds-term, adds-refused}
 use native.Mathlib.Omega.{arith}
 use borrow.Author.Needs.{needs}
@@ -12,8 +12,8 @@ use Rattle.needlevale_c.proofs.needlevale_add_literal.Statement.{statem
 use Rattle.needlevale_c.proofs.needlevale_add_literal.Tie as tie
 use Rattle.needlevale_c.proofs.needlevale_add_literal.Reads as reads
 use Rattle.needlevale_c.proofs.needlevale_add_literal.Lts as lts
-use Rattle.codes.proofs.below_zero.Reads as below-zero-reads
-use Rattle.terms.proofs.add_literal.Reads as add-literal-reads
+use Rattle.needlevale_c.proofs.codes.below_zero.Reads as below-zero-reads
+use Rattle.term.proofs.add_literal.Reads as add-literal-reads
 
 -- the store that is lent
 abbrev lent : tie.Start → Store

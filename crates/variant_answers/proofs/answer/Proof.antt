@@ -3,7 +3,7 @@ use Prim.Native.Nat.{ℕ}
 use mathlib.Core.Path.{refl, sym, _∙_}
 use mathlib.Core.List.{[]}
 use lib.ListN.{length, length-replicate}
-use Rattle.store.specs.Lent.{store}
+use Rattle.term_rules.specs.Lent.{store}
 use Rattle.build.specs.Plan.{planOf}
 use Rattle.variant_terms.specs.Turned.{nameIn, kidsIn}
 use Rattle.variant_answers.proofs.AnswerLaws.{

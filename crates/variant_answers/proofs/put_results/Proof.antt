@@ -3,7 +3,7 @@ use Prim.Native.Nat.{ℕ}
 use mathlib.Core.Path.{sym, ap, _∙_}
 use lib.ListN.{length, getD}
 use lib.Seq.{paste, length-take-le}
-use Rattle.demand.proofs.OrderLaws.{map-length}
+use Rattle.choice_rules.proofs.Demand.OrderLaws.{map-length}
 use Rattle.variant_answers.specs.Kept.{pricesOf}
 use Rattle.variant_answers.proofs.AnswerLaws.{terms-copied}
 use native.Mathlib.Omega.{arith}

@@ -3,11 +3,11 @@
 use Prim.Native.Nat.{ℕ, _-_}
 use mathlib.Core.Path.{refl}
 use lib.ListN.{length}
-use Rattle.store.specs.Lent.{store}
-use Rattle.relax.specs.Flat.{partOf}
+use Rattle.term_rules.specs.Lent.{store}
+use Rattle.price_passes.specs.Flat.{partOf}
 use Rattle.build.specs.Plan.{planOf}
 use Rattle.build.specs.Building.{state}
-use Rattle.adding.proofs.AddingLaws.{grows-refl}
+use Rattle.term_rules.proofs.Adding.AddingLaws.{grows-refl}
 use Rattle.variant_terms.specs.Turned.{nameIn, kidsIn}
 use Rattle.variant_terms.proofs.TurnLaws.{Turn, turn-go, turn-stop, turn-end}
 use borrow.Author.Needs.{needs}

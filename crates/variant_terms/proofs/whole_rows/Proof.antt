@@ -5,10 +5,10 @@ use Prim.Native.Nat.{ℕ}
 use mathlib.Core.Path.{_∙_}
 use lib.ListN.{replicate, length-replicate}
 use lib.IntN.{pos}
-use Rattle.store.specs.Lent.{Store, store}
+use Rattle.term_rules.specs.Lent.{Store, store}
 use Rattle.build.specs.Plan.{Plan, planOf}
 use Rattle.build.proofs.BuildingLaws.{tracks-of-zeros, stuck-beyond}
-use Rattle.copies.proofs.CopiedLaws.{saved-back}
+use Rattle.build.proofs.copies.CopiedLaws.{saved-back}
 use Rattle.variant_terms.specs.Turned.{nameIn, kidsIn}
 use Rattle.variant_terms.proofs.WholeLaws.{whole-of-done, whole-of-full}
 use native.Mathlib.Omega.{arith}

@@ -1,3 +1,0 @@
--- The laws of the crate `alike`.
-pub mod KidLaws
-pub mod TextLaws

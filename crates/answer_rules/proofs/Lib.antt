@@ -1,0 +1,5 @@
+-- The laws of the crate `answer_rules`.
+pub mod TermLaws
+pub mod AgreeLaws
+pub mod PlanLaws
+pub mod BestLaws

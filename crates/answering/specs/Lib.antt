@@ -1,2 +1,0 @@
--- The definitions of the crate `answering`.
-pub mod Calls

@@ -1,5 +1,0 @@
--- The laws of the crate `answers`.
-pub mod TermLaws
-pub mod AgreeLaws
-pub mod PlanLaws
-pub mod BestLaws

@@ -1,3 +1,0 @@
--- The laws of the crate `best_reply`.
-pub mod PlacedLaws
-pub mod ReplyLaws

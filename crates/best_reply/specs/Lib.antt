@@ -1,2 +1,0 @@
--- The definitions of the crate `best_reply`.
-pub mod Text

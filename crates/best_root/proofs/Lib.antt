@@ -1,0 +1,2 @@
+-- The laws of the crate `best_root`.
+pub mod SingleLaws

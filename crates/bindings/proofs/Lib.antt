@@ -1,5 +1,0 @@
--- The laws of the crate `bindings`.
-pub mod FindLaws
-pub mod MeetLaws
-pub mod TableLaws
-pub mod WantedLaws

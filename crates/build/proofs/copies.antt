@@ -1,0 +1,2 @@
+-- The laws of `copies`.
+pub mod CopiedLaws

@@ -1,0 +1,3 @@
+-- The laws of `whole`.
+pub mod WholeLaws
+mod WholeCases

@@ -1,8 +1,0 @@
--- A refusal as a number below zero. Assumes nothing: a definition.
-use lib.IntN.{ℤ, pos, negℤ}
-use Rattle.refusals.specs.declared.Refusal.{Refusal}
-use Rattle.refusals.specs.Numbers.{refusalNo}
-
--- "Each returns its number alone": below zero, so that no length and no term's number is the same.
-abbrev pub belowZero : Refusal → ℤ
-belowZero r = negℤ (pos (refusalNo r))

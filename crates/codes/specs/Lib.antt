@@ -1,3 +1,0 @@
--- The definitions of the crate `codes`.
-pub mod Below
-pub mod Promises

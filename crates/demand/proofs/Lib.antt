@@ -1,3 +1,0 @@
--- The laws of the crate `demand`.
-pub mod OrderLaws
-pub mod DemandLaws

@@ -1,3 +1,0 @@
--- The definitions of the crate `encoding`.
-pub mod Bytes
-pub mod Longest

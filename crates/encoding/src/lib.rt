@@ -1,1 +1,0 @@
-// That every table within the limits has a file: definitions and laws alone, for what `table` promises of its reader.

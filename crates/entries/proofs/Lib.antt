@@ -1,2 +1,0 @@
--- What the proofs of the crate `entries` share.
-pub mod EntriesLaws

@@ -1,0 +1,176 @@
+-- The terms of rows, built in turn: they come back in a store of the same room, or no store of that room that keeps
+-- the first one's terms and names holds them all. Assumes nothing.
+use Prim.Native.Nat.{ℕ, suc, _<_, _≤_}
+use mathlib.Core.Path.{_≡_, subst}
+use mathlib.Core.Bool.{true, false}
+use mathlib.Core.List.{List, [], _∷_, _++_}
+use native.Mathlib.Omega.{arith}
+use lib.ListN.{length, replicate}
+use lib.IntN.{ℤ}
+use Rattle.name.specs.Name.{valid}
+use Rattle.term_rules.specs.Lent.{Store}
+use Rattle.term_rules.specs.WellFormed.{wellFormed}
+use Rattle.term_rules.specs.Nodes.{Tree, applied, Trees}
+use Rattle.term_rules.proofs.FactsLaws.{sound-of-wellFormed}
+use Rattle.choice_rules.specs.Rows.{rowAt}
+use Rattle.choice_rules.proofs.ListLaws.{Each}
+use Rattle.choice_rules.proofs.Demand.OrderLaws.{map-length, inOrder-length}
+use Rattle.build.specs.Plan.{TreesOf}
+use Rattle.build.specs.Building.{State, state, Out, done, full}
+use Rattle.build.specs.Standing.{Tracks}
+use Rattle.build.proofs.BuildingLaws.{tracks-of-zeros}
+use Rattle.file_rules.specs.Table.{Table}
+use Rattle.table_rules.specs.Rules.Rows.{tableRowOf, tableRows}
+use Rattle.table_rules.specs.Rules.Order.{scanOrder, scanned}
+use Rattle.table_rules.specs.Rules.Terms.{nameOf}
+use Rattle.table_rules.specs.Rules.Choosing.{runOf}
+use Rattle.table_rules.specs.Rules.Facts.{Known}
+use Rattle.table_rules.proofs.Rules.CoverLaws.{scanned-below, children-length}
+use Rattle.answer_rules.specs.Plan.{planChild, planChildren, planFor}
+use Rattle.answer_rules.specs.Variants.{fileRow, keptRows, anyDear, variantIn, variantsIn}
+use Rattle.answer_rules.proofs.PlanLaws.{buildRank, plan-ranked}
+use Rattle.extract.specs.Terms.{RowTerms, noTerms, moreTerms}
+use Rattle.extract.specs.Told.{builtRows}
+use Rattle.extract.proofs.VariantFacts.RowLaws.{row-lower}
+use Rattle.extract.proofs.VariantFacts.TurnLaws.{RowRight, row-made}
+use Rattle.extract.proofs.VariantFacts.ReturnLaws.{Sound, kept-sound}
+use Rattle.extract.proofs.VariantFacts.CallLaws.{built-made}
+use Rattle.extract.specs.Room.Room.{Holds, Fits, NoRoomForRows}
+use Rattle.extract.proofs.Room.HoldLaws.{AllTrees, children-held}
+use Rattle.extract.proofs.Room.StepLaws.{Within, within-of-fits, fits-self}
+use Rattle.extract.proofs.Room.BuildLaws.{Good, Step, row-good}
+use Rattle.extract.proofs.Room.WholeLaws.{all-trees, within-step, fits-step}
+
+-- what the rows leave: G of the store, or Bad where there was no room
+abbrev GoodRows : (Store → Type 0) → Type 0 → Out (List ℕ) → Type 0
+GoodRows G Bad (done us s) = G (s .lent)
+GoodRows G Bad (full me rs ls ns) = Bad
+
+module _ (t : Table) (k : Known t) (root : ℕ) (h : root < length (t .sorts)) where
+  abbrev depth : ℕ
+  depth = suc (runOf t root .state .last)
+
+  row-known : (i : ℕ) → i < length (scanned t root) → fileRow t root i < length (t .rows)
+  unfolding scanned
+  row-known i l =
+      scanned-below t k root h i (subst (λ (n : ℕ). i < n) (inOrder-length (tableRows t) (scanOrder t root)) l)
+
+  name-valid : (i : ℕ) → i < length (scanned t root) → valid (nameOf t (fileRow t root i)) ≡ true
+  name-valid i l = k .name (tableRowOf t (fileRow t root i) .function) (k .function (fileRow t root i) (row-known i l))
+
+  few : (i : ℕ) → i < length (scanned t root) → length (planChildren t (fileRow t root i)) ≤ 8
+  unfolding planChildren
+  few i l =
+      let r = row-known i l in
+      rw (map-length (planChild t) (rowAt (tableRows t) (fileRow t root i) .children))
+      (omega (
+        arith,
+        children-length t k root h (fileRow t root i) r,
+        k .arity (tableRowOf t (fileRow t root i) .function) (k .function (fileRow t root i) r),
+      ))
+
+  -- a row has a tree that is needed
+  record NeededRow (Need : Tree → Type 0) (i : ℕ) : Type 0 where
+    trees : Trees
+    of : TreesOf (planFor t root) (planChildren t (fileRow t root i)) trees
+    need : Need (applied (nameOf t (fileRow t root i)) trees)
+
+  module _
+      (G : Store → Type 0) (Need : Tree → Type 0) (Bad : Type 0)
+      (down : (n : List ℕ) (ts : Trees) → Need (applied n ts) → AllTrees Need ts) (step : Step G Need Bad) where
+    abbrev RowRightOf : State → ℕ → Out ℕ → Type 0
+    RowRightOf s i o =
+        RowRight (planFor t root) (buildRank t root) (plan-ranked t k root h) depth (nameOf t (fileRow t root i))
+        (planChildren t (fileRow t root i)) s o
+
+    row-right : (s : State) (i : ℕ) → Tracks (planFor t root) s → Sound t k root h i →
+        RowRightOf s i (variantIn t root depth s i)
+    unfolding variantIn
+    row-right s i tr q =
+        row-made (planFor t root) (buildRank t root) (plan-ranked t k root h) depth (nameOf t (fileRow t root i))
+        (planChildren t (fileRow t root i)) s (name-valid i (q .place)) (few i (q .place))
+        (row-lower t k root h i (q .place) (q .priced) (q .cheap)) tr
+
+    row-keeps :
+        (s : State) (i : ℕ) → Tracks (planFor t root) s → Sound t k root h i → NeededRow Need i → G (s .lent) →
+        Good G Bad (variantIn t root depth s i)
+    unfolding variantIn
+    row-keeps s i tr q n g =
+        row-good (planFor t root) (buildRank t root) (plan-ranked t k root h) G Need Bad down step depth
+        (nameOf t (fileRow t root i)) (planChildren t (fileRow t root i)) (n .trees) s (name-valid i (q .place))
+        (few i (q .place)) (row-lower t k root h i (q .place) (q .priced) (q .cheap)) (n .of) (n .need) tr g
+
+    row-then :
+        (rows : List ℕ) (i : ℕ) (s : State) (us : List ℕ) →
+        ((s′ : State) (vs : List ℕ) → Tracks (planFor t root) s′ → G (s′ .lent) →
+        GoodRows G Bad (variantsIn t root depth s′ vs rows)) →
+        (o : Out ℕ) →
+        RowRightOf s i o →
+        Good G Bad o →
+        GoodRows G Bad
+        (elim o as (λ _. Out (List ℕ)) [
+          | done u s′ ↦ variantsIn t root depth s′ (us ++ (u ∷ [])) rows
+          | full me rs ls ns ↦ full me rs ls ns
+        ])
+    row-then rows i s us on (done u s′) m g = on s′ (us ++ (u ∷ [])) (m .tracks) g
+    row-then rows i s us on (full me rs ls ns) m g = g
+
+    rows-keep :
+        (rows : List ℕ) → Each (Sound t k root h) rows → Each (NeededRow Need) rows →
+        (s : State) (us : List ℕ) → Tracks (planFor t root) s → G (s .lent) →
+        GoodRows G Bad (variantsIn t root depth s us rows)
+    unfolding variantsIn
+    rows-keep [] q n s us tr g = g
+    rows-keep (i ∷ rows) q n s us tr g =
+        row-then rows i s us (rows-keep rows (q .1) (n .1)) (variantIn t root depth s i) (row-right s i tr (q .0))
+        (row-keeps s i tr (q .0) (n .0) g)
+
+  -- the terms of rows that a store holds
+  rows-needed :
+      (Need : Tree → Type 0) {s : Store} {rows us : List ℕ} →
+      ((u : Tree) → Holds s u → Need u) → RowTerms t root s rows us → Each (NeededRow Need) rows
+  rows-needed Need f noTerms = tt
+  rows-needed Need f (moreTerms {i = i} {u = u} r rs) = (
+    record {
+      trees = r .trees;
+      of = r .of;
+      need =
+          f (applied (nameOf t (fileRow t root i)) (r .trees))
+          (record { place = u; below = r .below; means = r .means });
+    },
+    rows-needed Need f rs,
+  )
+
+  module _ (c n : ℕ) (s : Store) (f : wellFormed s ≡ true) (cheap : anyDear t root (keptRows t root c n) ≡ false) where
+    abbrev rows : List ℕ
+    rows = keptRows t root c n
+
+    start : Tracks (planFor t root) (state (replicate 512 0) s)
+    start = tracks-of-zeros (planFor t root) 512 s f
+
+    -- rows whose terms a store holds are not refused
+    never-full :
+        (s′ : Store) (us : List ℕ) → Fits s s′ → RowTerms t root s′ rows us →
+        GoodRows (λ (b : Store). Within b s′) ⊥ (builtRows t root rows s)
+    never-full s′ us g r =
+        rows-keep (λ (b : Store). Within b s′) (Holds s′) ⊥
+        (children-held s′ (sound-of-wellFormed s′ (g .formed))) (within-step s′ (g .formed)) rows
+        (kept-sound t k root h c n cheap) (rows-needed (Holds s′) (λ u q. q) r) (state (replicate 512 0) s) [] start
+        (within-of-fits s s′ f g)
+
+    pub rows-full :
+        (me rs : List ℕ) (ls : List ℤ) (ns : List ℕ) → builtRows t root rows s ≡ full me rs ls ns →
+        NoRoomForRows t root s rows
+    rows-full me rs ls ns e s′ us g r =
+        subst (λ (o : Out (List ℕ)). GoodRows (λ (b : Store). Within b s′) ⊥ o) e (never-full s′ us g r)
+
+    pub rows-there :
+        (us : List ℕ) (st : State) → builtRows t root rows s ≡ done us st → RowTerms t root (st .lent) rows us
+    rows-there us st e = built-made t k root h c n s f cheap us st e .are
+
+    pub rows-fit : (us : List ℕ) (st : State) → builtRows t root rows s ≡ done us st → Fits s (st .lent)
+    rows-fit us st e =
+        subst (λ (o : Out (List ℕ)). GoodRows (Fits s) Unit o) e
+        (rows-keep (Fits s) (λ (u : Tree). Unit) Unit (λ m ts q. all-trees ts) (fits-step s) rows
+        (kept-sound t k root h c n cheap) (rows-needed (λ (u : Tree). Unit) (λ u q. tt) (rows-there us st e))
+        (state (replicate 512 0) s) [] start (fits-self s f))

@@ -1,0 +1,14 @@
+-- The laws of `variant_facts`. What variants give back, by their definition: laws alone, in proofs/.
+pub mod RowLaws
+pub mod TermLaws
+pub mod TurnLaws
+pub mod ReturnLaws
+pub mod RootLaws
+pub mod FaultLaws
+pub mod OutcomeLaws
+pub mod WayLaws
+pub mod CallLaws
+pub mod GrownLaws
+pub mod FirstLaws
+pub mod VariantLaws
+pub mod ClassLaws

@@ -1,0 +1,159 @@
+-- What variants answer of a class that the root sort reaches. Assumes nothing.
+use mathlib.Core.Path.{_≡_, refl, ap, sym, subst, _∙_}
+use mathlib.Core.Bool.{true}
+use mathlib.Core.List.{List, [], _∷_, map}
+use mathlib.Core.Logic.{_⊎_, inl, inr}
+use Prim.Native.Nat.{ℕ, _<_, _≤_}
+use native.Mathlib.Omega.{arith}
+use lib.ListN.{length, getD}
+use lib.Seq.{paste, paste-zero}
+use Rattle.term_rules.specs.WellFormed.{wellFormed}
+use Rattle.choice_rules.specs.Deriving.{Tree, node}
+use Rattle.choice_rules.specs.Demand.Deriving.{Deriving}
+use Rattle.choice_rules.proofs.Demand.OrderLaws.{map-length, map-get}
+use Rattle.file_rules.specs.Table.{Table}
+use Rattle.table_rules.specs.Rules.Rows.{tableRows, usable}
+use Rattle.table_rules.specs.Rules.Choosing.{limit, runOf}
+use Rattle.table_rules.specs.Rules.Facts.{Known}
+use Rattle.table_rules.proofs.Rules.CoverLaws.{ReachedClass}
+use Rattle.answer_rules.specs.Answers.{value, refusal}
+use Rattle.answer_rules.specs.Variants.{
+  fileRow,
+  costFor,
+  keptRows,
+  variantsIn,
+  Kept,
+  VariantsAfter,
+  Lending,
+  variantsKept,
+}
+use Rattle.extract.specs.Told.{FullAfter, NoPlaces, NotFalling, EmptyList}
+use Rattle.extract.specs.First.{RowCost, keptFileRows, keptCosts, Variant, ComeBack}
+use Rattle.extract.proofs.VariantFacts.OutcomeLaws.{
+  told,
+  same-number,
+  no-places,
+  cheap-when,
+  dear-then,
+  Outcome,
+  dear,
+  noPlaces,
+  stuck,
+  kept,
+  kept-told,
+  KeptRows,
+  rows-kept,
+}
+use Rattle.extract.proofs.VariantFacts.CallLaws.{built-full, told-cost, told-term}
+use Rattle.extract.proofs.VariantFacts.FirstLaws.{kept-few, kept-place, kept-variant, first-cheaper, first-rows}
+use Rattle.extract.proofs.VariantFacts.VariantLaws.{variant-is}
+
+-- Where no row is kept nothing changes.
+none-told : (t : Table) (root : ℕ) (l : Lending) (a : VariantsAfter) → Outcome t root l [] a → EmptyList l a
+unfolding variantsIn variantsKept
+none-told t root l a (dear d e) = absurd (omega (arith, dear-then t root [] d .1 .0))
+none-told t root l a (noPlaces d p e) = absurd (go (no-places l 0 p))
+  where
+    go : NoPlaces l 0 → ⊥
+    go (inl q) = omega arith
+    go (inr q) = omega arith
+none-told t root l a (stuck d p me rs ls ns b e) =
+    let z : _≡_ {A = ℕ} 0 1 = cc in
+    absurd (omega arith)
+none-told t root l a (kept d p ts s b e) =
+    let q : ts ≡ [] = cc in
+    let x : s .lent ≡ l .store = cc in
+    record {
+      passes = runOf t root .passes;
+      told = ap (λ (y : VariantsAfter). y .answer) e;
+      unchanged = record {
+        store-is = ap (λ (y : VariantsAfter). y .store) e ∙ x;
+        costs-are = ap (λ (y : VariantsAfter). y .costs) e ∙ sym (paste-zero (l .costs) 0 []);
+        terms-are =
+            ap (λ (y : VariantsAfter). y .terms) e
+            ∙ ap (λ (us : List ℕ). paste (l .terms) 0 us (length us)) q
+            ∙ sym (paste-zero (l .terms) 0 []);
+      };
+    }
+
+module _ (t : Table) (known : Known t) (root : ℕ) (h : root < length (t .sorts)) (c : ℕ)
+    (r : ReachedClass t root c) (n : ℕ) (l : Lending) (f : wellFormed (l .store) ≡ true) (a : VariantsAfter)
+    (o : Outcome t root l (keptRows t root c n) a) where
+  -- NoRoom: a list is too short, or a term had no room
+  pub class-full :
+      a .answer ≡ refusal 13 → NoPlaces l (length (keptRows t root c n)) ⊎ FullAfter (l .store)
+  class-full e = go o
+    where
+      go : Outcome t root l (keptRows t root c n) a → NoPlaces l (length (keptRows t root c n)) ⊎ FullAfter (l .store)
+      go (dear d q) = absurd (omega (arith, same-number (told q e)))
+      go (noPlaces d p q) = inl (no-places l (length (keptRows t root c n)) p)
+      go (stuck d p me rs ls ns b q) = inr (built-full t known root h c n (l .store) f d me rs ls ns b)
+      go (kept d p ts s b q) =
+          kept-told l (map (costFor t root) (keptRows t root c n)) ts (runOf t root .passes) (s .lent) a q e
+
+  module _ (k : Kept) (e : a .answer ≡ value k) where
+    kept-rows : KeptRows t root l (keptRows t root c n) a k
+    kept-rows = rows-kept t root l (keptRows t root c n) a o k e
+
+    inside : (j : ℕ) → j < k .count → j < length (keptRows t root c n)
+    inside j b = omega (arith, b, kept-rows .count-is)
+
+    paid : (j : ℕ) → j < k .count → getD (a .costs) j 0 ≡ costFor t root (getD (keptRows t root c n) j 0)
+    paid j b = told-cost t known root h c n l f a k kept-rows j b
+
+    cheap : (j : ℕ) → j < k .count → costFor t root (getD (keptRows t root c n) j 0) < limit
+    cheap j b =
+        subst (λ (x : ℕ). x < limit) (map-get (costFor t root) (keptRows t root c n) j 0 0 (inside j b))
+        (cheap-when t root (keptRows t root c n) (kept-rows .not-dear-any) j
+        (omega (arith, inside j b, map-length (costFor t root) (keptRows t root c n))))
+
+    variant : (j : ℕ) (b : j < k .count) →
+        Variant t c (fileRow t root (getD (keptRows t root c n) j 0)) (costFor t root (getD (keptRows t root c n) j 0))
+        (a .store) (getD (a .terms) j 0)
+    variant j b =
+        variant-is t known root h c r (getD (keptRows t root c n) j 0) (kept-place t known root h c r n j (inside j b))
+        (kept-variant t known root h c r n j (inside j b)) (cheap j b) (a .store) (getD (a .terms) j 0)
+        (told-term t known root h c n l f a k kept-rows j b)
+
+    pub class-comes-back : ComeBack t c (keptFileRows t root c n) (keptCosts t root c n) a k
+    class-comes-back = record {
+      count-is = kept-rows .count-is ∙ sym (map-length (fileRow t root) (keptRows t root c n));
+      costs-are = λ j b.
+          paid j b ∙ sym (map-get (costFor t root) (keptRows t root c n) j 0 0 (inside j b));
+      below = λ j b. subst (λ (x : ℕ). x < limit) (sym (paid j b)) (cheap j b);
+      variants = λ j b.
+          rw (map-get (fileRow t root) (keptRows t root c n) j 0 0 (inside j b), paid j b) (variant j b);
+    }
+
+    pub class-passes : k .passes ≡ runOf t root .passes
+    class-passes = kept-rows .passes-are
+
+    pub class-few : k .count ≤ n
+    class-few = omega (arith, kept-few t known root h c r n, kept-rows .count-is)
+
+    pub class-not-falling : NotFalling (a .costs) (k .count)
+    class-not-falling i j b m =
+        let w = class-comes-back in
+        let g : i < k .count = omega (arith, b, m) in
+        let rows = first-rows t known root h c r n in
+        let low = first-cheaper _ _ (rows .in-order i j b (omega (arith, m, w .count-is))) in
+        omega (arith, w .costs-are i g, w .costs-are j m, low)
+
+  -- "None is an empty list."
+  module _ (no : (u : Tree) → Deriving (tableRows t) (usable t) c u → ⊥) where
+    no-rows : keptRows t root c n ≡ []
+    no-rows = go (keptRows t root c n) (first-rows t known root h c r n .each)
+      where
+        go :
+            (rows : List ℕ) →
+            ((j : ℕ) →
+            j < length (map (fileRow t root) rows) →
+            RowCost t c (getD (map (fileRow t root) rows) j 0) (getD (map (costFor t root) rows) j 0)) →
+            rows ≡ []
+        go [] each = refl
+        go (i ∷ rows) each =
+            let q = each 0 (omega arith) in
+            absurd (no (node (fileRow t root i) (q .children)) (q .is-deriving))
+
+    pub class-none : EmptyList l a
+    class-none = none-told t root l a (subst (λ (rows : List ℕ). Outcome t root l rows a) no-rows o)

@@ -1,0 +1,3 @@
+-- The laws of `function_fields`.
+pub mod StepLaws
+pub mod ArgumentLaws

@@ -1,0 +1,2 @@
+-- The laws of `literals`.
+pub mod LiteralLaws

@@ -1,0 +1,2 @@
+-- The laws of `sorts`.
+pub mod SortLaws

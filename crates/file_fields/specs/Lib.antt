@@ -1,0 +1,3 @@
+-- The definitions of the crate `file_fields`.
+pub mod Answers
+pub mod Put

@@ -1,0 +1,3 @@
+-- The laws of the crate `file_names`.
+pub mod TextLaws
+pub mod EntriesLaws

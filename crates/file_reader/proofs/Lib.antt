@@ -1,0 +1,3 @@
+-- The laws of the crate `file_reader`.
+pub mod SoundLaws
+pub mod TableSteps

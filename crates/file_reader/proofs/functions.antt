@@ -1,0 +1,3 @@
+-- The laws of `functions`.
+pub mod FunctionSteps
+pub mod FunctionLoop

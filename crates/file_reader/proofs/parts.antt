@@ -1,0 +1,2 @@
+-- The laws of `parts`.
+pub mod PartLaws

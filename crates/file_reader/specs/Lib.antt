@@ -1,0 +1,4 @@
+-- The definitions of the crate `file_reader`.
+pub mod Put
+pub mod Parts
+pub mod Outcome

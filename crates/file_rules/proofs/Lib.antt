@@ -1,0 +1,12 @@
+-- The laws of the crate `file_rules`.
+pub mod SignedLaws
+pub mod ArraysLaws
+pub mod ReadingLaws
+pub mod BlockLaws
+pub mod SortLaws
+pub mod LiteralLaws
+pub mod FunctionLaws
+pub mod DifferLaws
+pub mod RowLaws
+pub mod TableLaws
+pub mod Coding

@@ -1,4 +1,0 @@
--- The definitions of the crate `flatrows`: flat class numbers and flat rows, as a table's arrays give them.
-pub mod Classes
-pub mod Rows
-pub mod Arrays

@@ -1,2 +1,0 @@
--- The promises of the crate `front`.
-pub mod Promises

@@ -1,2 +1,0 @@
--- The definitions of the crate `function_fields`.
-pub mod Put

@@ -1,3 +1,0 @@
--- The laws of the crate `functions`.
-pub mod FunctionSteps
-pub mod FunctionLoop

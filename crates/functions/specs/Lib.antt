@@ -1,2 +1,0 @@
--- The definitions of the crate `functions`.
-pub mod Put

@@ -1,3 +1,0 @@
--- The laws of the crate `heads`.
-pub mod NodeLaws
-pub mod ReadableLaws

@@ -1,3 +1,0 @@
--- The laws of the crate `interning`.
-pub mod MatchLaws
-pub mod AppendLaws

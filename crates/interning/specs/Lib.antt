@@ -1,2 +1,0 @@
--- The definitions of the crate `interning`.
-pub mod Interning

@@ -1,1 +1,0 @@
--- The crate `lengths` has no laws of its own.

@@ -1,1 +1,0 @@
--- The crate `lengths` has no definitions of its own.

@@ -1,2 +1,0 @@
--- The definitions of the crate `lent_lets`.
-pub mod Promises

@@ -1,2 +1,0 @@
--- The laws of the crate `lent_texts`.
-pub mod Promises

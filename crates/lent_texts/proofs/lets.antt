@@ -1,0 +1,2 @@
+-- The laws of `lets`.
+pub mod Promises

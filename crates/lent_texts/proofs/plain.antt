@@ -1,0 +1,2 @@
+-- The laws of `plain`.
+pub mod Promises

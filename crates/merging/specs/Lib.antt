@@ -1,3 +1,0 @@
--- The definitions of the crate `merging`.
-pub mod Merge
-pub mod Counting

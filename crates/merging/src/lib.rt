@@ -1,1 +1,0 @@
-// Merging and counting sorted lists: definitions in specs/, theorems in proofs/. No code.

@@ -1,0 +1,3 @@
+-- The laws of the crate `name`.
+pub mod NameLaws
+pub mod EntryLaws

@@ -1,0 +1,42 @@
+-- A symbol table in a list of bytes: 32 for each name, its length, its bytes, and zeros. Assumes nothing: these are
+-- definitions.
+use Prim.Native.Nat.{ℕ, zero, suc, _+_, _*_, _-_, _≤_, _<_}
+use mathlib.Core.Path.{_≡_}
+use mathlib.Core.Bool.{Bool, true, false}
+use mathlib.Core.List.{List, [], _∷_, _++_}
+use lib.ListN.{length, getD, take, drop, replicate}
+use lib.Seq.{paste}
+use Rattle.name.specs.Name.{same}
+use Rattle.name.specs.declared.Found.{Found}
+use Rattle.name.specs.declared.Found.the-variants.{At, Missing}
+
+-- the length that stands at entry k
+abbrev pub lengthAt : List ℕ → ℕ → ℕ
+lengthAt table k = getD table (k * 32) 0
+
+-- the name at entry k
+unfoldable pub nameAt : List ℕ → ℕ → List ℕ
+nameAt table k = take (k * 32 + 1 + lengthAt table k - (k * 32 + 1)) (drop (k * 32 + 1) table)
+
+-- the 32 bytes of a name's entry
+unfoldable pub entry : List ℕ → List ℕ
+entry name = length name ∷ (name ++ replicate (31 - length name) 0)
+
+-- the table with a name put at entry k
+unfoldable pub putName : List ℕ → ℕ → List ℕ → List ℕ
+putName table k name = paste table (k * 32) (entry name) 32
+
+-- the first of n entries, from entry k on, that has the name
+unfoldable pub findFrom : List ℕ → List ℕ → ℕ → ℕ → Found
+findFrom table name k zero = Missing
+findFrom table name k (suc n) =
+    elim (same (nameAt table k) name) [ true ↦ At k | false ↦ findFrom table name (k + 1) n ]
+
+-- the first of the first n entries that has the name
+unfoldable pub findName : List ℕ → ℕ → List ℕ → Found
+findName table n name = findFrom table name 0 n
+
+-- the first n entries stand in the table, none longer than 31 bytes
+pub record Entries (table : List ℕ) (n : ℕ) : Type 0 where
+  pub long : n * 32 ≤ length table
+  pub short : (k : ℕ) → k < n → lengthAt table k ≤ 31

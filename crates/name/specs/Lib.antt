@@ -1,0 +1,3 @@
+-- The definitions of the crate `name`.
+pub mod Name
+pub mod Entries

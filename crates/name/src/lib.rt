@@ -1,0 +1,125 @@
+// Names and symbol tables: which names are valid, where a name stands, and how one is put there.
+ghost use mathlib.Core.Path.{_≡_};
+ghost use mathlib.Core.Bool.{true, false};
+ghost use Prim.Native.Nat.{ℕ, _+_, _*_, _≤_, _<_};
+ghost use lib.ListN.{length, getD};
+ghost use Rattle.name.specs.Name.{allowed, allAllowed, valid, same};
+ghost use Rattle.name.specs.Entries.{Entries, entry, findName, putName};
+
+// Where a name stands, or that it does not.
+pub enum Found {
+    At(usize),
+    Missing,
+}
+
+fn is_allowed(b: u8) -> bool
+    ensures { λ r. ⌜ r ≡ allowed b ⌝ }
+{
+    if b < 33 {
+        return false;
+    }
+    if 126 < b {
+        return false;
+    }
+    if b == 40 {
+        return false;
+    }
+    if b == 41 {
+        return false;
+    }
+    if b == 34 {
+        return false;
+    }
+    if b == 59 {
+        return false;
+    }
+    true
+}
+
+// Whether every byte of `s` is allowed in a name.
+pub fn all_allowed(s: &[u8]) -> bool
+    ensures { λ r. ⌜ r ≡ allAllowed (now (s .entry)) ⌝ }
+{
+    let mut i = 0;
+    while i < s.len() {
+        if !is_allowed(s[i]) {
+            return false;
+        }
+        i += 1;
+    }
+    true
+}
+
+// Whether `s` is a valid name.
+pub fn is_valid(s: &[u8]) -> bool
+    ensures { λ r. ⌜ r ≡ valid (now (s .entry)) ⌝ }
+{
+    if s.len() < 1 {
+        return false;
+    }
+    if 31 < s.len() {
+        return false;
+    }
+    all_allowed(s)
+}
+
+// Whether `a` and `b` have the same bytes.
+pub fn are_same(a: &[u8], b: &[u8]) -> bool
+    ensures { λ r. ⌜ r ≡ same (now (a .entry)) (now (b .entry)) ⌝ }
+{
+    if a.len() != b.len() {
+        return false;
+    }
+    let mut i = 0;
+    while i < a.len() {
+        if a[i] != b[i] {
+            return false;
+        }
+        i += 1;
+    }
+    true
+}
+
+// The first of the first `n` entries of `table` that has the name.
+pub fn find(table: &[u8], n: usize, name: &[u8]) -> Found
+    requires { ⌜ Entries (now table) n ⌝ }
+    ensures { λ r. ⌜ r ≡ findName (now (table .entry)) n (now (name .entry)) ⌝ }
+{
+    let mut k = 0;
+    while k < n {
+        let a = k * 32 + 1;
+        let e = a + table[k * 32] as usize;
+        if are_same(&table[a..e], name) {
+            return Found::At(k);
+        }
+        k += 1;
+    }
+    Found::Missing
+}
+
+// Byte `j` of the name's entry.
+fn entry_byte(name: &[u8], j: usize) -> u8
+    requires { ⌜ length (now name) ≤ 31 ⌝ }
+    ensures { λ r. ⌜ r ≡ getD (entry (now (name .entry))) j 0 ⌝ }
+{
+    if j == 0 {
+        return name.len() as u8;
+    }
+    if j - 1 < name.len() {
+        return name[j - 1];
+    }
+    0
+}
+
+// Puts the name at entry `k`.
+pub fn put(table: &mut [u8], k: usize, name: &[u8])
+    requires { ⌜ k * 32 + 32 ≤ length (now table) ⌝ }
+    requires { ⌜ length (now name) ≤ 31 ⌝ }
+    ensures { λ _. ⌜ now (table .exit) ≡ putName (now (table .entry)) k (now (name .entry)) ⌝ }
+{
+    let mut j = 0;
+    while j < 32 {
+        table[k * 32 + j] = entry_byte(name, j);
+        j += 1;
+    }
+}

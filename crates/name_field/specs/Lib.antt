@@ -1,2 +1,0 @@
--- The definitions of the crate `name_field`.
-pub mod Name

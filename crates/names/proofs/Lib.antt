@@ -1,3 +1,0 @@
--- The laws of the crate `names`.
-pub mod NameLaws
-pub mod EntryLaws

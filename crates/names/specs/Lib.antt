@@ -1,3 +1,0 @@
--- The definitions of the crate `names`.
-pub mod Name
-pub mod Entries

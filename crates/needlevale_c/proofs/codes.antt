@@ -1,0 +1,4 @@
+-- The laws of `codes`.
+pub mod BelowLaws
+pub mod CodeLaws
+pub mod Promises

@@ -1,0 +1,12 @@
+// A refusal as one number below zero, for callers that are told everything in one number.
+ghost use mathlib.Core.Path.{_≡_};
+ghost use Rattle.needlevale_c.specs.Codes.Below.{belowZero};
+use refusal::Refusal;
+
+// Document 01's number of a refusal, below zero.
+pub fn below_zero(r: Refusal) -> i64
+    ensures { λ z. ⌜ z ≡ belowZero r ⌝ }
+{
+    let k = refusal::number(r) as i64;
+    0 - k
+}

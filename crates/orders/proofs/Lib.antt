@@ -1,3 +1,0 @@
--- The laws of the crate `orders`.
-pub mod OrderLaws
-pub mod WalkLaws

@@ -1,3 +1,0 @@
--- The definitions of the crate `orders`.
-pub mod Compare
-pub mod Lawful

@@ -1,2 +1,0 @@
--- The definitions of the crate `pieces`.
-pub mod Pieces

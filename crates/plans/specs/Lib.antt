@@ -1,2 +1,0 @@
--- The definitions of the crate `plans`: the plan that the builder goes by.
-pub mod Planning

@@ -1,0 +1,3 @@
+-- The laws of the crate `price`.
+pub mod SolveLaws
+pub mod ZeroLaws

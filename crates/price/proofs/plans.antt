@@ -1,0 +1,2 @@
+-- The laws of `plans`.
+pub mod PlanLaws

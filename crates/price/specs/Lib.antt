@@ -1,0 +1,4 @@
+-- The definitions of the crate `price`.
+pub mod Marks
+pub mod Planning
+pub mod Solved

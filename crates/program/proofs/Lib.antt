@@ -1,0 +1,5 @@
+-- The laws of the crate `program`.
+pub mod CallLaws
+pub mod VariantLaws
+pub mod AnswerLaws
+pub mod RespondLaws

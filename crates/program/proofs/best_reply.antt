@@ -1,0 +1,3 @@
+-- The laws of `best_reply`.
+pub mod PlacedLaws
+pub mod ReplyLaws

@@ -1,0 +1,3 @@
+-- The laws of `variant_lines`.
+pub mod ReplyLaws
+pub mod SheetLaws

@@ -1,0 +1,3 @@
+-- The laws of `variants_reply`.
+pub mod TextLaws
+pub mod RoomLaws

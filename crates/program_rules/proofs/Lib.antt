@@ -1,0 +1,2 @@
+-- The laws of the crate `program_rules`.
+pub mod Front

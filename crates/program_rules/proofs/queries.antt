@@ -1,0 +1,2 @@
+-- The laws of `queries`.
+pub mod QueryLaws

@@ -1,3 +1,0 @@
--- The laws of the crate `reader`.
-pub mod SoundLaws
-pub mod TableSteps

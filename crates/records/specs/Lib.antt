@@ -1,3 +1,0 @@
--- The definitions of the crate `records`.
-pub mod Flat
-pub mod Buckets

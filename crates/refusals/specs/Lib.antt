@@ -1,2 +1,0 @@
--- The definitions of the crate `refusals`.
-pub mod Numbers

@@ -1,8 +1,0 @@
--- The laws of the crate `relax`.
-pub mod ChildLaws
-pub mod WalkLaws
-pub mod FlatLaws
-pub mod RowLaws
-pub mod PassLaws
-pub mod RepeatLaws
-pub mod EndLaws

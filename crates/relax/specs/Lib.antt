@@ -1,2 +1,0 @@
--- The definitions of the crate `relax`: rows out of flat lists.
-pub mod Flat

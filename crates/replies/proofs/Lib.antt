@@ -1,3 +1,0 @@
--- The laws of the crate `replies`.
-pub mod Cases
-pub mod RoomLaws

@@ -1,3 +1,0 @@
--- The definitions and the promises of the crate `room`.
-pub mod Room
-pub mod Promises

@@ -1,1 +1,0 @@
-// What a table says to the extractor: definitions in specs/. No code.

@@ -1,0 +1,69 @@
+-- `run_texts::load_literals` is safe and ends: the list keeps its length. Assumes nothing.
+use Prim.Native.Nat.{_≤_, _-_}
+use mathlib.Core.Path.{_≡_}
+use lib.ListN.{length, length-set}
+use borrow.Author.Needs.{needs}
+use native.Mathlib.Omega.{arith}
+use Rattle.run_texts.proofs.load_literals.Statement.{statement}
+use Rattle.run_texts.proofs.load_literals.Tie as tie
+
+abbrev Inv-loop : tie.InvT-loop
+Inv-loop literals₀ s a j₀ literals j = (j ≤ length literals) × (length literals ≡ length literals₀)
+
+abbrev μ-loop : tie.MeasureT-loop
+μ-loop literals₀ s a j₀ literals j = length literals - j
+
+loop-holds : tie.Need-loop-holds Inv-loop μ-loop
+loop-holds c = search needs
+
+mul-number : tie.Need-mul-number Inv-loop μ-loop
+mul-number c = search needs
+
+add-number : tie.Need-add-number Inv-loop μ-loop
+add-number c = search needs
+
+number-requires : tie.Need-number-requires Inv-loop μ-loop
+number-requires c κs = search needs
+
+signed-of-requires : tie.Need-signed-of-requires Inv-loop μ-loop
+signed-of-requires c κs = search needs
+
+mul-t10 : tie.Need-mul-t10 Inv-loop μ-loop
+mul-t10 c = search needs
+
+slice-set-from-literals : tie.Need-slice-set-from-literals Inv-loop μ-loop
+slice-set-from-literals c = search needs
+
+add-j : tie.Need-add-j Inv-loop μ-loop
+add-j c = search needs
+
+loop-less : tie.Need-loop-less Inv-loop μ-loop
+loop-less c = simp length-set (omega arith)
+
+loop-again : tie.Need-loop-again Inv-loop μ-loop
+loop-again c = (simp length-set (omega arith), simp length-set (omega arith))
+
+same-length : tie.Need-same-length Inv-loop μ-loop
+same-length c = search needs
+
+returns : tie.Need-returns Inv-loop μ-loop
+returns c = search needs
+
+pub load-literals-spec : {M : Type 1} → statement M
+load-literals-spec =
+    tie.close
+    (tie.spec
+    Inv-loop
+    μ-loop
+    loop-holds
+    mul-number
+    add-number
+    number-requires
+    signed-of-requires
+    mul-t10
+    slice-set-from-literals
+    add-j
+    loop-less
+    loop-again
+    same-length
+    returns)

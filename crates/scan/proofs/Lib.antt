@@ -1,9 +1,0 @@
--- The laws of the crate `scan`.
-pub mod HasLaws
-pub mod BarLaws
-pub mod PickedLaws
-pub mod QueueLaws
-pub mod ArrayLaws
-pub mod OrderLaws
-pub mod ViewLaws
-pub mod OrderCases

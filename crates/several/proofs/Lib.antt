@@ -1,2 +1,0 @@
--- The laws of the crate `several`.
-pub mod SeveralLaws

@@ -1,2 +1,0 @@
--- The definitions of the crate `several`: the variants of a root, once a table is laid flat.
-pub mod Several

@@ -1,2 +1,0 @@
--- The laws of the crate `single`.
-pub mod SingleLaws

@@ -1,3 +1,0 @@
--- The laws of the crate `solving`.
-pub mod SolveLaws
-pub mod ZeroLaws

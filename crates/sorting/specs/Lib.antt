@@ -1,3 +1,0 @@
--- The definitions of the crate `sorting`.
-pub mod Sort
-pub mod Least

@@ -1,1 +1,0 @@
-// Sorted lists of numbers: definitions in specs/, theorems in proofs/. No code.

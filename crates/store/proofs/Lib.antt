@@ -1,9 +1,0 @@
--- The laws of the crate `store`.
-pub mod TestLaws
-pub mod SameLaws
-pub mod ListLaws
-pub mod SignLaws
-pub mod KindLaws
-pub mod SearchLaws
-pub mod StepLaws
-pub mod FactsLaws

@@ -1,3 +1,0 @@
--- The laws of the crate `table`.
-pub mod ReadLaws
-pub mod Promises

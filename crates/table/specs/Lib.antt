@@ -1,3 +1,0 @@
--- The definitions of the crate `table`.
-pub mod Lent
-pub mod Promises

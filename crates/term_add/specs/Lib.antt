@@ -1,0 +1,2 @@
+-- The definitions of the crate `term_add`.
+pub mod Interning

@@ -1,0 +1,3 @@
+-- The definitions of the crate `term_record`.
+pub mod Flat
+pub mod Buckets

@@ -1,2 +1,0 @@
--- The laws of the crate `term_sort`.
-pub mod CopyLaws

@@ -1,2 +1,0 @@
--- The definitions of the crate `term_sort`.
-pub mod Zeros

@@ -1,0 +1,3 @@
+-- The definitions of the crate `text_counts`.
+pub mod Tallies
+pub mod Met

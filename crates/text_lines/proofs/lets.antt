@@ -1,0 +1,4 @@
+-- The laws of `lets`.
+pub mod WholeLaws
+pub mod BoundLaws
+pub mod LetLaws

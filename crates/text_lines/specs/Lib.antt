@@ -1,0 +1,3 @@
+-- The definitions of the crate `text_lines`.
+pub mod Lines
+pub mod Whole

@@ -1,0 +1,2 @@
+-- The laws of the crate `text_pieces`.
+pub mod PieceLaws

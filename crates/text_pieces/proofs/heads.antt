@@ -1,0 +1,3 @@
+-- The laws of `heads`.
+pub mod NodeLaws
+pub mod ReadableLaws

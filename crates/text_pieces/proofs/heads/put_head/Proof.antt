@@ -1,0 +1,219 @@
+-- `heads::put_head` meets its contract, by the kind of the term. Assumes nothing.
+use Prim.Native.Nat.{ℕ, _+_, _*_, _-_, _^_, _≤_, _<_}
+use mathlib.Core.Path.{_≡_, ap, _∙_}
+use mathlib.Core.List.{List, [], _∷_}
+use lib.ListN.{length, getD, set, length-set}
+use lib.IntN.{pos}
+use mir.Syntax.{w64}
+use mir.Val.{toZ, ofZ, hbits}
+use lib.Signed.{mag}
+use mir.Facts.{toZ-ofZ}
+use borrow.Rule.Slice.PartMut.{same-len-mid}
+use Rattle.decimal.specs.Decimal.{literalText}
+use Rattle.decimal.proofs.WrittenLaws.{stands-first, stands-fits, stands-then, wrote-of-stands}
+use Rattle.name.specs.Entries.{lengthAt, nameAt}
+use Rattle.text_pieces.specs.Readable.{nodes, kindAt, symbolNo, headText}
+use Rattle.text_pieces.proofs.heads.NodeLaws.{head-of-literal, head-of-variable, head-of-application}
+use native.Mathlib.Omega.{arith}
+use borrow.Author.Needs.{needs}
+use Rattle.text_pieces.proofs.heads.put_head.Statement.{statement}
+use Rattle.text_pieces.proofs.heads.put_head.Tie as tie
+
+abbrev kindOf : tie.Start → ℕ
+kindOf s = kindAt (s .args .records .now) (s .args .t)
+
+abbrev symbolOf : tie.Start → ℕ
+symbolOf s = symbolNo (s .args .records .now) (s .args .t)
+
+abbrev nameOf : tie.Start → List ℕ
+nameOf s = nameAt (s .args .names .now) (symbolOf s)
+
+abbrev head : tie.Start → List ℕ
+head s = headText (nodes (s .args .records .now) (s .args .literals .now) (s .args .names .now) (s .args .t))
+
+-- the head, by the kind
+literal : (s : tie.Start) → kindOf s ≡ 0 → head s ≡ literalText (getD (s .args .literals .now) (s .args .t) (pos 0))
+literal s e = head-of-literal _ _ _ (s .args .n) (s .pre .0) (s .args .t) (s .pre .1 .0) e
+
+variable : (s : tie.Start) → kindOf s ≡ 1 → head s ≡ nameOf s
+variable s e = head-of-variable _ _ _ (s .args .n) (s .pre .0) (s .args .t) (s .pre .1 .0) e
+
+application : (s : tie.Start) → (kindOf s ≡ 0 → ⊥) → (kindOf s ≡ 1 → ⊥) → head s ≡ 40 ∷ nameOf s
+application s z o = head-of-application _ _ _ (s .args .n) (s .pre .0) (s .args .t) (s .pre .1 .0) z o
+
+-- a literal is read as it stands
+same-literal :
+    (s : tie.Start) →
+    mag (getD (s .args .literals .now) (s .args .t) (pos 0)) < 2 ^ hbits w64 →
+    toZ w64 (ofZ w64 (getD (s .args .literals .now) (s .args .t) (pos 0)))
+    ≡ getD (s .args .literals .now) (s .args .t) (pos 0)
+same-literal s l = toZ-ofZ (record { sfits = l })
+
+-- where the name of a term that is no literal stands
+held :
+    (s : tie.Start) →
+    (kindOf s ≡ 0 → ⊥) →
+    (symbolOf s * 32 + 32 ≤ length (s .args .names .now)) × (lengthAt (s .args .names .now) (symbolOf s) ≤ 31)
+held s z = (
+  s .pre .0 .inNames (s .args .t) (s .pre .1 .0) (omega arith),
+  s .pre .0 .short (s .args .t) (s .pre .1 .0) (omega arith),
+)
+
+mul-kind : tie.Need-mul-kind
+mul-kind c = search needs
+
+mul-kind-2 : tie.Need-mul-kind-2
+mul-kind-2 c = search needs
+
+shared-slice-read-kind : tie.Need-shared-slice-read-kind
+shared-slice-read-kind c = search needs
+
+mul-put-literal : tie.Need-mul-put-literal
+mul-put-literal c = search needs
+
+shared-slice-copy-out-put-literal : tie.Need-shared-slice-copy-out-put-literal
+shared-slice-copy-out-put-literal c = search needs
+
+put-literal-requires : tie.Need-put-literal-requires
+put-literal-requires c κs =
+    let s = c .before .before .before .before .before .before .before in
+    rw (same-literal s (c .put-literal-arg2 .given)) (rw (literal s (c .before .before .if1 .taken)) at (s .pre .1 .1))
+
+same-length : tie.Need-same-length
+same-length c = search needs
+
+returns : tie.Need-returns
+returns c =
+    let s = c .before .before .before .before .before .before .before .before .before .before in
+    rw (literal s (c .before .before .before .before .before .if1 .taken))
+    (rw (same-literal s (c .before .before .before .put-literal-arg2 .given)) at (c .before .before
+    .put-literal .ensures))
+
+mul-k : tie.Need-mul-k
+mul-k c = search needs
+
+add-k : tie.Need-add-k
+add-k c = search needs
+
+mul-k-2 : tie.Need-mul-k-2
+mul-k-2 c = search needs
+
+shared-slice-read-k : tie.Need-shared-slice-read-k
+shared-slice-read-k c = search needs
+
+put-symbol-requires : tie.Need-put-symbol-requires
+put-symbol-requires c κs =
+    let s = c .before .before .before .before .before .before .before .before in
+    let h = held s (c .before .before .before .if1 .left) in
+    (h .0, (h .1, rw (variable s (c .before .if2 .taken)) at (s .pre .1 .1)))
+
+same-length-2 : tie.Need-same-length-2
+same-length-2 c = search needs
+
+returns-2 : tie.Need-returns-2
+returns-2 c =
+    let s = c .before .before .before .before .before .before .before .before .before .before .before in
+    rw (variable s (c .before .before .before .before .if2 .taken)) (c .before .before .put-symbol .ensures)
+
+slice-write-out : tie.Need-slice-write-out
+slice-write-out c =
+    let s = c .before .before .before .before .before .before .before in
+    omega (arith, s .pre .1 .1, ap length (application s (c .before .before .if1 .left) (c .if2 .left)))
+
+sub-put-symbol : tie.Need-sub-put-symbol
+sub-put-symbol c =
+    let s = c .before .before .before .before .before .before .before in
+    simp length-set (omega (
+      arith,
+      s .pre .1 .1,
+      ap length (application s (c .before .before .if1 .left) (c .if2 .left)),
+    ))
+
+part-put-symbol-start : tie.Need-part-put-symbol-start
+part-put-symbol-start c =
+    let s = c .before .before .before .before .before .before .before in
+    let h : 1 ≤ length (set (s .args .out .now) 0 40) =
+    simp length-set (omega (
+      arith,
+      s .pre .1 .1,
+      ap length (application s (c .before .before .if1 .left) (c .if2 .left)),
+    )) in
+    h
+
+part-put-symbol-end : tie.Need-part-put-symbol-end
+part-put-symbol-end c = search needs
+
+put-symbol-requires-2 : tie.Need-put-symbol-requires-2
+put-symbol-requires-2 c κs =
+    let s = c .before .before .before .before .before .before .before .before in
+    let h = held s (c .before .before .before .if1 .left) in
+    let e = ap length (application s (c .before .before .before .if1 .left) (c .before .if2 .left)) in (
+      h .0,
+      (
+        h .1,
+        stands-fits (s .args .out .now) (40 ∷ []) _ 1
+            (stands-first (s .args .out .now) 40 (omega (arith, s .pre .1 .1, e))) (nameOf s)
+            (omega (arith, s .pre .1 .1, e)),
+      ),
+    )
+
+add-result : tie.Need-add-result
+add-result c =
+    let s = c .before .before .before .before .before .before .before .before .before .before .before in
+    omega (
+      arith,
+      s .pre .1 .1,
+      s .good,
+      ap length (application s (c .before .before .before .before .before .before .if1 .left)
+          (c .before .before .before .before .if2 .left)),
+      c .before .before .put-symbol2 .ensures .long,
+    )
+
+same-length-3 : tie.Need-same-length-3
+same-length-3 c =
+    let o =
+    c .before .before .before .before .before .before .before .before .before .before .before .args .out .now in
+    same-len-mid 1 (length (set o 0 40) - 1) (set o 0 40) (c .before .before .put-symbol2 .last .0)
+    (c .before .before .put-symbol2 .kept .0)
+    ∙ length-set o 0 40
+
+returns-3 : tie.Need-returns-3
+returns-3 c =
+    let s = c .before .before .before .before .before .before .before .before .before .before .before in
+    let o = s .args .out .now in
+    let e =
+    application s (c .before .before .before .before .before .before .if1 .left)
+    (c .before .before .before .before .if2 .left) in
+    rw e
+    (wrote-of-stands o (40 ∷ nameOf s) _ _
+    (stands-then o (40 ∷ []) _ 1 (stands-first o 40 (omega (arith, s .pre .1 .1, ap length e))) (nameOf s)
+    (c .before .before .put-symbol2 .last .0) (c .before .before .put-symbol2 .result)
+    (c .before .before .put-symbol2 .ensures)))
+
+pub put-head-spec : {M : Type 1} → statement M
+put-head-spec =
+    tie.close
+    (tie.spec
+    mul-kind
+    mul-kind-2
+    shared-slice-read-kind
+    mul-put-literal
+    shared-slice-copy-out-put-literal
+    put-literal-requires
+    same-length
+    returns
+    mul-k
+    add-k
+    mul-k-2
+    shared-slice-read-k
+    put-symbol-requires
+    same-length-2
+    returns-2
+    slice-write-out
+    sub-put-symbol
+    part-put-symbol-start
+    part-put-symbol-end
+    put-symbol-requires-2
+    add-result
+    same-length-3
+    returns-3)

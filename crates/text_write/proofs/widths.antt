@@ -1,0 +1,3 @@
+-- The laws of `widths`.
+pub mod WidthLaws
+pub mod FlatLaws

@@ -1,0 +1,3 @@
+-- The definitions of the crate `text_write`.
+pub mod Widths
+pub mod Piece

@@ -1,1 +1,0 @@
-// What variants give back, by their definition: laws alone, in proofs/.

@@ -1,0 +1,2 @@
+-- The laws of the crate `variant_order`.
+pub mod RankLaws

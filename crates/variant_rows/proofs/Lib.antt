@@ -1,0 +1,2 @@
+-- The laws of the crate `variant_rows`.
+pub mod KeptLaws

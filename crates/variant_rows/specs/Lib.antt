@@ -1,0 +1,3 @@
+-- The definitions of the crate `variant_rows`.
+pub mod Candidates
+pub mod Kept

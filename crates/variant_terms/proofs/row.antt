@@ -1,0 +1,3 @@
+-- The laws of `row`.
+pub mod ChildLaws
+pub mod TurnLaws

@@ -1,0 +1,55 @@
+-- A child's answer is the definition's. Assumes nothing.
+use Prim.Native.Nat.{ℕ, _-_, _<_, _≤_}
+use mathlib.Core.Path.{_≡_, ap, subst, _∙_}
+use mathlib.Core.List.{List}
+use lib.IntN.{ℤ, pos}
+use lib.ListN.{getD}
+use Rattle.term_rules.specs.Nodes.{literal}
+use Rattle.term_rules.specs.Lent.{Store}
+use Rattle.term_rules.specs.Adding.{add}
+use Rattle.build.specs.Plan.{Child, class, value, Plan, planOf, childOf}
+use Rattle.build.specs.Building.{State, state, Out, done, full, added, childIn, buildIn}
+use Rattle.build.specs.Ready.{Exact}
+use Rattle.build.proofs.PlanLaws.{childOf-class, childOf-value, ranked-of-planned}
+use Rattle.build.proofs.BuildingLaws.{Right, exact-right}
+use Rattle.build.proofs.TurnLaws.{childIn-class, childIn-value, made-of-value}
+use Rattle.variant_terms.specs.Rows.{Deep, Builder, KidIn, Leaves, KidMade}
+
+leaves-of-right : (p : Plan) (s : State) (x : Child) (o : Out ℕ) → Right p s x o → Leaves p s o
+leaves-of-right p s x (done t s′) r = record { grows = r .grows; tracks = r .tracks; below = r .stands .below }
+leaves-of-right p s x (full me rs ls ns) r = r
+
+module _
+    (plan ranks functions : List ℕ) (values : List ℤ) (me : List ℕ) (s : Store)
+    (b : Builder plan ranks functions values me s) (x : ℕ) (k : KidIn ranks values x) (o : Out ℕ) where
+  pub kid-of-class :
+      x < 512 →
+      Exact (planOf plan functions values) (getD ranks x 0) (state me s) x o →
+      KidMade (planOf plan functions values) ranks values (state me s) x o
+  kid-of-class h e = record {
+    same = λ d deep.
+        ap (childIn (buildIn (planOf plan functions values) d) (state me s)) (childOf-class values x h)
+        ∙ childIn-class (buildIn (planOf plan functions values) d) (state me s) x
+        ∙ e d (deep x);
+    leaves =
+        leaves-of-right (planOf plan functions values) (state me s) (class x) o
+        (exact-right (planOf plan functions values) (λ (c : ℕ). getD ranks c 0)
+        (ranked-of-planned plan ranks functions values (b .planned)) (state me s) x (b .tracks) (k .ranked h) o e);
+  }
+
+  pub kid-of-value :
+      512 ≤ x →
+      added (state me s) (add s (literal (getD values (x - 512) (pos 0)))) ≡ o →
+      KidMade (planOf plan functions values) ranks values (state me s) x o
+  kid-of-value h e =
+      let z : ℤ = getD values (x - 512) (pos 0) in
+      record {
+        same = λ d deep.
+            ap (childIn (buildIn (planOf plan functions values) d) (state me s)) (childOf-value values x h)
+            ∙ childIn-value (buildIn (planOf plan functions values) d) (state me s) z
+            ∙ e;
+        leaves =
+            leaves-of-right (planOf plan functions values) (state me s) (value z) o
+            (made-of-value (planOf plan functions values) (λ (c : ℕ). getD ranks c 0)
+            (ranked-of-planned plan ranks functions values (b .planned)) 0 (state me s) (b .tracks) o z e .right);
+      }

@@ -1,2 +1,0 @@
--- The definitions of the crate `variants_reply`.
-pub mod Text

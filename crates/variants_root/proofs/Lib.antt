@@ -1,0 +1,2 @@
+-- The laws of the crate `variants_root`.
+pub mod SeveralLaws

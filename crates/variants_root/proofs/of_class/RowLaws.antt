@@ -1,0 +1,228 @@
+-- The rows of a solved flat table: which are variants, what they cost, and that the kept ones can be built. Assumes
+-- nothing.
+use mathlib.Core.Path.{_≡_, refl, ap, sym, _∙_, subst}
+use mathlib.Core.Bool.{Bool, true, false, _&&_}
+use mathlib.Core.List.{List, [], _∷_, map}
+use Prim.{Dec, yes, no}
+use Prim.Native.Nat.{ℕ, suc, _+_, _*_, _-_, _<_, _≤_}
+use native.Mathlib.Decide.{decLt}
+use native.Mathlib.Omega.{arith}
+use borrow.Author.Tests.{ltb-true, le-ltb, lt-ltb}
+use lib.Dec.{ltb, eqb}
+use lib.IntN.{ℤ}
+use lib.ListN.{length, getD, take, drop, length-take, length-drop}
+use Rattle.name.specs.Name.{valid}
+use Rattle.name.specs.Entries.{nameAt, lengthAt}
+use Rattle.choice_rules.specs.Rows.{Child, literal, class, Row, rowAt, allOf, sumOf}
+use Rattle.choice_rules.specs.Run.{Run, priced, childCost, rowPriced, rowCost, run}
+use Rattle.choice_rules.proofs.ListLaws.{all-each, each-of-sum, each-get}
+use Rattle.choice_rules.proofs.RunLaws.{run-good}
+use Rattle.choice_rules.proofs.Demand.OrderLaws.{map-length, map-get}
+use Rattle.price_passes.specs.Flat.{top, rowOf, rowsOf, partOf, stateOf, ranTo, childOf as flatChild}
+use Rattle.price_passes.proofs.FlatLaws.{rows-length, rows-get}
+use Rattle.price.specs.Planning.{Priced}
+use Rattle.price.specs.Solved.{Solved}
+use Rattle.file_rules.specs.Table.{Table}
+use Rattle.table_rules.specs.Rules.Classes.{classCount}
+use Rattle.table_rules.specs.Rules.Rows.{tableRowOf}
+use Rattle.table_rules.specs.Rules.Order.{scanOrder, scanned}
+use Rattle.table_rules.specs.Rules.Choosing.{limit, runOf}
+use Rattle.table_rules.specs.Rules.Terms.{nameOf}
+use Rattle.table_rules.proofs.Rules.CoverLaws.{scanned-within}
+use Rattle.table_rules.specs.Order.{picked}
+use Rattle.table_rules.proofs.PickedLaws.{Passes, picked-same}
+use Rattle.variant_order.specs.Keys.{Key, noLater}
+use Rattle.order.specs.Sort.{sorted}
+use Rattle.variant_order.specs.Arrays.{cellsIn, keyIn, KeysIn}
+use Rattle.answer_rules.specs.Variants.{fileRow, costFor, isVariant, variantRows, keyFor, keptRows}
+use Rattle.best_class.specs.Flat.{FlatTable}
+use Rattle.best_class.proofs.ChildLaws.{InTable}
+use Rattle.best_class.proofs.SolvedLaws.{order-length, order-below, part-in, past-rank, run-is, priced-of-known}
+use Rattle.variant_terms.specs.Rows.{Deep, KidIn, NameIn, RowIn}
+use Rattle.variant_terms.specs.Turned.{functionIn, Listed}
+use Rattle.variant_rows.specs.Candidates.{PartsIn, priceOf, Prices, isCandidate}
+use Rattle.variant_rows.specs.Kept.{KeptReady, keptIn}
+use Rattle.variant_rows.proofs.KeptLaws.{picked-below}
+use Rattle.variants_root.specs.Flat.{VariantTable}
+use Rattle.variants_root.proofs.of_class.SortLaws.{sorted-by-keys, kept-passes}
+
+module _
+    (t : Table) (root : ℕ) (outputs heads starts children order functions labels : List ℕ) (values : List ℤ)
+    (arities cells : List ℕ)
+    (v : VariantTable t root outputs heads starts children order functions labels values arities cells) where
+  abbrev f : FlatTable t root outputs heads starts children order functions labels values
+  f = v .is
+
+  pub rows-many : length order ≡ length outputs
+  rows-many = order-length t root outputs heads starts children order functions labels values f
+
+  below : (i : ℕ) → i < length outputs → getD order i 0 < length (t .rows)
+  below i h =
+      order-below t root outputs heads starts children order functions labels values f i (omega (arith, h, rows-many))
+
+  scanned-many : length (scanned t root) ≡ length outputs
+  scanned-many = sym (ap (λ (x : List Row). length x) (f .rows-are)) ∙ rows-length outputs heads starts children
+
+  row-is :
+      (i : ℕ) →
+      i < length outputs →
+      rowAt (scanned t root) i ≡ rowOf (getD outputs i 0) (getD heads i 0) (partOf starts children i)
+  row-is i h = sym (ap (λ (x : List Row). rowAt x i) (f .rows-are)) ∙ rows-get outputs heads starts children i h
+
+  pub file-row : (i : ℕ) → getD order i 0 ≡ fileRow t root i
+  file-row i = ap (λ (x : List ℕ). getD x i 0) (f .order-is)
+
+  parts : (n : ℕ) → n ≡ classCount t → PartsIn n (length outputs) starts children
+  parts n e = record {
+    few = f .flat .few-rows;
+    starts-long = omega (arith, f .flat .starts-length);
+    rise = f .flat .starts-rise;
+    inside = f .flat .starts-in;
+    kids = λ i h l. omega (arith, e, f .flat .children-in i h l);
+  }
+
+  keys :
+      (prices : List ℕ) →
+      length outputs ≤ length prices →
+      KeysIn prices order functions arities labels cells (length outputs)
+  keys prices l = record {
+    costs-long = l;
+    order-long = omega (arith, rows-many);
+    few = f .functions-few;
+    rows = λ i h. omega (arith, below i h, f .functions-long);
+    cells-long = v .cells-long;
+    function = λ i h. v .function (getD order i 0) (below i h);
+    names-long = v .labels-long;
+    names-short = v .labels-short;
+    arity = v .arity;
+    arities-few = v .arities-few;
+  }
+
+  -- all that is asked to find the kept rows
+  pub kept-ready :
+      (costs ranks prices list : List ℕ) →
+      length costs ≡ classCount t →
+      length costs ≡ length ranks →
+      1024 ≤ length prices →
+      1024 ≤ length list →
+      KeptReady (length outputs) costs ranks heads starts children order functions arities labels cells prices list
+  kept-ready costs ranks prices list e q a b = record {
+    parts = parts (length costs) e;
+    ranks-length = sym q;
+    heads-length = f .flat .heads-length;
+    keys = keys prices (omega (arith, a, f .flat .few-rows));
+    list-long = omega (arith, b, f .flat .few-rows);
+  }
+
+  pub name-is :
+      (i : ℕ) →
+      i < length outputs →
+      nameAt labels (functionIn order functions i) ≡ nameOf t (fileRow t root i)
+  name-is i h = f .label (getD order i 0) (below i h) ∙ ap (nameOf t) (file-row i)
+
+  cells-is :
+      (i : ℕ) →
+      i < length outputs →
+      cellsIn cells (getD order i 0) (getD arities (functionIn order functions i) 0) ≡ tableRowOf t (fileRow t root i)
+      .cells
+  cells-is i h = v .cells-are (getD order i 0) (below i h) ∙ ap (λ (r : ℕ). tableRowOf t r .cells) (file-row i)
+
+  pub named : (i : ℕ) → i < length outputs → NameIn labels (functionIn order functions i)
+  named i h =
+      let r : ℕ = getD order i 0 in
+      let b = below i h in
+      record {
+        entry = f .label-place r b;
+        short = f .label-short r b;
+        named =
+            subst (λ (n : List ℕ). valid n ≡ true) (sym (f .label r b))
+            (f .known .name (tableRowOf t r .function) (f .known .function r b));
+      }
+
+  pub few-kids : (i : ℕ) → i < length outputs → length (partOf starts children i) ≤ 8
+  few-kids i h =
+      let a = f .arity i (omega (arith, h, rows-many)) in
+      omega (
+        arith,
+        a,
+        length-take (getD starts (i + 1) 0 - getD starts i 0) (drop (getD starts i 0) children),
+      )
+
+  module _
+      (costs ranks marks known plan : List ℕ) (passes last : ℕ) (long : length ranks ≡ classCount t)
+      (same : length costs ≡ length ranks)
+      (w : Solved (classCount t) passes last outputs heads starts children order functions costs ranks marks known
+      plan) where
+    ran : runOf t root ≡ ranTo costs ranks last passes
+    ran =
+        run-is t root outputs heads starts children order functions labels values f costs ranks marks known plan
+        passes last long same w
+
+    pub passes-are : runOf t root .passes ≡ passes
+    passes-are = ap (λ (x : Run). x .passes) ran
+
+    candidate-is :
+        (c i : ℕ) →
+        i < length outputs →
+        isCandidate ranks outputs starts children c i ≡ isVariant t root c i
+    unfolding isVariant
+    candidate-is c i h =
+        sym
+        (ap (λ (r : Row). eqb (r .output) c && rowPriced (runOf t root .state .ranks) r) (row-is i h)
+        ∙ ap
+        (λ (x : Run).
+        eqb (getD outputs i 0) c
+        && rowPriced (x .state .ranks) (rowOf (getD outputs i 0) (getD heads i 0) (partOf starts children i)))
+        ran)
+
+    pub price-is : (i : ℕ) → i < length outputs → priceOf costs heads starts children i ≡ costFor t root i
+    unfolding costFor rowCost
+    price-is i h =
+        sym
+        (ap (λ (r : Row). rowCost limit (runOf t root .state .costs) r) (row-is i h)
+        ∙ ap
+        (λ (x : Run).
+        rowCost limit (x .state .costs) (rowOf (getD outputs i 0) (getD heads i 0) (partOf starts children i)))
+        ran)
+
+    rows-are : (c : ℕ) → picked (isCandidate ranks outputs starts children c) 0 (length outputs) ≡ variantRows t root c
+    unfolding variantRows
+    rows-are c =
+        picked-same (isCandidate ranks outputs starts children c) (isVariant t root c) 0 (length outputs)
+        (λ x l m. candidate-is c x (omega (arith, m)))
+        ∙ ap (picked (isVariant t root c) 0) (sym scanned-many)
+
+    module _ (prices : List ℕ) (p : Prices costs heads starts children (length outputs) prices) where
+      pub cost-is : (i : ℕ) → i < length outputs → getD prices i 0 ≡ costFor t root i
+      cost-is i h = p i h ∙ price-is i h
+
+      key-is : (i : ℕ) → i < length outputs → keyIn prices order functions arities labels cells i ≡ keyFor t root i
+      unfolding keyIn keyFor
+      key-is i h =
+          let a = cost-is i h in
+          let b = name-is i h in
+          let d = cells-is i h in
+          λ j. record { cost = a j; name = b j; cells = d j }
+
+      pub kept-is :
+          (c most : ℕ) →
+          keptIn prices ranks outputs starts children order functions arities labels cells c most ≡ keptRows t root c
+          most
+      unfolding keptRows
+      kept-is c most =
+          ap (take most)
+          (sorted-by-keys (length outputs) (keyIn prices order functions arities labels cells) (keyFor t root) key-is
+          (picked (isCandidate ranks outputs starts children c) 0 (length outputs))
+          (picked-below (isCandidate ranks outputs starts children c) (length outputs))
+          ∙ ap (sorted (noLater (keyFor t root))) (rows-are c))
+
+      -- a kept row is one of the class, and each of its children has a cost
+      pub kept-from :
+          (c most j : ℕ) →
+          j < length (keptIn prices ranks outputs starts children order functions arities labels cells c most) →
+          Passes (isCandidate ranks outputs starts children c)
+          (getD (keptIn prices ranks outputs starts children order functions arities labels cells c most) j 0) 0
+          (length outputs)
+      kept-from c most j h =
+          kept-passes (keyIn prices order functions arities labels cells) (isCandidate ranks outputs starts children c)
+          (length outputs) most j h

@@ -1,0 +1,68 @@
+-- A table's rows with what they are sorted by, as flat lists, and what the variants of a class answer. Assumes
+-- nothing: definitions.
+use mathlib.Core.Path.{_≡_}
+use mathlib.Core.Bool.{true}
+use mathlib.Core.List.{List}
+use Prim.Native.Nat.{ℕ, _*_, _<_, _≤_}
+use lib.IntN.{ℤ}
+use lib.ListN.{length, getD}
+use Rattle.name.specs.Entries.{lengthAt}
+use Rattle.term_rules.specs.Lent.{Store}
+use Rattle.term_rules.specs.WellFormed.{wellFormed}
+use Rattle.file_rules.specs.Table.{Table}
+use Rattle.table_rules.specs.Rules.Classes.{classCount}
+use Rattle.table_rules.specs.Rules.Rows.{tableRowOf}
+use Rattle.variant_order.specs.Arrays.{cellsIn}
+use Rattle.answer_rules.specs.Variants.{VariantsAfter, Lending, keptRows, variantsOfRows}
+use Rattle.best_class.specs.Flat.{FlatTable}
+
+-- A flat table whose functions' arities stand in `arities`, and its rows' cells in `cells`, nine places a row.
+pub record VariantTable
+    (t : Table) (root : ℕ) (outputs heads starts children order functions labels : List ℕ) (values : List ℤ)
+    (arities cells : List ℕ) : Type 0 where
+  pub is : FlatTable t root outputs heads starts children order functions labels values
+  pub arities-few : length arities ≤ 1024
+  pub function : (r : ℕ) → r < length (t .rows) → getD functions r 0 < length arities
+  pub labels-long : length arities * 32 ≤ length labels
+  pub labels-short : (f : ℕ) → f < length arities → lengthAt labels f ≤ 31
+  pub arity : (f : ℕ) → f < length arities → getD arities f 0 ≤ 8
+  pub cells-long : length functions * 9 ≤ length cells
+  pub cells-are :
+      (r : ℕ) →
+      r < length (t .rows) →
+      cellsIn cells r (getD arities (getD functions r 0) 0) ≡ tableRowOf t r .cells
+
+-- The lists are those of some table with n classes; the lent store is well formed.
+pub record VariantsReady
+    (outputs heads starts children order functions labels : List ℕ) (values : List ℤ) (arities cells : List ℕ) (n : ℕ)
+    (s : Store) : Type 0 where
+  pub table : Table
+  pub root : ℕ
+  pub is : VariantTable table root outputs heads starts children order functions labels values arities cells
+  pub classes : n ≡ classCount table
+  pub formed : wellFormed s ≡ true
+
+-- Of whatever table with n classes the lists are, the answer for class c and at most `most` variants is the
+-- definition's.
+abbrev pub VariantsAnswers :
+    List ℕ →
+    List ℕ →
+    List ℕ →
+    List ℕ →
+    List ℕ →
+    List ℕ →
+    List ℕ →
+    List ℤ →
+    List ℕ →
+    List ℕ →
+    ℕ →
+    ℕ →
+    ℕ →
+    Lending →
+    VariantsAfter →
+    Type 0
+VariantsAnswers outputs heads starts children order functions labels values arities cells n c most l a =
+    (t : Table) (root : ℕ) →
+    VariantTable t root outputs heads starts children order functions labels values arities cells →
+    n ≡ classCount t →
+    a ≡ variantsOfRows t root l (keptRows t root c most)

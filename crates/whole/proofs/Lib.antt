@@ -1,3 +1,0 @@
--- The laws of the crate `whole`.
-pub mod WholeLaws
-mod WholeCases

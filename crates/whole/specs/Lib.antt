@@ -1,2 +1,0 @@
--- The definitions of the crate `whole`.
-pub mod Whole

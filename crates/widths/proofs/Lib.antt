@@ -1,3 +1,0 @@
--- The laws of the crate `widths`.
-pub mod WidthLaws
-pub mod FlatLaws

@@ -1,2 +1,0 @@
--- The definitions of the crate `widths`.
-pub mod Widths
