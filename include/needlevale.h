@@ -1,14 +1,19 @@
 /* Needlevale as a C library: the program's answer and one call on a term store, from libneedlevale_c.a (x86-64 Linux).
+ * The rules are in docs/RULES.md.
  *
  * Proved, for every content of the buffers: a call returns, reads and writes nothing outside them, and gives exactly
- * the answer that the definitions written from document 01 give (crates/program_rules/specs/Reply.antt, `replied`;
+ * the answer that the definitions written from the rules give (crates/program_rules/specs/Reply.antt, `replied`;
  * crates/term/specs/Calls.antt, `addLiteral`). A refusal changes no buffer, and bytes past a text's length stay: these
  * and the rest in crates/needlevale_c/specs/Promises.antt.
  *
- * Not proved, and the caller's part: each pointer stands for as many readable elements as its length says, those that
- * are not const writable too; no two buffers of a call overlap; a null pointer goes with length 0; no length in bytes
- * is over 2^63-1; there is stack for the call. Not proved either: this header, the C compiler, the linker, and the C
- * library's memory functions.
+ * Not proved, and the caller's part:
+ * - each pointer stands for as many readable elements as its length says, and those that are not const are writable;
+ * - no two buffers of a call overlap;
+ * - a null pointer goes with length 0, and no length in bytes is over 2^63-1;
+ * - there is stack for the call. needlevale_answer took 380,920 bytes for no input, 407,344 for the longest file and
+ *   636,512 for a term 512 deep, the most that was seen: measured on x86-64 on 2026-11-15, no bound is proved. A thread
+ *   with less ends with a fault at its guard page. needlevale_add_literal was not measured.
+ * Not proved either: this header, the C compiler, the linker, and the C library's memory functions.
  *
  * A call keeps nothing between calls and may run in several threads at once, on buffers of their own. */
 #ifndef NEEDLEVALE_H
@@ -21,7 +26,7 @@
 extern "C" {
 #endif
 
-/* Document 01's refusal numbers. A call returns minus the number, exactly when: */
+/* The refusals, with the numbers of docs/RULES.md. A call returns minus the number, exactly when: */
 enum needlevale_refusal {
     NEEDLEVALE_SHORT = 1,         /* the input ends before a field does */
     NEEDLEVALE_BAD_VERSION = 2,   /* version is not 1 */
@@ -34,8 +39,8 @@ enum needlevale_refusal {
     NEEDLEVALE_BAD_VALUE = 8,     /* cell out of range */
     NEEDLEVALE_TRAILING = 9,      /* a pad bit is set, or bytes follow */
     NEEDLEVALE_BAD_ROOT = 10,     /* asked sort not below S, or value out of its range */
-    NEEDLEVALE_NO_TERM = 11,      /* best only: no term derives the root (demand 3) */
-    NEEDLEVALE_TOO_DEAR = 12,     /* best: all that derive it cost 2^64-1 or more (demand 3);
+    NEEDLEVALE_NO_TERM = 11,      /* best only: no term derives the root */
+    NEEDLEVALE_TOO_DEAR = 12,     /* best: some term derives it, and each that does costs 2^64-1 or more;
                                      variants: a kept one costs 2^64-1 after saturation */
     NEEDLEVALE_NO_ROOM = 13,      /* new terms or names exceed the store's room (its lent lengths, at most 1,024
                                      and 128), or the result its lent buffer */
@@ -48,14 +53,14 @@ enum needlevale_refusal {
 /* The longest input that is not refused: three bytes of query, then the longest table file. */
 #define NEEDLEVALE_LONGEST_INPUT (3 + 21385)
 
-/* The room that document 01's program has for its output. The call itself takes any. */
+/* The room that the program has for its output. The call itself takes any. */
 #define NEEDLEVALE_PROGRAM_OUTPUT 16384
 
 /* A store: numbers of a record (kind, symbol, count, eight children), bytes of a name (length, bytes, zeros). */
 #define NEEDLEVALE_RECORD 11
 #define NEEDLEVALE_NAME 32
 
-/* The answer to document 01's query and table file at input: its text, without a zero at the end, is put at the start
+/* The answer to the query and table file at input: its text, without a zero at the end, is put at the start
  * of output and its length is returned; or minus a refusal's number. The term store is the call's own and starts empty,
  * with room for 1,024 terms and 128 names. NoRoom is given exactly when that store or output_length is too small. The
  * order of refusals: the query's 1 and 16, the file's, 10, 11, 12, 13. */
@@ -65,9 +70,9 @@ int64_t needlevale_answer(const uint8_t *input, size_t input_length, uint8_t *ou
  * refusal's number, 17 before 13. Where the number is terms, the store has one term more after the call. Lengths count
  * elements: NEEDLEVALE_RECORD numbers and one literal a term, NEEDLEVALE_NAME bytes a symbol. */
 int64_t needlevale_add_literal(uint64_t *records, size_t records_length, int64_t *literals, size_t literals_length,
-                               uint8_t *names, size_t names_length, size_t terms, size_t symbols, int64_t value);
+                               const uint8_t *names, size_t names_length, size_t terms, size_t symbols, int64_t value);
 
-/* The name of a refusal in document 01's table, for what a call returned below 0. */
+/* The name of a refusal, for what a call returned below 0. */
 static inline const char *needlevale_name(int64_t returned)
 {
     static const char *const names[] = {
