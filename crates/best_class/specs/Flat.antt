@@ -60,7 +60,7 @@ pub record BestReady
     pub class : c < n
     pub formed : wellFormed s ≡ true
 
--- Of whatever table with n classes the lists are, the answer is the definition's.
+-- For every table with n classes that the lists can be of, the answer is the definition's.
 abbrev pub BestAnswers :
     List ℕ → List ℕ → List ℕ → List ℕ → List ℕ → List ℕ → List ℕ → List ℤ → ℕ → ℕ → Store → After BestTerm → Type 0
 BestAnswers outputs heads starts children order functions labels values n c s a =

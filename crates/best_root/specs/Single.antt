@@ -27,7 +27,8 @@ use Rattle.best_class.specs.declared.Best.the-variants.{
 use Rattle.best_root.specs.declared.BestAnswer.{BestAnswer}
 use Rattle.best_root.specs.declared.BestAnswer.the-variants.{Found, Refused}
 
--- The number and the values of each case, with the lent lists as the call leaves them; n and m were the counts before.
+-- The code's answer as the definition's, with the lent lists as the call leaves them. A refusal leaves the counts n and
+-- m, which were those before.
 abbrev pub seenBest : BestAnswer → List ℕ → List ℤ → List ℕ → ℕ → ℕ → After BestTerm
 seenBest (Found w i p terms symbols) rs ls ns n m = found (bestTerm w i p) (store rs ls ns terms symbols)
 seenBest (Refused r) rs ls ns n m = refused r (store rs ls ns n m)
@@ -60,14 +61,14 @@ pub record FlatClass
       labels values
   pub class : c < w
 
--- So of some table.
+-- There is a table and a root of which `FlatClass` holds.
 pub record SomeClass
     (c n m w : ℕ) (order flat heads starts children functions labels : List ℕ) (values : List ℤ) : Type 0 where
   pub table : Table
   pub root : ℕ
   pub is : FlatClass table root c n m w order flat heads starts children functions labels values
 
--- Of whatever table the lists are, the answer is the definition's.
+-- For every table that the lists can be of, the answer is the definition's.
 abbrev pub ClassAnswers :
     ℕ → ℕ → ℕ → ℕ →
     List ℕ → List ℕ → List ℕ → List ℕ → List ℕ → List ℕ → List ℕ → List ℤ → Store → After BestTerm → Type 0

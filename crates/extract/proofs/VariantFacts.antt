@@ -1,4 +1,5 @@
--- The laws of `variant_facts`. What variants give back, by their definition: laws alone, in proofs/.
+-- The laws of `variant_facts`. What variants give back, by their definition; its words are First, Returned, Terms and
+-- Told of specs/.
 pub mod RowLaws
 pub mod TermLaws
 pub mod TurnLaws

@@ -1,4 +1,5 @@
--- The laws of `encoding`. That every table within the limits has a file: definitions and laws alone, for what `table` promises of its reader.
+-- The laws of `encoding`. That every table within the limits has a file: definitions and laws alone, for what `file`
+-- promises of its reader.
 pub mod BackLaws
 pub mod SortsBack
 pub mod FunctionsBack

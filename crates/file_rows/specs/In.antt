@@ -1,5 +1,5 @@
 -- The rows of a table file as read against the arrays of sorts and functions. That this is the definition of
--- `format`, where the arrays hold the sorts and the functions, is a law. Assumes nothing: definitions.
+-- `file_rules`, where the arrays hold the sorts and the functions, is a law. Assumes nothing: definitions.
 use Prim.Native.Nat.{ℕ, _+_, _*_, _<_}
 use mathlib.Core.Path.{_≡_}
 use mathlib.Core.List.{List, []}

@@ -1,4 +1,5 @@
--- The laws of `coding`. How a table is written as a file: definitions and laws alone, for what `table` promises of its reader.
+-- The laws of `coding`. How a table is written as a file: definitions and laws alone, for what `file` promises of its
+-- reader.
 pub mod SpellLaws
 pub mod PartsSpell
 pub mod FileSpell

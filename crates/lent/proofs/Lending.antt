@@ -1,7 +1,7 @@
 -- What is lent for the time of one call, and comes back, as steps of a walk. Each makes the lifetime of the call and
 -- ends it.     array-lent, array-back      a local array, as a `&mut [T]`     array-shown, array-unshown  a local
 -- array, as a `&[T]`     slice-lent, slice-back      a `&mut [T]`, again as a `&mut [T]`     slice-shown,
--- slice-unshown  a `&mut [T]`, as a `&[T]` They say nothing of the crate. Assumes `Given`.
+-- slice-unshown  a `&mut [T]`, as a `&[T]`. They say nothing of the crate. Assumes `Given`.
 use mathlib.Core.Path.{_≡_, refl, sym, ap, subst}
 use Prim.Native.Nat.{ℕ}
 use mathlib.Core.List.{List, [], _∷_}

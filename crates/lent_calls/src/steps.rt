@@ -1,5 +1,5 @@
 // Each call of the store and both texts on lent structs as a step of a run: an array of 40 records is lent to it, and
-// comes back by value where the call adds. Best and variants are in `lent_choices`. Assumes nothing.
+// comes back by value where the call adds. Best and variants are in the module `choices`. Assumes nothing.
 use lent_entries::Name;
 use lent_texts::lets;
 use lent_texts::plain;

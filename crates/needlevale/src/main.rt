@@ -1,7 +1,7 @@
 // Document 01's program: a query and a table file on standard input, the answer on standard output.
 // The buffer has a place more than the 21,388 bytes that an input can have without being refused. What it holds has
-// the answer of the whole input: `same-reply` of front/specs/Promises.antt. An input that is closed or cannot be read
-// counts as empty.
+// the answer of the whole input: `same-reply` of program_rules/specs/Promises.antt. Where reading fails, what came before
+// is answered; what cannot be written is lost.
 use libc::STDIN_FILENO;
 use libc::STDOUT_FILENO;
 

@@ -1,3 +1,3 @@
--- The definitions of `codes`. A refusal as one number below zero, for callers that are told everything in one number.
+-- The definitions of `codes`. A refusal as one number below zero, for callers that get one number back.
 pub mod Below
 pub mod Promises

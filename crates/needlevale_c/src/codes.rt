@@ -1,4 +1,4 @@
-// A refusal as one number below zero, for callers that are told everything in one number.
+// A refusal as one number below zero, for callers that get one number back.
 ghost use mathlib.Core.Path.{_≡_};
 ghost use Rattle.needlevale_c.specs.Codes.Below.{belowZero};
 use refusal::Refusal;

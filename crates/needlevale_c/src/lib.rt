@@ -10,7 +10,7 @@ ghost use Rattle.needlevale_c.specs.Coded.{Replies, Adds};
 use program_rules::replies::Answered;
 use term::Added;
 
-pub mod codes; // codes.rt: a refusal as one number below zero, for callers that are told everything in one number
+pub mod codes; // codes.rt: a refusal as one number below zero, for callers that get one number back
 
 // The answer to a query and a table file: its text at the start of `output`, and its length.
 #[no_mangle]

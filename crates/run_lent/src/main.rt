@@ -1,5 +1,5 @@
 // Each call of the store and both texts on lent structs over real data, a line a call. First the 2,000 calls of
-// `term_runs` on a lent slice of 40 term records and a lent slice of 12 name entries; then its size, each term with its
+// `run_terms` on a lent slice of 40 term records and a lent slice of 12 name entries; then its size, each term with its
 // texts, and what can be found: as the oracle answers them (oracle/lent-runs). Assumes nothing.
 use lent_calls::steps;
 use lent_calls::steps::Held;

@@ -33,7 +33,7 @@ pub record Flattened (t : Table) (root n m w : ℕ) (order flat heads starts chi
   pub below : (i : ℕ) → i < n → getD (take n order) i 0 < length (t .rows)
   pub arity : (i : ℕ) → i < n → getD (take (n + 1) starts) (i + 1) 0 ≤ getD (take (n + 1) starts) i 0 + 8
 
--- So of every table that stands in the arrays.
+-- `Flattened` holds of every table that stands in the arrays.
 abbrev pub Flattens :
     ℕ → ℕ → ℕ → ℕ →
     List ℕ → List ℕ → List ℕ → List ℕ → List ℕ → List ℕ →

@@ -29,7 +29,7 @@ pub record OpenedOf (t : Table) (s v : ℕ) (r : Opened) (order flat heads start
   pub root-is : rootIn r ≡ rootOf t s v
   pub reached : OnClass r (λ n m w. Flattened t s n m w order flat heads starts children)
 
--- So of every table that stands in the arrays.
+-- `OpenedOf` holds of every table that stands in the arrays.
 abbrev pub Opens :
     ℕ → ℕ → ℕ → ℕ → ℕ → ℕ →
     List ℕ → List ℕ → List ℕ → List ℕ → List ℕ → List ℕ →

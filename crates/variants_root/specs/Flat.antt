@@ -42,7 +42,7 @@ pub record VariantsReady
   pub classes : n ≡ classCount table
   pub formed : wellFormed s ≡ true
 
--- Of whatever table with n classes the lists are, the answer for class c and at most `most` variants is the
+-- For every table with n classes that the lists can be of, the answer for class c and at most `most` variants is the
 -- definition's.
 abbrev pub VariantsAnswers :
     List ℕ →

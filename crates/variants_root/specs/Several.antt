@@ -22,7 +22,8 @@ use Rattle.variant_answers.specs.declared.Variants.the-variants.{Kept as KeptRo
 use Rattle.variants_root.specs.declared.VariantsAnswer.{VariantsAnswer}
 use Rattle.variants_root.specs.declared.VariantsAnswer.the-variants.{Kept, Refused}
 
--- The number and the values of each case, with what was lent as the call leaves it; n and m were the counts before.
+-- The code's answer as the definition's, with the lent lists as the call leaves them. A refusal leaves the counts n and
+-- m, which were those before.
 abbrev pub seenVariants : VariantsAnswer → ℕ → ℕ → List ℕ → List ℤ → List ℕ → List ℕ → List ℕ → VariantsAfter
 seenVariants (Kept k p terms symbols) n m rs ls ns ws ts = record {
   answer = value (record { count = k; passes = p });
@@ -68,7 +69,7 @@ pub record KeyedTable
       VariantTable t root (take n flat) (take n heads) (take (n + 1) starts) (take m children) (take n order) functions
       labels values arities cells
 
--- So of some table.
+-- There is a table and a root of which `KeyedTable` holds.
 pub record SomeTable
     (n m w : ℕ) (order flat heads starts children functions labels : List ℕ) (values : List ℤ) (arities cells : List
     ℕ) : Type 0 where
@@ -76,7 +77,7 @@ pub record SomeTable
   pub root : ℕ
   pub is : KeyedTable table root n m w order flat heads starts children functions labels values arities cells
 
--- Of whatever table the lists are, the answer for class c and at most `most` variants is the definition's.
+-- For every table that the lists can be of, the answer for class c and at most `most` variants is the definition's.
 abbrev pub ClassAnswers :
     ℕ →
     ℕ →

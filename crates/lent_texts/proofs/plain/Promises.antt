@@ -1,4 +1,4 @@
--- The promises of the module `plain` of `lent_texts` hold, from those of `texts`. Assumes nothing.
+-- The promises of the module `plain` of `lent_texts` hold, from those of `text`. Assumes nothing.
 use mathlib.Core.Path.{_≡_, ap, _∙_}
 use mathlib.Core.List.{List}
 use Prim.Native.Nat.{ℕ}

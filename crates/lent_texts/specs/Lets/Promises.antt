@@ -1,5 +1,5 @@
 -- What let text on lent lists promises beside its contract: document 01, 'Terms' and 'Refusal numbers'. The promises of
--- `texts`, of the store that the lists are. Assumes nothing: a record, with one field for each theorem.
+-- `text`, of the store that the lists are. Assumes nothing: a record, with one field for each theorem.
 use Prim.Native.Nat.{ℕ, _≤_, _<_}
 use mathlib.Core.Path.{_≡_}
 use mathlib.Core.Bool.{true, false}

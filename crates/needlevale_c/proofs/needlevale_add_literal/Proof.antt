@@ -20,15 +20,12 @@ abbrev lent : tie.Start → Store
 lent s =
     store (s .args .records .now) (s .args .literals .now) (s .args .names .now) (s .args .terms) (s .args .symbols)
 
--- src/lib.rt:41:9
 add-literal-requires : tie.Need-add-literal-requires
 add-literal-requires c κs = search needs
 
--- src/lib.rt:43:21
 enum-known-added : tie.Need-enum-known-added
 enum-known-added c = search needs
 
--- src/lib.rt:43:33
 cast-result : tie.Need-cast-result
 cast-result c =
     let s = c .before .before .before .before .before .before .before .before .before .before .before in
@@ -39,23 +36,18 @@ cast-result c =
     (rw (toZ-ofZ (s .fits .value)) at (a .ensures)) (t .0 .0) (t .0 .1 .0) (t .0 .1 .1 .0) (t .1) in
     sfits-of (omega (arith, l))
 
--- src/lib.rt:44:24
 enum-known-added-2 : tie.Need-enum-known-added-2
 enum-known-added-2 c = search needs
 
--- src/lib.rt:44:30
 below-zero-requires : tie.Need-below-zero-requires
 below-zero-requires c κs = search needs
 
--- src/lib.rt:28:1
 same-length : tie.Need-same-length
 same-length c = search needs
 
--- src/lib.rt:28:1
 same-length-2 : tie.Need-same-length-2
 same-length-2 c = search needs
 
--- src/lib.rt:28:1
 returns : tie.Need-returns
 returns c =
     let s = c .before .before .before .before .before .before .before .before .before .before .before in
@@ -69,15 +61,12 @@ returns c =
     (rw (toZ-ofZ (s .fits .value)) at (a .ensures))
     (t .0 .0) (t .0 .1 .0) (t .0 .1 .1 .0) _ (t .1) (toZ-pos w64 (omega (arith, l)))
 
--- src/lib.rt:28:1
 same-length-3 : tie.Need-same-length-3
 same-length-3 c = search needs
 
--- src/lib.rt:28:1
 same-length-4 : tie.Need-same-length-4
 same-length-4 c = search needs
 
--- src/lib.rt:28:1
 returns-2 : tie.Need-returns-2
 returns-2 c =
     let s = c .before .before .before .before .before .before .before .before .before .before .before .before in

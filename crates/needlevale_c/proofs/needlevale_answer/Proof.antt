@@ -22,15 +22,12 @@ within :
     {n : ℕ} → n ≤ length after → n < 2 ^ 63
 within s after e l = omega (arith, e, l, s .good)
 
--- src/lib.rt:20:9
 answer-requires : tie.Need-answer-requires
 answer-requires c κs = search needs
 
--- src/lib.rt:22:27
 enum-known-answered : tie.Need-enum-known-answered
 enum-known-answered c = search needs
 
--- src/lib.rt:22:33
 cast-result : tie.Need-cast-result
 cast-result c =
     let s = c .before .before .before .before .before .before .before .before .before in
@@ -39,19 +36,15 @@ cast-result c =
     (written-within (s .args .input .now) (s .args .output .now) (a .last .1 .0) (a .result) (a .ensures)
     (c .before .answered .given .0 .0) (c .before .answered .given .1)))
 
--- src/lib.rt:23:27
 enum-known-answered-2 : tie.Need-enum-known-answered-2
 enum-known-answered-2 c = search needs
 
--- src/lib.rt:23:33
 below-zero-requires : tie.Need-below-zero-requires
 below-zero-requires c κs = search needs
 
--- src/lib.rt:14:1
 same-length : tie.Need-same-length
 same-length c = search needs
 
--- src/lib.rt:14:1
 returns : tie.Need-returns
 returns c =
     let s = c .before .before .before .before .before .before .before .before .before in
@@ -62,11 +55,9 @@ returns c =
     (toZ-pos w64 (within s (a .last .1 .0) (a .kept .1 .0)
     (written-within (s .args .input .now) (s .args .output .now) (a .last .1 .0) (a .result) (a .ensures) n e)))
 
--- src/lib.rt:14:1
 same-length-2 : tie.Need-same-length-2
 same-length-2 c = search needs
 
--- src/lib.rt:14:1
 returns-2 : tie.Need-returns-2
 returns-2 c =
     let s = c .before .before .before .before .before .before .before .before .before .before in

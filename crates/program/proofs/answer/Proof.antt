@@ -26,19 +26,15 @@ queried :
     got (asked m o v n) 24 ≡ queryAt (s .args .input .now)
 queried s r m o v n t e = subst (λ (y : Asked). gotQuery y ≡ queryAt (s .args .input .now)) e t
 
--- src/lib.rt:113:9
 ask-requires : tie.Need-ask-requires
 ask-requires c κs = search needs
 
--- src/lib.rt:115:24
 enum-known-query : tie.Need-enum-known-query
 enum-known-query c = search needs
 
--- src/lib.rt:116:22
 enum-known-query-2 : tie.Need-enum-known-query-2
 enum-known-query-2 c = search needs
 
--- src/lib.rt:116:58
 sub-by-mode : tie.Need-sub-by-mode
 sub-by-mode c =
     let s = c .before .before .before .before .before .before in
@@ -50,20 +46,16 @@ sub-by-mode c =
     (c .before .query2 .given .0 .1 .1 .1 .0) (c .before .before .before .ask .ensures)
     (c .before .query2 .given .1)) .0
 
--- src/lib.rt:116:58
 part-by-mode-start : tie.Need-part-by-mode-start
 part-by-mode-start c =
     sub-by-mode c
 
--- src/lib.rt:116:58
 part-by-mode-end : tie.Need-part-by-mode-end
 part-by-mode-end c = search needs
 
--- src/lib.rt:116:50
 by-mode-requires : tie.Need-by-mode-requires
 by-mode-requires c κs = search needs
 
--- src/lib.rt:110:1
 returns : tie.Need-returns
 returns c =
     let s = c .before .before .before .before .before .before in
@@ -71,11 +63,9 @@ returns c =
     (subst (λ (y : Asked). gotQuery y ≡ queryAt (s .args .input .now)) (c .before .query .given .1)
     (c .before .before .before .ask .ensures))
 
--- src/lib.rt:110:1
 same-length : tie.Need-same-length
 same-length c = search needs
 
--- src/lib.rt:110:1
 returns-2 : tie.Need-returns-2
 returns-2 c =
     let s = c .before .before .before .before .before .before .before .before .before .before .before in

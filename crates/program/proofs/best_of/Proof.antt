@@ -42,43 +42,33 @@ returned :
 returned s rs ls ns r w i p n m t e =
     best-returns (s .args .file .now) (s .args .sort) (s .args .value) (byCase s rs ls ns r (Found w i p n m) t e)
 
--- src/lib.rt:24:9
 slice-aggregate-best : tie.Need-slice-aggregate-best
 slice-aggregate-best c = search needs
 
--- src/lib.rt:25:9
 slice-aggregate-best-2 : tie.Need-slice-aggregate-best-2
 slice-aggregate-best-2 c = search needs
 
--- src/lib.rt:26:9
 slice-aggregate-best-3 : tie.Need-slice-aggregate-best-3
 slice-aggregate-best-3 c = search needs
 
--- src/lib.rt:20:9
 best-requires : tie.Need-best-requires
 best-requires c κs = search needs
 
--- src/lib.rt:31:29
 enum-known-best : tie.Need-enum-known-best
 enum-known-best c = search needs
 
--- src/lib.rt:32:27
 enum-known-best-2 : tie.Need-enum-known-best-2
 enum-known-best-2 c = search needs
 
--- src/lib.rt:35:13
 slice-aggregate-put : tie.Need-slice-aggregate-put
 slice-aggregate-put c = search needs
 
--- src/lib.rt:36:13
 slice-aggregate-put-2 : tie.Need-slice-aggregate-put-2
 slice-aggregate-put-2 c = search needs
 
--- src/lib.rt:37:13
 slice-aggregate-put-3 : tie.Need-slice-aggregate-put-3
 slice-aggregate-put-3 c = search needs
 
--- src/lib.rt:32:66
 put-requires : tie.Need-put-requires
 put-requires c κs =
     returned (c .before .before .before .before .before .before .before .before .before .before .before .before
@@ -94,7 +84,6 @@ put-requires c κs =
     (c .before .before .before .before .before .before .before .before .before .before .best .ensures)
     (c .before .before .before .before .before .best3 .given .1)
 
--- src/lib.rt:11:1
 returns : tie.Need-returns
 returns c =
     let s = c .before .before .before .before .before .before .before .before .before .before .before .before in
@@ -106,11 +95,9 @@ returns c =
     (c .before .before .before .before .before .before .best .result) (Refused (c .before .best2 .given .0 .0))
     (c .before .before .before .before .before .before .best .ensures) (c .before .best2 .given .1))
 
--- src/lib.rt:11:1
 same-length : tie.Need-same-length
 same-length c = search needs
 
--- src/lib.rt:11:1
 returns-2 : tie.Need-returns-2
 returns-2 c =
     let s = c .before .before .before .before .before .before .before .before .before .before .before .before

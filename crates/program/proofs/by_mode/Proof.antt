@@ -10,15 +10,12 @@ use Rattle.program.proofs.by_mode.Lts as lts
 use Rattle.program.proofs.best_of.Reads as best-of-reads
 use Rattle.program.proofs.variants_of.Reads as variants-of-reads
 
--- src/lib.rt:103:9
 variants-of-requires : tie.Need-variants-of-requires
 variants-of-requires c κs = search needs
 
--- src/lib.rt:103:9
 same-length : tie.Need-same-length
 same-length c = search needs
 
--- src/lib.rt:103:9
 returns : tie.Need-returns
 returns c =
     let s = c .before .before .before .before .before .before .before in
@@ -27,15 +24,12 @@ returns c =
     (c .before .before .variants-of .last .1 .1 .1 .1 .0)
     (eq-eqb (s .args .mode) 1 (c .before .before .before .before .if1 .taken)) (c .before .before .variants-of .ensures)
 
--- src/lib.rt:106:5
 best-of-requires : tie.Need-best-of-requires
 best-of-requires c κs = search needs
 
--- src/lib.rt:94:1
 same-length-2 : tie.Need-same-length-2
 same-length-2 c = search needs
 
--- src/lib.rt:94:1
 returns-2 : tie.Need-returns-2
 returns-2 c =
     let s = c .before .before .before .before .before .before .before in

@@ -33,7 +33,6 @@ answered :
 answered s after r x t e =
     subst (λ (y : Answered). seen y after ≡ replied (s .args .input .now) (take 16384 (s .args .out .now))) e t
 
--- src/lib.rt:128:9
 returns : tie.Need-returns
 returns c = (
   without-room (c .before .before .before .args .input .now) (c .before .before .before .args .out .now)
@@ -41,36 +40,28 @@ returns c = (
   (omega arith, refl),
 )
 
--- src/lib.rt:130:34
 slice-relend-prefix-answer : tie.Need-slice-relend-prefix-answer
 slice-relend-prefix-answer c = search needs
 
--- src/lib.rt:130:34
 slice-aggregate-answer : tie.Need-slice-aggregate-answer
 slice-aggregate-answer c =
     sym (length-take-le 16384 (c .before .before .before .before .args .out .now) (c .before .if1 .left))
 
--- src/lib.rt:130:9
 answer-requires : tie.Need-answer-requires
 answer-requires c κs = search needs
 
--- src/lib.rt:132:27
 enum-known-answered : tie.Need-enum-known-answered
 enum-known-answered c = search needs
 
--- src/lib.rt:133:27
 enum-known-answered-2 : tie.Need-enum-known-answered-2
 enum-known-answered-2 c = search needs
 
--- src/lib.rt:134:21
 number-requires : tie.Need-number-requires
 number-requires c κs = search needs
 
--- src/lib.rt:134:21
 cast-k : tie.Need-cast-k
 cast-k c = search needs
 
--- src/lib.rt:135:13
 put-refused-requires : tie.Need-put-refused-requires
 put-refused-requires c κs =
     let s = c .before .before .before .before .before .before .before .before .before .before .before .before in
@@ -83,14 +74,12 @@ put-refused-requires c κs =
           .1 .0) 16384 (c .before .before .before .before .before .before .before .answer .kept .1 .0),
     )
 
--- src/lib.rt:122:1
 same-length : tie.Need-same-length
 same-length c =
     let s = c .before .before .before .before .before .before .before .before .before .before in
     length-front (s .args .out .now) (c .before .before .before .before .before .answer .last .1 .0) 16384
     (c .before .before .before .before .before .answer .kept .1 .0)
 
--- src/lib.rt:122:1
 returns-2 : tie.Need-returns-2
 returns-2 c =
     let s = c .before .before .before .before .before .before .before .before .before .before in
@@ -110,7 +99,6 @@ returns-2 c =
           (s .args .out .now)) n w,
     )
 
--- src/lib.rt:122:1
 same-length-2 : tie.Need-same-length-2
 same-length-2 c =
     let s = c .before .before .before .before .before .before .before .before .before .before .before .before
@@ -120,7 +108,6 @@ same-length-2 c =
     .before .answer .last .1 .0) 16384 (c .before .before .before .before .before .before .before .before .before
     .before .answer .kept .1 .0)
 
--- src/lib.rt:122:1
 returns-3 : tie.Need-returns-3
 returns-3 c =
     let s = c .before .before .before .before .before .before .before .before .before .before .before .before

@@ -37,59 +37,45 @@ byCase s rs ls ns ws ts r x t e =
     e
     t
 
--- src/lib.rt:68:9
 slice-aggregate-variants : tie.Need-slice-aggregate-variants
 slice-aggregate-variants c = search needs
 
--- src/lib.rt:69:9
 slice-aggregate-variants-2 : tie.Need-slice-aggregate-variants-2
 slice-aggregate-variants-2 c = search needs
 
--- src/lib.rt:70:9
 slice-aggregate-variants-3 : tie.Need-slice-aggregate-variants-3
 slice-aggregate-variants-3 c = search needs
 
--- src/lib.rt:73:9
 slice-aggregate-variants-4 : tie.Need-slice-aggregate-variants-4
 slice-aggregate-variants-4 c = search needs
 
--- src/lib.rt:74:9
 slice-aggregate-variants-5 : tie.Need-slice-aggregate-variants-5
 slice-aggregate-variants-5 c = search needs
 
--- src/lib.rt:63:9
 variants-requires : tie.Need-variants-requires
 variants-requires c κs = search needs
 
--- src/lib.rt:77:33
 enum-known-variants : tie.Need-enum-known-variants
 enum-known-variants c = search needs
 
--- src/lib.rt:78:30
 enum-known-variants-2 : tie.Need-enum-known-variants-2
 enum-known-variants-2 c = search needs
 
--- src/lib.rt:80:13
 slice-aggregate-put : tie.Need-slice-aggregate-put
 slice-aggregate-put c = search needs
 
--- src/lib.rt:81:13
 slice-aggregate-put-2 : tie.Need-slice-aggregate-put-2
 slice-aggregate-put-2 c = search needs
 
--- src/lib.rt:82:13
 slice-aggregate-put-3 : tie.Need-slice-aggregate-put-3
 slice-aggregate-put-3 c = search needs
 
--- src/lib.rt:85:13
 slice-aggregate-put-4 : tie.Need-slice-aggregate-put-4
 slice-aggregate-put-4 c = search needs
 
--- src/lib.rt:86:13
 slice-aggregate-put-5 : tie.Need-slice-aggregate-put-5
 slice-aggregate-put-5 c = search needs
 
--- src/lib.rt:78:64
 put-requires : tie.Need-put-requires
 put-requires c κs =
     let s = c .before .before .before .before .before .before .before .before .before .before .before .before
@@ -118,7 +104,6 @@ put-requires c κs =
     .before .variants .ensures)
     (c .before .before .before .before .before .before .before .variants3 .given .1))
 
--- src/lib.rt:51:1
 returns : tie.Need-returns
 returns c =
     let s = c .before .before .before .before .before .before .before .before .before .before .before .before
@@ -136,11 +121,9 @@ returns c =
     (Refused (c .before .variants2 .given .0 .0)) (c .before .before .before .before .before .before .before
     .before .variants .ensures) (c .before .variants2 .given .1))
 
--- src/lib.rt:51:1
 same-length : tie.Need-same-length
 same-length c = search needs
 
--- src/lib.rt:51:1
 returns-2 : tie.Need-returns-2
 returns-2 c =
     let s = c .before .before .before .before .before .before .before .before .before .before .before .before

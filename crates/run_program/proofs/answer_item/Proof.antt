@@ -11,45 +11,35 @@ use Rattle.program.proofs.respond.Reads as respond-reads
 use Rattle.io.proofs.write_all.Reads as write-all-reads
 use Rattle.run_program.proofs.write_length.Reads as write-length-reads
 
--- src/main.rt:45:9
 returns : tie.Need-returns
 returns c = search needs
 
--- src/main.rt:48:32
 slice-aggregate-respond : tie.Need-slice-aggregate-respond
 slice-aggregate-respond c =
     sym (length-take-le (c .before .before .before .args .n) (c .before .before .before .args .input .now)
     (c .before .if1 .left))
 
--- src/main.rt:48:45
 slice-aggregate-respond-2 : tie.Need-slice-aggregate-respond-2
 slice-aggregate-respond-2 c = search needs
 
--- src/main.rt:48:9
 respond-requires : tie.Need-respond-requires
 respond-requires c κs = search needs
 
--- src/main.rt:49:9
 write-length-requires : tie.Need-write-length-requires
 write-length-requires c κs = search needs
 
--- src/main.rt:50:9
 returns-2 : tie.Need-returns-2
 returns-2 c = search needs
 
--- src/main.rt:52:34
 array-share-prefix-out : tie.Need-array-share-prefix-out
 array-share-prefix-out c = search needs
 
--- src/main.rt:52:34
 slice-aggregate-write-all : tie.Need-slice-aggregate-write-all
 slice-aggregate-write-all c = search needs
 
--- src/main.rt:52:5
 write-all-requires : tie.Need-write-all-requires
 write-all-requires c κs = search needs
 
--- src/main.rt:43:1
 returns-3 : tie.Need-returns-3
 returns-3 c = search needs
 

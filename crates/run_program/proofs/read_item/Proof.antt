@@ -9,29 +9,23 @@ use Rattle.run_program.proofs.read_item.Reads as reads
 use Rattle.run_program.proofs.read_item.Lts as lts
 use Rattle.io.proofs.read_full.Reads as read-full-reads
 
--- src/main.rt:26:9
 returns : tie.Need-returns
 returns c = search needs
 
--- src/main.rt:28:43
 slice-relend-prefix-read-full : tie.Need-slice-relend-prefix-read-full
 slice-relend-prefix-read-full c = search needs
 
--- src/main.rt:28:43
 slice-aggregate-read-full : tie.Need-slice-aggregate-read-full
 slice-aggregate-read-full c =
     sym (length-take-le (c .before .before .before .args .n) (c .before .before .before .args .input .now)
     (c .before .if1 .left))
 
--- src/main.rt:28:9
 read-full-requires : tie.Need-read-full-requires
 read-full-requires c κs = search needs
 
--- src/main.rt:24:1
 same-length : tie.Need-same-length
 same-length c = search needs
 
--- src/main.rt:24:1
 returns-2 : tie.Need-returns-2
 returns-2 c = search needs
 

@@ -23,29 +23,23 @@ Inv-loop records literals terms lasts₀ nexts₀ i₀ lasts nexts i = Placed re
 abbrev μ-loop : tie.MeasureT-loop
 μ-loop records literals terms lasts₀ nexts₀ i₀ lasts nexts i = terms - i
 
--- src/lib.rt:390:5
 loop-holds : tie.Need-loop-holds Inv-loop μ-loop
 loop-holds c =
     let g = c .before .args in
     placed-none (g .records .now) (g .literals .now) (g .terms) 1021 1024 refl refl
 
--- src/lib.rt:391:13
 bucket-requires : tie.Need-bucket-requires Inv-loop μ-loop
 bucket-requires c κs = search needs
 
--- src/lib.rt:392:20
 mul-from : tie.Need-mul-from Inv-loop μ-loop
 mul-from c = search needs
 
--- src/lib.rt:392:20
 array-read-from : tie.Need-array-read-from Inv-loop μ-loop
 array-read-from c = search needs
 
--- src/lib.rt:393:46
 slice-aggregate-is-new-record : tie.Need-slice-aggregate-is-new-record Inv-loop μ-loop
 slice-aggregate-is-new-record c = search needs
 
--- src/lib.rt:393:13
 is-new-record-requires : tie.Need-is-new-record-requires Inv-loop μ-loop
 is-new-record-requires c κs =
     let g = c .before .before .before .before .before .args in
@@ -64,7 +58,6 @@ is-new-record-requires c κs =
       ),
     )
 
--- src/lib.rt:394:13
 returns : tie.Need-returns Inv-loop μ-loop
 returns c =
     let g = c .before .before .before .before .before .before .before .args in
@@ -72,35 +65,27 @@ returns c =
     sym (every-fails (freshRecord (g .records .now) (g .literals .now)) (g .terms) (l .i) (omega arith)
     (sym (c .before .is-new-record .ensures) ∙ not-true _ (c .if1 .taken)))
 
--- src/lib.rt:396:9
 mul-nexts : tie.Need-mul-nexts Inv-loop μ-loop
 mul-nexts c = search needs
 
--- src/lib.rt:396:9
 array-write-nexts : tie.Need-array-write-nexts Inv-loop μ-loop
 array-write-nexts c = search needs
 
--- src/lib.rt:397:20
 add-lasts : tie.Need-add-lasts Inv-loop μ-loop
 add-lasts c = search needs
 
--- src/lib.rt:397:9
 mul-lasts : tie.Need-mul-lasts Inv-loop μ-loop
 mul-lasts c = search needs
 
--- src/lib.rt:397:9
 array-write-lasts : tie.Need-array-write-lasts Inv-loop μ-loop
 array-write-lasts c = search needs
 
--- src/lib.rt:398:9
 add-i : tie.Need-add-i Inv-loop μ-loop
 add-i c = search needs
 
--- src/lib.rt:390:5
 loop-less : tie.Need-loop-less Inv-loop μ-loop
 loop-less c = search needs
 
--- src/lib.rt:390:5
 loop-again : tie.Need-loop-again Inv-loop μ-loop
 loop-again c =
     let s = c .before .before .before .before .before .before .before in
@@ -110,7 +95,6 @@ loop-again c =
     (c .before .before .before .bucket .result) (l .inv) (omega arith) (s .pre .1 .1) (e .0) (e .1)
     (sym (c .before .is-new-record .ensures) ∙ not-false _ (c .if1 .left))
 
--- src/lib.rt:383:1
 returns-2 : tie.Need-returns-2 Inv-loop μ-loop
 returns-2 c =
     let g = c .before .before .before .args in

@@ -17,42 +17,33 @@ Inv-loop start s h₀ i₀ h i = (i ≤ length s) × ((h < 1021) × (digestFrom 
 abbrev μ-loop : tie.MeasureT-loop
 μ-loop start s h₀ i₀ h i = length s - i
 
--- src/lib.rt:342:5
 loop-holds : tie.Need-loop-holds Inv-loop μ-loop
 loop-holds c = search needs
 
--- src/lib.rt:343:14
 mul-h : tie.Need-mul-h Inv-loop μ-loop
 mul-h c = search needs
 
--- src/lib.rt:343:23
 mul-h-2 : tie.Need-mul-h-2 Inv-loop μ-loop
 mul-h-2 c = search needs
 
--- src/lib.rt:343:23
 shared-slice-read-h : tie.Need-shared-slice-read-h Inv-loop μ-loop
 shared-slice-read-h c = search needs
 
--- src/lib.rt:343:14
 add-h : tie.Need-add-h Inv-loop μ-loop
 add-h c = search needs
 
--- src/lib.rt:344:9
 add-i : tie.Need-add-i Inv-loop μ-loop
 add-i c = search needs
 
--- src/lib.rt:342:5
 loop-less : tie.Need-loop-less Inv-loop μ-loop
 loop-less c = search needs
 
--- src/lib.rt:342:5
 loop-again : tie.Need-loop-again Inv-loop μ-loop
 loop-again c =
     let g = c .before .before .before .args in
     let l = c .before .before .loop in
     (omega arith, (omega arith, digest-more (g .s .now) (l .h) (l .i) (omega arith) ∙ l .inv .1 .1))
 
--- src/lib.rt:335:1
 returns : tie.Need-returns Inv-loop μ-loop
 returns c =
     let g = c .before .before .args in

@@ -16,21 +16,17 @@ Inv-loop records literals nexts from i p₀ p = Walked records literals i p
 abbrev μ-loop : tie.MeasureT-loop
 μ-loop records literals nexts from i p₀ p = p
 
--- src/lib.rt:372:5
 loop-holds : tie.Need-loop-holds Inv-loop μ-loop
 loop-holds c =
     let s = c .before .before in
     walk-start (s .args .records .now) (s .args .literals .now) (s .args .i) (s .args .from) (s .pre .1 .1 .0)
 
--- src/lib.rt:373:17
 sub-j : tie.Need-sub-j Inv-loop μ-loop
 sub-j c = search needs
 
--- src/lib.rt:374:12
 is-same-record-requires : tie.Need-is-same-record-requires Inv-loop μ-loop
 is-same-record-requires c κs = search needs
 
--- src/lib.rt:375:13
 returns : tie.Need-returns Inv-loop μ-loop
 returns c =
     let g = c .before .before .before .before .before .before .args in
@@ -38,15 +34,12 @@ returns c =
     sym (walk-found (g .records .now) (g .literals .now) (g .i) (l .p) (omega arith) (l .inv)
     (sym (c .before .is-same-record .ensures) ∙ c .if1 .taken))
 
--- src/lib.rt:377:13
 mul-p : tie.Need-mul-p Inv-loop μ-loop
 mul-p c = search needs
 
--- src/lib.rt:377:13
 shared-slice-read-p : tie.Need-shared-slice-read-p Inv-loop μ-loop
 shared-slice-read-p c = search needs
 
--- src/lib.rt:372:5
 loop-less : tie.Need-loop-less Inv-loop μ-loop
 loop-less c =
     let s = c .before .before .before .before .before .before .before in
@@ -54,7 +47,6 @@ loop-less c =
     let n = s .pre .1 .0 (l .p - 1) (omega (arith, l .inv .lower)) in
     omega (arith, n .lower)
 
--- src/lib.rt:372:5
 loop-again : tie.Need-loop-again Inv-loop μ-loop
 loop-again c =
     let s = c .before .before .before .before .before .before .before in
@@ -63,7 +55,6 @@ loop-again c =
     (omega arith) (l .inv) (s .pre .1 .0) (sym (c .before .before .is-same-record .ensures)
     ∙ c .before .if1 .left)
 
--- src/lib.rt:364:1
 returns-2 : tie.Need-returns-2 Inv-loop μ-loop
 returns-2 c =
     let g = c .before .before .before .before .args in

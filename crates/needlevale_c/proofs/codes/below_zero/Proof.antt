@@ -11,19 +11,15 @@ use Rattle.needlevale_c.proofs.codes.below_zero.Reads as reads
 use Rattle.needlevale_c.proofs.codes.below_zero.Lts as lts
 use Rattle.refusal.proofs.number.Reads as number-reads
 
--- src/lib.rt:10:13
 number-requires : tie.Need-number-requires
 number-requires c κs = search needs
 
--- src/lib.rt:10:13
 cast-k : tie.Need-cast-k
 cast-k c = search needs
 
--- src/lib.rt:11:5
 sub-result : tie.Need-sub-result
 sub-result c = below-fits (c .number .result) (omega (arith, c .number .ok))
 
--- src/lib.rt:7:1
 returns : tie.Need-returns
 returns c =
     below-is (c .number .result) (omega (arith, c .number .ok))

@@ -43,50 +43,39 @@ asTold s h {after} t e =
     e
     t
 
--- src/lib.rt:89:13
 best-length-requires : tie.Need-best-length-requires
 best-length-requires c κs = search needs
 
--- src/lib.rt:91:9
 returns : tie.Need-returns
 returns c =
     let s = c .before .before .before .before .before in
     no-line (s .args .plain) (lent s) (s .args .cost) (s .args .term) (s .args .passes) (s .args .out .now)
     (c .before .best-length .result) (c .before .best-length .ensures) (c .if1 .taken)
 
--- src/lib.rt:93:13
 sub-e : tie.Need-sub-e
 sub-e c = search needs
 
--- src/lib.rt:96:9
 sub-put-text : tie.Need-sub-put-text
 sub-put-text c = search needs
 
--- src/lib.rt:96:9
 part-put-text-start : tie.Need-part-put-text-start
 part-put-text-start c = search needs
 
--- src/lib.rt:96:9
 part-put-text-end : tie.Need-part-put-text-end
 part-put-text-end c = search needs
 
--- src/lib.rt:94:9
 put-text-requires : tie.Need-put-text-requires
 put-text-requires c κs = search needs
 
--- src/lib.rt:104:23
 enum-known-text : tie.Need-enum-known-text
 enum-known-text c = search needs
 
--- src/lib.rt:105:34
 enum-told : tie.Need-enum-told
 enum-told c = search needs
 
--- src/lib.rt:105:9
 same-length : tie.Need-same-length
 same-length c = search needs
 
--- src/lib.rt:105:9
 returns-2 : tie.Need-returns-2
 returns-2 c =
     let s = c .before .before .before .before .before .before .before .before .before .before .before in
@@ -99,7 +88,6 @@ returns-2 c =
     (asTold s (c .before .before .before .before .before .before .before .best-length .result)
     (c .before .before .before .before .put-text .ensures) (c .enum-told .given .1))
 
--- src/lib.rt:107:13
 add-z : tie.Need-add-z
 add-z c =
     let s = c .before .before .before .before .before .before .before .before .before .before .before .before in
@@ -117,7 +105,6 @@ add-z c =
           (c .before .before .before .before .before .put-text .ensures) (c .before .text .given .1)),
     )
 
--- src/lib.rt:108:5
 slice-write-out : tie.Need-slice-write-out
 slice-write-out c =
     let s = c .before .before .before .before .before .before .before .before .before .before .before .before in
@@ -144,7 +131,6 @@ slice-write-out c =
           (c .before .before .before .before .before .put-text .ensures) (c .before .text .given .1)),
     )
 
--- src/lib.rt:109:5
 put-best-requires : tie.Need-put-best-requires
 put-best-requires c κs =
     let s = c .before .before .before .before .before .before .before .before .before .before .before .before .before in
@@ -173,7 +159,6 @@ put-best-requires c κs =
           .before .text .given .0 .0) 10,
     )
 
--- src/lib.rt:110:23
 add-t18 : tie.Need-add-t18
 add-t18 c =
     let s = c .before .before .before .before .before .before .before .before .before .before .before .before .before
@@ -202,7 +187,6 @@ add-t18 c =
           (c .before .before .before .before .before .text .given .1)),
     )
 
--- src/lib.rt:65:1
 same-length-2 : tie.Need-same-length-2
 same-length-2 c =
     let s = c .before .before .before .before .before .before .before .before .before .before .before .before .before
@@ -234,7 +218,6 @@ same-length-2 c =
     (c .before .before .before .before .before .before .before .before .before .put-text .ensures)
     (c .before .before .before .before .before .text .given .1)))
 
--- src/lib.rt:65:1
 returns-3 : tie.Need-returns-3
 returns-3 c =
     let s = c .before .before .before .before .before .before .before .before .before .before .before .before .before

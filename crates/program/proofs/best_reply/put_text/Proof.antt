@@ -19,15 +19,12 @@ abbrev lent : tie.Start → Store
 lent s =
     store (s .args .records .now) (s .args .literals .now) (s .args .names .now) (s .args .terms) (s .args .symbols)
 
--- src/lib.rt:40:9
 plain-of-requires : tie.Need-plain-of-requires
 plain-of-requires c κs = search needs
 
--- src/lib.rt:40:9
 same-length : tie.Need-same-length
 same-length c = search needs
 
--- src/lib.rt:40:9
 returns : tie.Need-returns
 returns c =
     let s = c .before .before .before .before .before .before .before .before in
@@ -35,37 +32,29 @@ returns c =
     (answerOf (c .before .before .plain-of .result)) (c .before .before .before .before .if1 .taken)
     (c .before .before .plain-of .ensures)
 
--- src/lib.rt:52:9
 array-share-prefix-none : tie.Need-array-share-prefix-none
 array-share-prefix-none c = search needs
 
--- src/lib.rt:52:9
 slice-aggregate-let-of : tie.Need-slice-aggregate-let-of
 slice-aggregate-let-of c = search needs
 
--- src/lib.rt:53:9
 slice-aggregate-let-of-2 : tie.Need-slice-aggregate-let-of-2
 slice-aggregate-let-of-2 c = search needs
 
--- src/lib.rt:44:9
 let-of-requires : tie.Need-let-of-requires
 let-of-requires c κs =
     let s = c .before .before .before .before .before .before .before in
     (s .pre .0, (s .pre .1, ((no-prefix, hint-t), omega arith)))
 
--- src/lib.rt:58:26
 enum-known-text : tie.Need-enum-known-text
 enum-known-text c = search needs
 
--- src/lib.rt:59:26
 enum-known-text-2 : tie.Need-enum-known-text-2
 enum-known-text-2 c = search needs
 
--- src/lib.rt:20:1
 same-length-2 : tie.Need-same-length-2
 same-length-2 c = search needs
 
--- src/lib.rt:20:1
 returns-2 : tie.Need-returns-2
 returns-2 c =
     let s = c .before .before .before .before .before .before .before .before .before .before .before .before .before in
@@ -78,11 +67,9 @@ returns-2 c =
     (c .before .before .before .before .before .before .before .before .before .if1 .left)
     (c .before .before .before .before .before .let-of .ensures))
 
--- src/lib.rt:20:1
 same-length-3 : tie.Need-same-length-3
 same-length-3 c = search needs
 
--- src/lib.rt:20:1
 returns-3 : tie.Need-returns-3
 returns-3 c =
     let s = c .before .before .before .before .before .before .before .before .before .before .before .before .before in

@@ -14,19 +14,15 @@ use Rattle.program.proofs.variant_lines.one_length.Lts as lts
 use Rattle.program_rules.proofs.headlines.variant_length.Reads as variant-length-reads
 use Rattle.text_pieces.proofs.add.Reads as add-reads
 
--- src/lib.rt:31:9
 variant-length-requires : tie.Need-variant-length-requires
 variant-length-requires c κs = search needs
 
--- src/lib.rt:32:17
 mul-add : tie.Need-mul-add
 mul-add c = search needs
 
--- src/lib.rt:32:17
 shared-slice-read-add : tie.Need-shared-slice-read-add
 shared-slice-read-add c = search needs
 
--- src/lib.rt:32:27
 add-add : tie.Need-add-add
 add-add c =
     omega (
@@ -47,7 +43,6 @@ add-add c =
           (omega (arith, c .before .before .before .before .before .before .good)),
     )
 
--- src/lib.rt:32:5
 add-requires : tie.Need-add-requires
 add-requires c κs =
     let s = c .before .before .before .before .before .before in
@@ -57,7 +52,6 @@ add-requires c κs =
           (s .args .wides .now) (s .args .n) (s .pre .0) (s .args .t) (s .pre .1),
     )
 
--- src/lib.rt:11:1
 returns : tie.Need-returns
 returns c =
     let s = c .before .before .before .before .before .before .before in

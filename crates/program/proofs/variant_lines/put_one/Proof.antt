@@ -76,13 +76,11 @@ after-text s a o h r q w =
     (s .pre .1 .1) a o h
     r q w
 
--- src/lib.rt:93:9
 put-variant-requires : tie.Need-put-variant-requires
 put-variant-requires c κs =
     let s = c .before .before .before .before .before .before in
     omega (arith, s .pre .1 .1, reply-length (seen s) (s .args .n) (s .args .i) (s .args .c) (s .args .t))
 
--- src/lib.rt:97:13
 sub-put : tie.Need-sub-put
 sub-put c =
     omega (
@@ -92,15 +90,12 @@ sub-put c =
           (c .before .before .put-variant .ensures) .0,
     )
 
--- src/lib.rt:97:13
 part-put-start : tie.Need-part-put-start
 part-put-start c = sub-put c
 
--- src/lib.rt:97:13
 part-put-end : tie.Need-part-put-end
 part-put-end c = search needs
 
--- src/lib.rt:96:11
 put-requires : tie.Need-put-requires
 put-requires c κs =
     let s = c .before .before .before .before .before .before .before .before .before .before in (
@@ -121,7 +116,6 @@ put-requires c κs =
       ),
     )
 
--- src/lib.rt:95:13
 add-e : tie.Need-add-e
 add-e c =
     let s = c .before .before .before .before .before .before .before .before .before .before .before .before .before in
@@ -137,7 +131,6 @@ add-e c =
           .0,
     )
 
--- src/lib.rt:113:5
 slice-write-out : tie.Need-slice-write-out
 slice-write-out c =
     let s = c .before .before .before .before .before .before .before .before .before .before .before .before .before in
@@ -149,7 +142,6 @@ slice-write-out c =
     (c .before .before .before .before .before .before .put-variant .result) (c .before .before .put .ensures)) in
     omega (arith, m .0, m .1 .0)
 
--- src/lib.rt:114:5
 add-result : tie.Need-add-result
 add-result c =
     let s = c .before .before .before .before .before .before .before .before .before .before .before .before .before in
@@ -165,7 +157,6 @@ add-result c =
           .0,
     )
 
--- src/lib.rt:70:1
 same-length : tie.Need-same-length
 same-length c =
     let s = c .before .before .before .before .before .before .before .before .before .before .before .before .before in
@@ -182,7 +173,6 @@ same-length c =
     (c .before .before .before .before .before .before .put-variant .result) (c .before .before .put .ensures)) .1
     .0
 
--- src/lib.rt:70:1
 returns : tie.Need-returns
 returns c =
     let s = c .before .before .before .before .before .before .before .before .before .before .before .before .before in

@@ -27,7 +27,6 @@ abbrev μ-loop : tie.MeasureT-loop
 abbrev seen : tie.Start Inv-loop μ-loop → ℕ → Node
 seen s = nodes (s .args .records .now) (s .args .literals .now) (s .args .names .now)
 
--- src/lib.rt:146:5
 loop-holds : tie.Need-loop-holds Inv-loop μ-loop
 loop-holds c =
     let s = c .before .before .before .before .before .before .before in (
@@ -37,27 +36,21 @@ loop-holds c =
           (step-none (s .args .out .now) (s .args .p)),
     )
 
--- src/lib.rt:147:17
 mul-c : tie.Need-mul-c Inv-loop μ-loop
 mul-c c = search needs
 
--- src/lib.rt:147:17
 shared-slice-read-c : tie.Need-shared-slice-read-c Inv-loop μ-loop
 shared-slice-read-c c = search needs
 
--- src/lib.rt:148:17
 mul-t : tie.Need-mul-t Inv-loop μ-loop
 mul-t c = search needs
 
--- src/lib.rt:148:17
 shared-slice-read-t : tie.Need-shared-slice-read-t Inv-loop μ-loop
 shared-slice-read-t c = search needs
 
--- src/lib.rt:149:73
 add-put-one : tie.Need-add-put-one Inv-loop μ-loop
 add-put-one c = search needs
 
--- src/lib.rt:149:9
 put-one-requires : tie.Need-put-one-requires Inv-loop μ-loop
 put-one-requires c κs =
     let s = c .before .before .before .before .before .before .before .before .before .before .before .before in
@@ -71,15 +64,12 @@ put-one-requires c κs =
       ),
     )
 
--- src/lib.rt:150:9
 add-j : tie.Need-add-j Inv-loop μ-loop
 add-j c = search needs
 
--- src/lib.rt:146:5
 loop-less : tie.Need-loop-less Inv-loop μ-loop
 loop-less c = search needs
 
--- src/lib.rt:146:5
 loop-again : tie.Need-loop-again Inv-loop μ-loop
 loop-again c =
     let s = c .before .before .before .before .before .before .before .before .before .before .before .before .before
@@ -97,7 +87,6 @@ loop-again c =
           )),
     )
 
--- src/lib.rt:118:1
 same-length : tie.Need-same-length Inv-loop μ-loop
 same-length c =
     let s = c .before .before .before .before .before .before .before .before .before in
@@ -105,7 +94,6 @@ same-length c =
     kept-length (seen s) (s .args .n) (s .args .costs .now) (s .args .terms .now) (s .args .out .now) (s .args .p)
     (l .j) (s .args .k) (l .e) (l .out) (l .inv .1) (l .inv .0) (s .pre .1 .1)
 
--- src/lib.rt:118:1
 returns : tie.Need-returns Inv-loop μ-loop
 returns c =
     let s = c .before .before .before .before .before .before .before .before .before in

@@ -26,51 +26,40 @@ abbrev μ-loop : tie.MeasureT-loop
 abbrev seen : tie.Start Inv-loop μ-loop → ℕ → Node
 seen s = nodes (s .args .records .now) (s .args .literals .now) (s .args .names .now)
 
--- src/lib.rt:59:5
 loop-holds : tie.Need-loop-holds Inv-loop μ-loop
 loop-holds c =
     let s = c .before .before .before .before .before .before in
     (omega arith, omega (arith, ap length (none (seen s) (s .args .n) (s .args .costs .now) (s .args .terms .now))))
 
--- src/lib.rt:60:17
 mul-c : tie.Need-mul-c Inv-loop μ-loop
 mul-c c = search needs
 
--- src/lib.rt:60:17
 shared-slice-read-c : tie.Need-shared-slice-read-c Inv-loop μ-loop
 shared-slice-read-c c = search needs
 
--- src/lib.rt:61:17
 mul-t : tie.Need-mul-t Inv-loop μ-loop
 mul-t c = search needs
 
--- src/lib.rt:61:17
 shared-slice-read-t : tie.Need-shared-slice-read-t Inv-loop μ-loop
 shared-slice-read-t c = search needs
 
--- src/lib.rt:62:75
 add-one-length : tie.Need-add-one-length Inv-loop μ-loop
 add-one-length c = search needs
 
--- src/lib.rt:62:13
 one-length-requires : tie.Need-one-length-requires Inv-loop μ-loop
 one-length-requires c κs =
     let s = c .before .before .before .before .before .before .before .before .before .before in
     (s .pre .0, s .pre .1 .below (c .before .before .before .loop .j) (c .before .before .loop-test .taken))
 
--- src/lib.rt:63:9
 add-requires : tie.Need-add-requires Inv-loop μ-loop
 add-requires c κs = search needs
 
--- src/lib.rt:64:9
 add-j : tie.Need-add-j Inv-loop μ-loop
 add-j c = search needs
 
--- src/lib.rt:59:5
 loop-less : tie.Need-loop-less Inv-loop μ-loop
 loop-less c = search needs
 
--- src/lib.rt:59:5
 loop-again : tie.Need-loop-again Inv-loop μ-loop
 loop-again c =
     let s = c .before .before .before .before .before .before .before .before .before .before .before .before in
@@ -81,7 +70,6 @@ loop-again c =
           (l .inv .1) (c .before .one-length .ensures) (c .add .ensures),
     )
 
--- src/lib.rt:36:1
 returns : tie.Need-returns Inv-loop μ-loop
 returns c =
     let s = c .before .before .before .before .before .before .before .before in

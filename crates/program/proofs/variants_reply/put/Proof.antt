@@ -43,30 +43,24 @@ readable s =
 few : (s : tie.Start) → s .args .terms ≤ length (replicate {A = ℕ} 1024 0)
 few s = omega (arith, sound s .termLimit, length-replicate {A = ℕ} 1024 0)
 
--- src/lib.rt:101:9
 slice-aggregate-widths : tie.Need-slice-aggregate-widths
 slice-aggregate-widths c = search needs
 
--- src/lib.rt:105:9
 slice-aggregate-widths-2 : tie.Need-slice-aggregate-widths-2
 slice-aggregate-widths-2 c = search needs
 
--- src/lib.rt:100:5
 widths-requires : tie.Need-widths-requires
 widths-requires c κs =
     let s = c .before .before .before .before .before .before .before in
     plain-tables (s .args .records .now) (s .args .literals .now) (s .args .names .now) (replicate 1024 0)
     (s .args .names .now) (s .args .terms) (readable s) (zeros-get 1024) (replicate 1024 0) (few s) (few s)
 
--- src/lib.rt:116:9
 slice-aggregate-put-lines : tie.Need-slice-aggregate-put-lines
 slice-aggregate-put-lines c = search needs
 
--- src/lib.rt:117:9
 slice-aggregate-put-lines-2 : tie.Need-slice-aggregate-put-lines-2
 slice-aggregate-put-lines-2 c = search needs
 
--- src/lib.rt:111:5
 put-lines-requires : tie.Need-put-lines-requires
 put-lines-requires c κs =
     let s = c .before .before .before .before .before .before .before .before .before .before .before .before in (
@@ -82,11 +76,9 @@ put-lines-requires c κs =
       s .pre .1,
     )
 
--- src/lib.rt:74:1
 same-length : tie.Need-same-length
 same-length c = search needs
 
--- src/lib.rt:74:1
 returns : tie.Need-returns
 returns c =
     let s = c .before .before .before .before .before .before .before .before .before .before .before .before .before

@@ -20,11 +20,9 @@ use Rattle.program.proofs.variant_lines.texts_length.Reads as texts-len
 abbrev seenNodes : tie.Start → ℕ → Node
 seenNodes s = nodes (s .args .records .now) (s .args .literals .now) (s .args .names .now)
 
--- src/lib.rt:41:9
 variants-length-requires : tie.Need-variants-length-requires
 variants-length-requires c κs = search needs
 
--- src/lib.rt:42:9
 texts-length-requires : tie.Need-texts-length-requires
 texts-length-requires c κs = (
   c .before .before .before .before .before .before .before .before .pre .0,
@@ -32,11 +30,9 @@ texts-length-requires c κs = (
       .before .before .before .before .pre .1,
 )
 
--- src/lib.rt:53:29
 add-requires : tie.Need-add-requires
 add-requires c κs = omega (arith, c .texts-length .ensures)
 
--- src/lib.rt:54:9
 returns : tie.Need-returns
 returns c =
     let s = c .before .before .before .before .before .before .before .before .before .before .before in
@@ -45,7 +41,6 @@ returns c =
     (c .before .add .result) (c .before .before .before .variants-length .ensures)
     (c .before .before .texts-length .ensures) (c .before .add .ensures) (s .args .out .now) (c .if1 .taken)
 
--- src/lib.rt:56:9
 put-variants-requires : tie.Need-put-variants-requires
 put-variants-requires c κs =
     let s = c .before .before .before .before .before .before .before .before .before .before .before .before in
@@ -59,7 +54,6 @@ put-variants-requires c κs =
           (length (s .args .out .now)) (omega (arith, s .good)) (c .before .if1 .left),
     )
 
--- src/lib.rt:57:9
 put-texts-requires : tie.Need-put-texts-requires
 put-texts-requires c κs =
     let s = c .before .before .before .before .before .before .before .before .before .before .before .before .before
@@ -85,11 +79,9 @@ put-texts-requires c κs =
       ),
     )
 
--- src/lib.rt:17:1
 same-length : tie.Need-same-length
 same-length c = search needs
 
--- src/lib.rt:17:1
 returns-2 : tie.Need-returns-2
 returns-2 c =
     let s = c .before .before .before .before .before .before .before .before .before .before .before .before .before

@@ -8,15 +8,12 @@ use Rattle.program_rules.proofs.headlines.best_length.Reads as reads
 use Rattle.program_rules.proofs.headlines.best_length.Lts as lts
 use Rattle.decimal.proofs.digits_length.Reads as digits-length-reads
 
--- src/lib.rt:31:5
 digits-length-requires : tie.Need-digits-length-requires
 digits-length-requires c κs = search needs
 
--- src/lib.rt:31:33
 digits-length-requires-2 : tie.Need-digits-length-requires-2
 digits-length-requires-2 c κs = search needs
 
--- src/lib.rt:31:5
 add-result : tie.Need-add-result
 add-result c =
     omega (
@@ -29,11 +26,9 @@ add-result c =
           .digits-length2 .ensures,
     )
 
--- src/lib.rt:31:61
 digits-length-requires-3 : tie.Need-digits-length-requires-3
 digits-length-requires-3 c κs = search needs
 
--- src/lib.rt:31:5
 add-result-2 : tie.Need-add-result-2
 add-result-2 c =
     omega (
@@ -48,7 +43,6 @@ add-result-2 c =
       c .digits-length3 .ensures,
     )
 
--- src/lib.rt:31:5
 add-result-3 : tie.Need-add-result-3
 add-result-3 c =
     omega (
@@ -63,7 +57,6 @@ add-result-3 c =
       c .digits-length3 .ensures,
     )
 
--- src/lib.rt:28:1
 returns : tie.Need-returns
 returns c =
     omega (

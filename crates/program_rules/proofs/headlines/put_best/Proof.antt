@@ -10,11 +10,9 @@ use Rattle.program_rules.proofs.headlines.put_best.Lts as lts
 use Rattle.program_rules.proofs.headlines.put_number.Reads as put-number-reads
 use Rattle.program_rules.proofs.headlines.put_word.Reads as put-word-reads
 
--- src/lib.rt:39:30
 slice-aggregate-put-word : tie.Need-slice-aggregate-put-word
 slice-aggregate-put-word c = search needs
 
--- src/lib.rt:39:9
 put-word-requires : tie.Need-put-word-requires
 put-word-requires c κs =
     omega (
@@ -24,7 +22,6 @@ put-word-requires c κs =
           (c .before .before .before .args .n) (c .before .before .before .args .p),
     )
 
--- src/lib.rt:40:9
 put-number-requires : tie.Need-put-number-requires
 put-number-requires c κs =
     omega (
@@ -45,7 +42,6 @@ put-number-requires c κs =
       c .before .before .before .put-word .kept .0,
     )
 
--- src/lib.rt:41:9
 put-number-requires-2 : tie.Need-put-number-requires-2
 put-number-requires-2 c κs =
     omega (
@@ -70,7 +66,6 @@ put-number-requires-2 c κs =
           .before .before .before .put-number .kept .0,
     )
 
--- src/lib.rt:42:5
 put-number-requires-3 : tie.Need-put-number-requires-3
 put-number-requires-3 c κs =
     omega (
@@ -102,11 +97,9 @@ put-number-requires-3 c κs =
       c .before .before .before .put-number2 .kept .0,
     )
 
--- src/lib.rt:35:1
 same-length : tie.Need-same-length
 same-length c = search needs
 
--- src/lib.rt:35:1
 returns : tie.Need-returns
 returns c =
     best-step (c .before .before .before .before .before .before .before .before .before .before .before .before .before

@@ -13,19 +13,15 @@ use Rattle.program_rules.proofs.headlines.put_number.Reads as reads
 use Rattle.program_rules.proofs.headlines.put_number.Lts as lts
 use Rattle.decimal.proofs.put_digits.Reads as put-digits-reads
 
--- src/lib.rt:22:37
 sub-put-digits : tie.Need-sub-put-digits
 sub-put-digits c = search needs
 
--- src/lib.rt:22:37
 part-put-digits-start : tie.Need-part-put-digits-start
 part-put-digits-start c = search needs
 
--- src/lib.rt:22:37
 part-put-digits-end : tie.Need-part-put-digits-end
 part-put-digits-end c = search needs
 
--- src/lib.rt:22:17
 put-digits-requires : tie.Need-put-digits-requires
 put-digits-requires c κs =
     omega (
@@ -38,7 +34,6 @@ put-digits-requires c κs =
           (c .before .before .args .p) (c .before .before .args .out .now),
     )
 
--- src/lib.rt:22:13
 add-e : tie.Need-add-e
 add-e c =
     omega (
@@ -50,7 +45,6 @@ add-e c =
       c .before .before .put-digits .ensures .long,
     )
 
--- src/lib.rt:23:5
 slice-write-out : tie.Need-slice-write-out
 slice-write-out c =
     omega (
@@ -76,7 +70,6 @@ slice-write-out c =
           )),
     )
 
--- src/lib.rt:24:5
 add-result : tie.Need-add-result
 add-result c =
     omega (
@@ -88,11 +81,9 @@ add-result c =
       c .before .before .put-digits .ensures .long,
     )
 
--- src/lib.rt:18:1
 same-length : tie.Need-same-length
 same-length c = search needs
 
--- src/lib.rt:18:1
 returns : tie.Need-returns
 returns c =
     number-step (c .before .before .before .before .before .args .out .now)

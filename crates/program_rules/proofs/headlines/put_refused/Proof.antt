@@ -10,16 +10,13 @@ use Rattle.program_rules.proofs.headlines.put_refused.Lts as lts
 use Rattle.program_rules.proofs.headlines.put_number.Reads as put-number-reads
 use Rattle.program_rules.proofs.headlines.put_word.Reads as put-word-reads
 
--- src/lib.rt:85:30
 slice-aggregate-put-word : tie.Need-slice-aggregate-put-word
 slice-aggregate-put-word c = search needs
 
--- src/lib.rt:85:9
 put-word-requires : tie.Need-put-word-requires
 put-word-requires c κs =
     omega (arith, c .before .before .before .pre, refused-length (c .before .before .before .args .k))
 
--- src/lib.rt:86:5
 put-number-requires : tie.Need-put-number-requires
 put-number-requires c κs =
     omega (
@@ -34,11 +31,9 @@ put-number-requires c κs =
       c .before .before .before .put-word .kept .0,
     )
 
--- src/lib.rt:81:1
 same-length : tie.Need-same-length
 same-length c = search needs
 
--- src/lib.rt:81:1
 returns : tie.Need-returns
 returns c =
     refused-step (c .before .before .before .before .before .before .before .before .before .before .args .out .now)

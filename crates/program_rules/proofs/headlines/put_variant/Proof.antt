@@ -10,11 +10,9 @@ use Rattle.program_rules.proofs.headlines.put_variant.Lts as lts
 use Rattle.program_rules.proofs.headlines.put_number.Reads as put-number-reads
 use Rattle.program_rules.proofs.headlines.put_word.Reads as put-word-reads
 
--- src/lib.rt:74:30
 slice-aggregate-put-word : tie.Need-slice-aggregate-put-word
 slice-aggregate-put-word c = search needs
 
--- src/lib.rt:74:9
 put-word-requires : tie.Need-put-word-requires
 put-word-requires c κs =
     omega (
@@ -24,7 +22,6 @@ put-word-requires c κs =
           (c .before .before .before .args .c) (c .before .before .before .args .n),
     )
 
--- src/lib.rt:75:9
 put-number-requires : tie.Need-put-number-requires
 put-number-requires c κs =
     omega (
@@ -45,7 +42,6 @@ put-number-requires c κs =
       c .before .before .before .put-word .kept .0,
     )
 
--- src/lib.rt:76:9
 put-number-requires-2 : tie.Need-put-number-requires-2
 put-number-requires-2 c κs =
     omega (
@@ -70,7 +66,6 @@ put-number-requires-2 c κs =
           .before .before .before .put-number .kept .0,
     )
 
--- src/lib.rt:77:5
 put-number-requires-3 : tie.Need-put-number-requires-3
 put-number-requires-3 c κs =
     omega (
@@ -102,11 +97,9 @@ put-number-requires-3 c κs =
       c .before .before .before .put-number2 .kept .0,
     )
 
--- src/lib.rt:70:1
 same-length : tie.Need-same-length
 same-length c = search needs
 
--- src/lib.rt:70:1
 returns : tie.Need-returns
 returns c =
     variant-step (c .before .before .before .before .before .before .before .before .before .before .before .before

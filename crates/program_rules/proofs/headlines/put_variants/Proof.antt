@@ -10,11 +10,9 @@ use Rattle.program_rules.proofs.headlines.put_variants.Lts as lts
 use Rattle.program_rules.proofs.headlines.put_number.Reads as put-number-reads
 use Rattle.program_rules.proofs.headlines.put_word.Reads as put-word-reads
 
--- src/lib.rt:57:30
 slice-aggregate-put-word : tie.Need-slice-aggregate-put-word
 slice-aggregate-put-word c = search needs
 
--- src/lib.rt:57:9
 put-word-requires : tie.Need-put-word-requires
 put-word-requires c κs =
     omega (
@@ -24,7 +22,6 @@ put-word-requires c κs =
           (c .before .before .before .args .p),
     )
 
--- src/lib.rt:58:9
 put-number-requires : tie.Need-put-number-requires
 put-number-requires c κs =
     omega (
@@ -42,7 +39,6 @@ put-number-requires c κs =
       c .before .before .before .put-word .kept .0,
     )
 
--- src/lib.rt:59:5
 put-number-requires-2 : tie.Need-put-number-requires-2
 put-number-requires-2 c κs =
     omega (
@@ -64,11 +60,9 @@ put-number-requires-2 c κs =
           .before .before .before .put-number .kept .0,
     )
 
--- src/lib.rt:53:1
 same-length : tie.Need-same-length
 same-length c = search needs
 
--- src/lib.rt:53:1
 returns : tie.Need-returns
 returns c =
     variants-step (c .before .before .before .before .before .before .before .before .before .before .before .before

@@ -8,31 +8,24 @@ use Rattle.program_rules.proofs.headlines.put_word.Reads as reads
 use Rattle.program_rules.proofs.headlines.put_word.Lts as lts
 use Rattle.text_pieces.proofs.put_bytes.Reads as put-bytes-reads
 
--- src/lib.rt:14:27
 sub-put-bytes : tie.Need-sub-put-bytes
 sub-put-bytes c = search needs
 
--- src/lib.rt:14:27
 part-put-bytes-start : tie.Need-part-put-bytes-start
 part-put-bytes-start c = search needs
 
--- src/lib.rt:14:27
 part-put-bytes-end : tie.Need-part-put-bytes-end
 part-put-bytes-end c = search needs
 
--- src/lib.rt:14:9
 put-bytes-requires : tie.Need-put-bytes-requires
 put-bytes-requires c κs = search needs
 
--- src/lib.rt:14:5
 add-result : tie.Need-add-result
 add-result c = search needs
 
--- src/lib.rt:10:1
 same-length : tie.Need-same-length
 same-length c = search needs
 
--- src/lib.rt:10:1
 returns : tie.Need-returns
 returns c =
     step-of-tail (c .before .before .before .before .before .before .args .out .now)

@@ -8,15 +8,12 @@ use Rattle.program_rules.proofs.headlines.variants_length.Reads as read
 use Rattle.program_rules.proofs.headlines.variants_length.Lts as lts
 use Rattle.decimal.proofs.digits_length.Reads as digits-length-reads
 
--- src/lib.rt:49:5
 digits-length-requires : tie.Need-digits-length-requires
 digits-length-requires c κs = search needs
 
--- src/lib.rt:49:33
 digits-length-requires-2 : tie.Need-digits-length-requires-2
 digits-length-requires-2 c κs = search needs
 
--- src/lib.rt:49:5
 add-result : tie.Need-add-result
 add-result c =
     omega (
@@ -29,7 +26,6 @@ add-result c =
           .digits-length2 .ensures,
     )
 
--- src/lib.rt:49:5
 add-result-2 : tie.Need-add-result-2
 add-result-2 c =
     omega (
@@ -42,7 +38,6 @@ add-result-2 c =
           .digits-length2 .ensures,
     )
 
--- src/lib.rt:46:1
 returns : tie.Need-returns
 returns c =
     omega (

@@ -11,44 +11,35 @@ use Rattle.program_rules.proofs.queries.ask.Reads as reads
 use Rattle.program_rules.proofs.queries.ask.Lts as lts
 use Rattle.bits.proofs.read.Reads as read-reads
 
--- src/lib.rt:18:9
 read-requires : tie.Need-read-requires
 read-requires c κs = search needs
 
--- src/lib.rt:19:22
 enum-known-first : tie.Need-enum-known-first
 enum-known-first c = search needs
 
--- src/lib.rt:20:31
 enum-told : tie.Need-enum-told
 enum-told c = search needs
 
--- src/lib.rt:20:9
 returns : tie.Need-returns
 returns c =
     sym (no-mode (c .before .before .before .before .args .input .now)
     (field-short (c .before .before .read .ensures) (c .enum-told .given .1)))
 
--- src/lib.rt:23:9
 returns-2 : tie.Need-returns-2
 returns-2 c =
     sym (bad-mode (c .before .before .before .before .before .before .args .input .now) _ _
     (field-value (c .before .before .before .before .read .ensures) (c .before .before .first .given .1))
     (eq-eqb _ 3 (c .if1 .taken)))
 
--- src/lib.rt:25:9
 read-requires-2 : tie.Need-read-requires-2
 read-requires-2 c κs = search needs
 
--- src/lib.rt:26:22
 enum-known-second : tie.Need-enum-known-second
 enum-known-second c = search needs
 
--- src/lib.rt:27:31
 enum-told-2 : tie.Need-enum-told-2
 enum-told-2 c = search needs
 
--- src/lib.rt:27:9
 returns-3 : tie.Need-returns-3
 returns-3 c =
     sym (no-sort (c .before .before .before .before .before .before .before .before .before .args .input .now) _ _
@@ -57,19 +48,15 @@ returns-3 c =
     (ne-eqb _ 3 (c .before .before .before .if1 .left))
     (field-short (c .before .before .read2 .ensures) (c .enum-told2 .given .1)))
 
--- src/lib.rt:29:9
 read-requires-3 : tie.Need-read-requires-3
 read-requires-3 c κs = search needs
 
--- src/lib.rt:30:22
 enum-known-third : tie.Need-enum-known-third
 enum-known-third c = search needs
 
--- src/lib.rt:31:31
 enum-told-3 : tie.Need-enum-told-3
 enum-told-3 c = search needs
 
--- src/lib.rt:31:9
 returns-4 : tie.Need-returns-4
 returns-4 c =
     sym (no-value (c .before .before .before .before .before .before .before .before .before .before .before .before
@@ -81,19 +68,15 @@ returns-4 c =
     (c .before .before .before .before .second .given .1))
     (field-short (c .before .before .read3 .ensures) (c .enum-told3 .given .1)))
 
--- src/lib.rt:33:9
 read-requires-4 : tie.Need-read-requires-4
 read-requires-4 c κs = search needs
 
--- src/lib.rt:34:22
 enum-known-fourth : tie.Need-enum-known-fourth
 enum-known-fourth c = search needs
 
--- src/lib.rt:35:31
 enum-told-4 : tie.Need-enum-told-4
 enum-told-4 c = search needs
 
--- src/lib.rt:35:9
 returns-5 : tie.Need-returns-5
 returns-5 c =
     sym (no-count (c .before .before .before .before .before .before .before .before .before .before .before .before
@@ -110,7 +93,6 @@ returns-5 c =
     (c .before .before .before .before .third .given .1))
     (field-short (c .before .before .read4 .ensures) (c .enum-told4 .given .1)))
 
--- src/lib.rt:15:1
 returns-6 : tie.Need-returns-6
 returns-6 c =
     sym (whole-query (c .before .before .before .before .before .before .before .before .before .before .before .before

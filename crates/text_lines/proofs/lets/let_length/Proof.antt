@@ -31,29 +31,23 @@ own-piece s =
     piece-of-unnamed (seen s) 18446744073709551615 0 0 (s .args .n - 1)
     (omega (arith, s .pre .0 .countLow (s .args .n - 1) (omega (arith, s .pre .1 .0))))
 
--- src/lib.rt:42:13
 sub-t : tie.Need-sub-t
 sub-t c = search needs
 
--- src/lib.rt:43:9
 lines-length-requires : tie.Need-lines-length-requires
 lines-length-requires c κs = search needs
 
--- src/lib.rt:46:9
 text-length-requires : tie.Need-text-length-requires
 text-length-requires c κs =
     let s = c .before .before .before .before .before .before .before .before in
     (s .pre .0, (omega (arith, s .pre .1 .0), omega (arith, s .pre .0 .readable .few)))
 
--- src/lib.rt:47:17
 add-requires : tie.Need-add-requires
 add-requires c κs = search needs
 
--- src/lib.rt:47:5
 add-requires-2 : tie.Need-add-requires-2
 add-requires-2 c κs = search needs
 
--- src/lib.rt:12:1
 returns : tie.Need-returns
 returns c =
     let s = c .before .before .before .before .before .before .before .before .before .before .before in

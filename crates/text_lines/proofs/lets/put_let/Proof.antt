@@ -55,24 +55,20 @@ room s =
           (s .args .indents .now) (s .args .n) (s .args .m),
     )
 
--- src/lib.rt:89:13
 sub-t : tie.Need-sub-t
 sub-t c = search needs
 
--- src/lib.rt:90:9
 put-lines-requires : tie.Need-put-lines-requires
 put-lines-requires c κs =
     let s = c .before .before .before .before .before .before .before .before .before in
     (s .pre .0, (s .pre .1 .1 .0, omega (arith, room s)))
 
--- src/lib.rt:93:5
 slice-write-out : tie.Need-slice-write-out
 slice-write-out c =
     let s = c .before .before .before .before .before .before .before .before .before .before .before .before in
     byte-place (s .args .out .now) (lines s) (root s) 10 (room s) (c .before .before .put-lines .last .0)
     (c .before .before .put-lines .result) (c .before .before .put-lines .ensures)
 
--- src/lib.rt:94:5
 add-p : tie.Need-add-p
 add-p c =
     let s = c .before .before .before .before .before .before .before .before .before .before .before .before in
@@ -84,22 +80,18 @@ add-p c =
           (c .before .before .put-lines .result) (c .before .before .put-lines .ensures),
     )
 
--- src/lib.rt:96:9
 sub-put : tie.Need-sub-put
 sub-put c =
     let s = c .before .before .before .before .before .before .before .before .before .before .before .before in
     tail-place (s .args .out .now) (lines s) (root s) 10 (room s) (c .before .before .put-lines .last .0)
     (c .before .before .put-lines .result) (c .before .before .put-lines .ensures)
 
--- src/lib.rt:96:9
 part-put-start : tie.Need-part-put-start
 part-put-start c = sub-put c
 
--- src/lib.rt:96:9
 part-put-end : tie.Need-part-put-end
 part-put-end c = search needs
 
--- src/lib.rt:95:9
 put-requires : tie.Need-put-requires
 put-requires c κs =
     let s = c .before .before .before .before .before .before .before .before .before .before .before .before .before in (
@@ -116,7 +108,6 @@ put-requires c κs =
       ),
     )
 
--- src/lib.rt:95:5
 add-result : tie.Need-add-result
 add-result c =
     let s = c .before .before .before .before .before .before .before .before .before .before .before .before .before
@@ -131,7 +122,6 @@ add-result c =
           (c .before .before .put .result) (rw (own-piece s) at (c .before .before .put .ensures)),
     )
 
--- src/lib.rt:51:1
 same-length : tie.Need-same-length
 same-length c =
     let s = c .before .before .before .before .before .before .before .before .before .before .before .before .before
@@ -142,7 +132,6 @@ same-length c =
     (c .before .before .before .before .before .before .put-lines .ensures) (c .before .before .put .last .0)
     (c .before .before .put .result) (rw (own-piece s) at (c .before .before .put .ensures))
 
--- src/lib.rt:51:1
 returns : tie.Need-returns
 returns c =
     let s = c .before .before .before .before .before .before .before .before .before .before .before .before .before
