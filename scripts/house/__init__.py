@@ -32,8 +32,8 @@ PUBLIC = ("file", "term", "text", "extract", "program", "needlevale_c", "lent_te
 # Constructors that every .antt file has without a `use` line.
 PRELUDE = ("_", "zero", "suc", "[]", "true", "false", "tt", "yes", "no", "refl")
 
-# The files, and the records in them, that are promise pages.
-PAGES = ("Promises", "Cases")
+# The files, and the records in them, that are promise pages; the first is the one at the top of all, if there is one.
+PAGES = ("Main", "Promises", "Cases")
 
 
 def floor_of(crate):
@@ -263,19 +263,41 @@ class House:
                 todo += [source.path + (name,) for name, public in source.mods.items() if public]
         return found
 
+    def pages(self):
+        """The promise pages: each record of a page's name in a crate's specs/."""
+        return [d for key in self.modules if key[1] == "specs" for decl in self.modules[key].decls
+                for d in (decl.parts or [decl]) if d.kind == "record" and d.name in PAGES]
+
+    # -- order
+
+    def place(self, module):
+        """A file's place in reading order: by floor; crate, rules first; the code's types; specs/ as `mod` lines go."""
+        order = list(self.listed)
+        rules = not module.crate.endswith("_rules")
+        files_ = [m.path for m in self.reached(module.crate, module.part)] if module.part != "src" else []
+        place = files_.index(module.path) if module.path in files_ else len(files_)
+        return (floor_of(module.crate), rules, order.index(module.crate), ("src", "specs", "proofs").index(module.part),
+                place, module.path)
+
     # -- reach
 
     def reached(self, crate, part):
-        """The modules of a part that `pub mod` lines lead to: from Lib.antt and, in proofs/, from a code module's file."""
-        todo = [()]
-        if part == "proofs":
-            todo += [path for (c, path) in self.sources if c == crate and path]
+        """The modules that `pub mod` lines lead to, from Lib.antt and, in proofs/, from a code module's file."""
         seen = []
-        while todo:
-            module = self.modules.get((crate, part, todo.pop()))
+
+        def visit(path):
+            module = self.modules.get((crate, part, path))
             if module and module not in seen:
                 seen.append(module)
-                todo += [module.path + (name,) for name, public in module.children.items() if public]
+                for name, public in module.children.items():
+                    if public:
+                        visit(path + (name,))
+
+        visit(())
+        if part == "proofs":
+            for name, path in self.sources:
+                if name == crate and path:
+                    visit(path)
         return seen
 
     # -- dependencies

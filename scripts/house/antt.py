@@ -209,9 +209,9 @@ class Decl:
     """A declaration of an .antt file or a type of an .rt file.
 
     names: what it declares, constructors among it (all of a mutual block's are one declaration). heads: the
-    constructors. lines: the numbers of its lines, with its comment's, without blank ones. uses: the names that it refers
-    to. public: whether it is marked `pub`. type: the tree of a signature's type. params: that of a record's or data
-    type's parameters. section: the words of the `module _` headers around it. parts: the members of a mutual block.
+    constructors. lines: the numbers of its lines, with its comment's, without blank ones. uses: the names that it
+    refers to. public: whether it is marked `pub`. type: the tree of a signature's type. params: that of a record's or
+    data type's parameters. section: the words of the `module _` headers around it. parts: a mutual block's members.
     """
 
     def __init__(self, module, kind, name, public, lines):

@@ -254,8 +254,8 @@ class Reading(unittest.TestCase):
     def test_words(self):
         found, comments = house.words('a.b (λ x. x .f) «in» "λ -- \\" x" -- c\n-- d\n{- e {- f -}\n -} g-h\n')
         self.assertEqual([(w.kind, w.text) for w in found if w.kind not in "()"], [
-            ("name", "a.b"), ("name", "λ"), ("name", "x"), ("dot", "."), ("name", "x"), ("field", ".f"), ("name", "«in»"),
-            ("text", '"λ -- \\" x"'), ("name", "g-h")])
+            ("name", "a.b"), ("name", "λ"), ("name", "x"), ("dot", "."), ("name", "x"), ("field", ".f"),
+            ("name", "«in»"), ("text", '"λ -- \\" x"'), ("name", "g-h")])
         self.assertEqual(comments, {2, 3, 4})
 
     def test_floors(self):

@@ -101,7 +101,7 @@ class Promises(unittest.TestCase):
 
     def test_file_without_a_record(self):
         self.refused("crates/low/specs/Promises.antt", "pub record Promises", "pub record Kept",
-                     "crates/low/specs/Promises.antt: has no record named Promises or Cases")
+                     "crates/low/specs/Promises.antt: has no record named Main or Promises or Cases")
 
     def test_proving_crate_not_listed(self):
         self.refused("crates.txt", "up: low\n", "", "crates/low/specs/Sheet.antt: the record Cases is not kept")
