@@ -1,4 +1,3 @@
-# shellcheck shell=bash
 # A function for the steps of ./test whose script has tests of its own: tested NAME runs scripts/tests/NAME.py, and
 # shows what it says only where it fails. To be sourced by bash in the repository's top.
 tested() {
