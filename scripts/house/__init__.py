@@ -163,13 +163,10 @@ class House:
         if steps[0] in module.own:
             return module.own[steps[0]]
         if steps[0] in module.imports:
-            return self.at(module.imports[steps[0]] + steps[1:])
-        if steps[0] in module.aliases and len(steps) > 1:
-            return self.at(module.aliases[steps[0]] + steps[1:])
-        if steps[0] in module.children and len(steps) > 1:
-            return self.within(self.modules.get((module.crate, module.part, module.path + steps[:1])), steps[1:])
-        if steps[0].startswith("Rattle·"):
-            return self.at(steps)
+            return self.at(self.whole(module, module.imports[steps[0]]) + steps[1:])
+        modules = steps[0] in module.aliases or steps[0] in module.children or steps[0].startswith("Rattle·")
+        if modules and len(steps) > 1:
+            return self.at(self.whole(module, steps))
         for path, _ in module.globs:
             child = self.modules.get((module.crate, module.part, module.path + path))
             target = self.within(child, steps) if child else None
@@ -178,6 +175,14 @@ class House:
         for whole in sorted(module.parts_of.get(steps[0], ())):
             return self.resolve(module, whole)
         return None
+
+    @staticmethod
+    def whole(module, steps):
+        """A path of a module from its library on: it may begin with a child of the module or a name for another."""
+        if steps[0] in module.children:
+            return ("Rattle·" + module.crate, module.part) + module.path + steps
+        alias = module.aliases.get(steps[0], steps)
+        return steps if alias[0] == steps[0] else House.whole(module, alias) + steps[1:]
 
     def at(self, steps):
         """What a whole path means, from its library on."""
@@ -214,9 +219,9 @@ class House:
             return module.own[steps[0]]
         if steps[0] in module.passed:
             if steps[0] in module.imports:
-                return self.at(module.imports[steps[0]] + steps[1:])
+                return self.at(self.whole(module, module.imports[steps[0]]) + steps[1:])
             if len(steps) > 1:
-                return self.at(module.aliases[steps[0]] + steps[1:])
+                return self.at(self.whole(module, steps))
         for path, public in module.globs:
             child = self.modules.get((module.crate, module.part, module.path + path))
             target = self.within(child, steps) if public and child else None

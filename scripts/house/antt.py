@@ -202,7 +202,7 @@ def assigned(group):
 
 # ---- The declarations of .antt
 
-MARKS = ("unfoldable", "abbrev", "axiom", "pub", "private")
+MARKS = ("unfoldable", "abbrev", "axiom", "pub")
 
 
 class Decl:
@@ -262,8 +262,7 @@ class Module:
         starts = [i for i, w in enumerate(flat) if w.first and w.column == column and w.kind not in CLOSES]
         current = None
         for start, end in zip(starts, starts[1:] + [len(flat)]):
-            item = flat[start:end]
-            current = self.item(item, column, section, current)
+            current = self.item(flat[start:end], section, current)
 
     def lines_of(self, item):
         """The lines of an item's words, and of the comments within it and right above it."""
@@ -275,7 +274,8 @@ class Module:
             above_it -= 1
         return lines
 
-    def item(self, item, column, section, current):
+    def item(self, item, section, current):
+        """Reads an item of a block; gives the declaration that clauses after it belong to."""
         marks = 0
         while marks < len(item) and item[marks].text in MARKS:
             marks += 1
@@ -362,7 +362,7 @@ class Module:
         head = tree(body[2:where])
         colon = position(head, ":")
         decl.params = head[: len(head) if colon is None else colon]
-        inner, bound = body[where + 1 :], [node for node in decl.params]
+        inner, bound = body[where + 1 :], list(decl.params)
         if not inner:
             self.pending.append((decl, "term", head))
             return decl
@@ -370,9 +370,9 @@ class Module:
         starts = [i for i, w in enumerate(inner) if w.first and w.column == column and w.kind not in CLOSES]
         members = []
         for start, end in zip(starts, starts[1:] + [len(inner)]):
-            part = [w for w in inner[start:end]]
+            part = inner[start:end]
             while part and part[0].text in MARKS:
-                part.pop(0)
+                part = part[1:]
             if len(part) > 1 and part[1].text == ":":
                 members.append((plain(part[0].text), tree(part[2:])))
         if decl.kind == "data":

@@ -65,7 +65,15 @@ mutual
     "crates/low/specs/Facade.antt": """pub use Rattle.low.specs.Lists.{Pair, red as crimson}
 use Rattle.low.specs.Lists.{secret}
 """,
-    "crates/low/specs/Deep.antt": "pub mod Below\npub use Below.*\n",
+    "crates/low/specs/Deep.antt": """pub mod Below
+pub use Below.*
+use Below.{deepest as own}
+use Rattle.low.specs as low
+use low.Lists.{Hue}
+
+by-child : Hue
+by-child = own Below.value low.Lists.secret
+""",
     "crates/low/specs/Deep/Below.antt": "pub deepest : ℕ\ndeepest = 1\n\npub value : ℕ\nvalue = 2\n",
     "crates/low/specs/Hidden.antt": "pub hidden : ℕ\nhidden = 1\n",
     "crates/term/src/lib.rt": """// Terms.
@@ -200,6 +208,10 @@ class Reading(unittest.TestCase):
     def test_pub_use_and_modules(self):
         self.uses("through", "Pair", "Hue")
         self.uses("whole", "deepest")
+
+    def test_paths_from_children_and_names(self):
+        decl = self.decl("by-child", ("low", "specs", ("Deep",)))
+        self.assertEqual(sorted(d.name for d in self.house.uses(decl)), ["Hue", "deepest", "secret", "value"])
 
     def test_not_passed_on(self):
         facade = self.house.modules["low", "specs", ("Facade",)]

@@ -8,7 +8,7 @@ syntax iskeyword 33,35-39,42,43,45,47-58,60-63,65-122,124,126,128-255
 setlocal commentstring=--\ %s
 
 syntax keyword anttDeclare data record module mutual ruleset deriving infix infixl infixr axiom
-syntax keyword anttMark pub abbrev unfoldable unfolding private
+syntax keyword anttMark pub abbrev unfoldable unfolding
 syntax keyword anttModule use mod package open using as
 syntax keyword anttWord where let in do elim unfold
 syntax match anttWord /[λ∀→↦]/
