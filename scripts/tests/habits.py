@@ -99,7 +99,7 @@ class Habits(unittest.TestCase):
         self.assertEqual(lines[:2], ["== low", "logic=proved functions=1"])
         self.assertEqual(lines[3:], [
             "== what this changes",
-            "low: 4 s last time; its 1 must-fail edits 5 s",
+            "low: 4 s last time; must-fail edits: 1, 5 s",
             "  above: mid                not timed",
             "  above: top                30 s",
             "above: 2 crates, 30 s in all and 1 not timed",
