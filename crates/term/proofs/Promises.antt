@@ -8,7 +8,14 @@ use Rattle.term_order.specs.TreeOrder.{atMost}
 use Rattle.term_order.proofs.LawfulLaws.{trees-tells, atMost-linear}
 use Rattle.term_order.proofs.CodeLaws.{compare-same}
 use Rattle.term.specs.Promises.{Promises}
-use Rattle.term.proofs.DeterminedLaws.{added-once, looked-once, counted-once, compared-once, sorted-once}
+use Rattle.term.proofs.DeterminedLaws.{
+  added-once,
+  looked-once,
+  counted-once,
+  got-once,
+  compared-once,
+  sorted-once,
+}
 use Rattle.term.proofs.PromiseLaws.{
   literal-after,
   variable-after,
@@ -42,6 +49,7 @@ promises = record {
   addDetermined = added-once;
   findDetermined = looked-once;
   sizeDetermined = counted-once;
+  getDetermined = got-once;
   compareDetermined = compared-once;
   sortDetermined = sorted-once;
 }

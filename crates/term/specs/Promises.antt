@@ -21,9 +21,20 @@ use Rattle.term_order.specs.TreeOrder.{trees, compareAt, atMost}
 use Rattle.term.specs.declared.Added.{Added}
 use Rattle.term.specs.declared.Looked.{Looked}
 use Rattle.term.specs.declared.Counted.{Counted}
+use Rattle.term.specs.declared.Got.{Got}
 use Rattle.term.specs.declared.Compared.{Compared}
 use Rattle.term.specs.declared.Verdict.{Verdict}
-use Rattle.term.specs.Answers.{Answer, given, refused, seenAdded, seenFound, seenCount, seenOrder, seenSort}
+use Rattle.term.specs.Answers.{
+  Answer,
+  given,
+  refused,
+  seenAdded,
+  seenFound,
+  seenCount,
+  seenGot,
+  seenOrder,
+  seenSort,
+}
 use Rattle.term.specs.Calls.{addLiteral, addVariable, addApplication, sortTerms}
 
 -- A call that adds: with a number, the store has grown, is well formed, and has the node under that number (`Takes`);
@@ -109,5 +120,6 @@ pub record Promises : Type 0 where
       (r ≡ r′) × (rs ≡ rs′) × (ls ≡ ls′) × (ns ≡ ns′)
   pub findDetermined : (r r′ : Looked) → seenFound r ≡ seenFound r′ → r ≡ r′
   pub sizeDetermined : (r r′ : Counted) → seenCount r ≡ seenCount r′ → r ≡ r′
+  pub getDetermined : (r r′ : Got) → seenGot r ≡ seenGot r′ → r ≡ r′
   pub compareDetermined : (r r′ : Compared) → seenOrder r ≡ seenOrder r′ → r ≡ r′
   pub sortDetermined : (r r′ : Verdict) (l m : List ℕ) → seenSort r l ≡ seenSort r′ m → (r ≡ r′) × (l ≡ m)
