@@ -1,6 +1,5 @@
 -- The promises of the crate `lent_terms` hold. Assumes nothing.
 use Rattle.term_rules.specs.Lent.{Store}
-use Rattle.term_rules.specs.Nodes.{literal, variable, application}
 use Rattle.term.specs.Calls.{addLiteral, addVariable, addApplication}
 use Rattle.term.proofs.Promises.{promises as flat}
 use Rattle.lent_terms.specs.Promises.{Promises}
@@ -8,11 +7,10 @@ use Rattle.lent_terms.proofs.PromiseLaws.{refusal-keeps, added-determin
 
 pub promises : Promises
 promises = record {
-  literalKept = λ z. refusal-keeps (λ (s : Store). addLiteral s z) (literal z) (λ s. flat .literalAdded s z);
-  variableKept = λ name. refusal-keeps (λ (s : Store). addVariable s name) (variable name)
-      (λ s. flat .variableAdded s name);
+  literalKept = λ z. refusal-keeps (λ (s : Store). addLiteral s z) (λ s. flat .literalAdded s z .unchanged);
+  variableKept = λ name.
+      refusal-keeps (λ (s : Store). addVariable s name) (λ s. flat .variableAdded s name .unchanged);
   applicationKept = λ name ks.
-      refusal-keeps (λ (s : Store). addApplication s name ks) (application name ks)
-      (λ s. flat .applicationAdded s name ks);
+      refusal-keeps (λ (s : Store). addApplication s name ks) (λ s. flat .applicationAdded s name ks .unchanged);
   addDetermined = added-determined;
 }

@@ -9,7 +9,6 @@ use lib.Dec.{leb, ltb}
 use lib.ListN.{length}
 use lib.IntN.{ℤ}
 use Rattle.name.specs.Name.{valid}
-use Rattle.name.specs.declared.Found.{Found}
 use Rattle.name.specs.declared.Found.the-variants.{At, Missing}
 use Rattle.refusal.specs.declared.Refusal.{Refusal}
 use Rattle.refusal.specs.declared.Refusal.the-variants.{BadStore, BadName, BadSize, BadTerm, NoRoom, Absent}

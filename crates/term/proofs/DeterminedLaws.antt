@@ -30,13 +30,13 @@ use Rattle.term.specs.Answers.{
   seenSort,
 }
 
-given-same : {A : Type 0} {a b : A} → given a ≡ given b → a ≡ b
+pub given-same : {A : Type 0} {a b : A} → given a ≡ given b → a ≡ b
 given-same e = cc
 
-refused-same : {A : Type 0} {m n : ℕ} → _≡_ {A = Answer A} (refused m) (refused n) → m ≡ n
+pub refused-same : {A : Type 0} {m n : ℕ} → _≡_ {A = Answer A} (refused m) (refused n) → m ≡ n
 refused-same e = cc
 
-given-refused : {P A : Type 0} {a : A} {n : ℕ} → given a ≡ refused n → P
+pub given-refused : {P A : Type 0} {a : A} {n : ℕ} → given a ≡ refused n → P
 given-refused e = let z : _≡_ {A = ℕ} 0 1 = cc in absurd (omega arith)
 
 pub looked-once : (r q : Looked) → seenFound r ≡ seenFound q → r ≡ q
