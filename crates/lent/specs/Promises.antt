@@ -38,7 +38,7 @@ pub record Promises : Type 0 where
       (ts : List Term) (ns : List (List ℕ)) (s : Store) (n m : ℕ) → length (s .records) ≡ min 1024 (length ts) * 11 →
       length (s .literals) ≡ min 1024 (length ts) → length (s .names) ≡ min 128 (length ns) * 32 →
       lentStore (recordsAfter ts s) (entriesAfter ns (s .names)) n m ≡ store (s .records) (s .literals) (s .names) n m
-  -- Lent lists that mean one store agree in their first 1,024 records and 128 entries.
+  -- No two lent lists mean one store: they agree in their first 1,024 records and 128 entries, which are the store.
   pub once :
       (ts ts′ : List Term) (ns ns′ : List (List ℕ)) (n m : ℕ) → Shaped ts ns → Shaped ts′ ns′ →
       lentStore ts ns n m ≡ lentStore ts′ ns′ n m → (take 1024 ts ≡ take 1024 ts′) × (take 128 ns ≡ take 128 ns′)

@@ -1,7 +1,7 @@
 -- From the flat call's answer to the answer on lent lists. Assumes nothing.
-use Prim.Native.Nat.{ℕ, _+_, _*_, _≤_, min}
+use Prim.Native.Nat.{ℕ, _+_, _*_, min}
 use mathlib.Core.Path.{_≡_, refl, ap, sym, _∙_, subst}
-use mathlib.Core.List.{List, [], _∷_, _++_}
+use mathlib.Core.List.{List, _++_}
 use lib.ListN.{length, take, drop}
 use lib.Seq.{take-at}
 use lib.IntN.{ℤ}
@@ -19,6 +19,7 @@ use Rattle.lent.proofs.StoreLaws.{
   recordsAfter-lists,
   recordsAfter-same,
   entriesAfter-same,
+  lentStore-after,
 }
 use Rattle.answer_rules.specs.Answers.{After}
 use Rattle.answer_rules.specs.Best.{BestTerm}
@@ -61,14 +62,15 @@ module _ (A : Type 0) (storeOf : A → Store) (seen : Seen A) (faith : Faithful 
   -- the work answers as the flat call does, whose lists rs, ls and bs stand in front of the rest of the arrays
   worked-in :
       (f : Flat) (ns ns′ : List (List ℕ)) (wanted : A) (rs bs : List ℕ) (ls : List ℤ) →
-      length rs ≡ f .room * 11 → length ls ≡ f .room → AllWide (take 128 ns) → ns′ ≡ entriesAfter ns bs →
+      length rs ≡ f .room * 11 → length ls ≡ f .room → length bs ≡ min 128 (length ns) * 32 → AllWide (take 128 ns) →
+      ns′ ≡ entriesAfter ns bs →
       seen rs ls bs ≡ wanted →
       Worked A storeOf f ns wanted seen record {
         records = rs ++ drop (f .room * 11) (f .records);
         literals = ls ++ drop (f .room) (f .literals);
         room = f .room;
       } ns′
-  worked-in f ns ns′ wanted rs bs ls long wide all after e =
+  worked-in f ns ns′ wanted rs bs ls long wide size all after e =
       let records : rs ≡ storeOf wanted .records =
       sym (faith .records rs ls bs) ∙ ap (λ (w : A). storeOf w .records) e in
       let literals : ls ≡ storeOf wanted .literals =
@@ -85,6 +87,9 @@ module _ (A : Type 0) (storeOf : A → Store) (seen : Seen A) (faith : Faithful 
         literals = take-at ls (drop (f .room) (f .literals)) (f .room) wide ∙ literals;
         entries = after ∙ ap (entriesAfter ns) names;
         kept = λ same. after ∙ ap (entriesAfter ns) (names ∙ same) ∙ entriesAfter-same ns all;
+        long = ap length (sym records) ∙ long;
+        wide = ap length (sym literals) ∙ wide;
+        named = ap length (sym names) ∙ size;
       }
 
   -- a call that leaves the bytes bs′ in front of the rest of its own
@@ -99,7 +104,7 @@ module _ (A : Type 0) (storeOf : A → Store) (seen : Seen A) (faith : Faithful 
         room = f .room;
       } ns′
   worked f ns n m model rs bs ls long wide copied all bs′ rest ns′ size after e =
-      worked-in f ns ns′ (model (storeIn f ns n m)) rs bs′ ls long wide all
+      worked-in f ns ns′ (model (storeIn f ns n m)) rs bs′ ls long wide size all
       (after ∙ entriesAfter-front ns bs′ rest size) (e ∙ ap model (storeIn-is f ns n m bs copied))
 
 -- the call on lent lists answers as the work does on what was copied of them
@@ -112,7 +117,8 @@ pub lent-left :
 unfolding lentStore
 lent-left A storeOf seen ts ts′ ns ns′ f g n m model l a back =
     let same : storeIn f ns n m ≡ lentStore ts ns n m = loaded-store ts ns f n m l in
-    let b : Worked A storeOf f ns (model (lentStore ts ns n m)) seen g ns′ =
+    let wanted : A = model (lentStore ts ns n m) in
+    let b : Worked A storeOf f ns wanted seen g ns′ =
     subst (λ (s : Store). Worked A storeOf f ns (model s) seen g ns′) same a in
     let records : ts′ ≡ recordsAfter ts (storeOf (model (lentStore ts ns n m))) =
     back
@@ -122,8 +128,22 @@ lent-left A storeOf seen ts ts′ ns ns′ f g n m model l a back =
       answer = b .answer;
       records = records;
       entries = b .entries;
+      held =
+          (λ i. lentStore (records i) (b .entries i) (storeOf wanted .terms) (storeOf wanted .symbols))
+          ∙ lentStore-after ts ns (storeOf wanted) (storeOf wanted .terms) (storeOf wanted .symbols)
+          (b .long ∙ ap (λ (k : ℕ). k * 11) (l .room)) (b .wide ∙ l .room) (b .named);
       unchanged = λ e. (
         records ∙ ap (recordsAfter ts) e ∙ recordsAfter-same ts ns n m (l .eight),
         b .kept (ap (λ (s : Store). s .names) e),
       );
     }
+
+-- what is seen of the lists after a call is what was wanted
+pub lent-seen :
+    (A : Type 0) (storeOf : A → Store) (ts ts′ : List Term) (ns ns′ : List (List ℕ)) (n m : ℕ) (wanted : A)
+    (seen : Seen A) →
+    Lent A storeOf ts ns n m wanted seen ts′ ns′ →
+    seen (lentStore ts′ ns′ n m .records) (lentStore ts′ ns′ n m .literals) (lentStore ts′ ns′ n m .names) ≡ wanted
+unfolding lentStore
+lent-seen A storeOf ts ts′ ns ns′ n m wanted seen a =
+    (λ i. seen (a .held i .records) (a .held i .literals) (a .held i .names)) ∙ a .answer

@@ -1,14 +1,21 @@
 -- The promises of the crate `lent_extract` hold. Assumes nothing.
-use mathlib.Core.Path.{ap, sym, _∙_}
+use mathlib.Core.Path.{ap, sym, subst, _∙_}
 use Rattle.lent.specs.Records.{lentStore}
+use Rattle.answer_rules.specs.Answers.{After}
+use Rattle.answer_rules.specs.Best.{BestTerm}
 use Rattle.answer_rules.specs.Variants.{VariantsAfter, Lending, variantsAt}
 use Rattle.variant_answers.specs.Kept.{lending}
 use Rattle.extract.proofs.VariantDeterminedLaws.{costs-seen, terms-seen}
 use Rattle.extract.proofs.Promises.{promises as flat}
 use Rattle.lent_extract.specs.Promises.{Promises}
+use Rattle.lent_extract.proofs.LeftLaws.{lent-seen}
 
 pub promises : Promises
 promises = record {
+  bestCarried = λ P ts ts′ ns ns′ n m wanted r a p.
+      subst P (sym (lent-seen (After BestTerm) (λ x. x .store) ts ts′ ns ns′ n m wanted _ a)) p;
+  variantsCarried = λ P ts ts′ ns ns′ n m wanted r ws us a p.
+      subst P (sym (lent-seen VariantsAfter (λ x. x .store) ts ts′ ns ns′ n m wanted _ a)) p;
   bestKept = λ file root v ts ts′ ns ns′ n m k r a e.
       a .unchanged (flat .unchanged file root v (lentStore ts ns n m) k e);
   bestDetermined = λ ts ts′ ts″ ns ns′ ns″ n m wanted r r′ a b. (

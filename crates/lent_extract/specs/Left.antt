@@ -1,8 +1,8 @@
 -- What a call on lent lists leaves: document 01, 'Terms' and 'Costs and choice'. Assumes nothing: definitions.
-use Prim.Native.Nat.{ℕ, _*_}
+use Prim.Native.Nat.{ℕ, _*_, min}
 use mathlib.Core.Path.{_≡_}
 use mathlib.Core.List.{List}
-use lib.ListN.{take}
+use lib.ListN.{length, take}
 use lib.IntN.{ℤ}
 use Rattle.lent_entries.specs.Entries.{entriesOf, entriesAfter}
 use Rattle.term_rules.specs.declared.Term.{Term}
@@ -23,7 +23,7 @@ use Rattle.lent_extract.specs.declared.Varied.{Varied}
 abbrev pub Seen : Type 0 → Type 0
 Seen A = List ℕ → List ℤ → List ℕ → A
 
--- The call answers as wanted, and the lent lists are then the wanted store. Where that is the store as it was lent, as
+-- The call answers as wanted, and the lent lists are then the wanted store (`held`). Where that is the store as it was lent, as
 -- on every refusal, the lists are as they were.
 pub record Lent (A : Type 0) (storeOf : A → Store) (ts : List Term) (ns : List (List ℕ)) (n m : ℕ) (wanted : A)
     (seen : Seen A) (ts′ : List Term) (ns′ : List (List ℕ)) : Type 0 where
@@ -31,6 +31,7 @@ pub record Lent (A : Type 0) (storeOf : A → Store) (ts : List Term) (ns : List
       seen (storeOf wanted .records) (storeOf wanted .literals) (storeOf wanted .names) ≡ wanted
   pub records : ts′ ≡ recordsAfter ts (storeOf wanted)
   pub entries : ns′ ≡ entriesAfter ns (storeOf wanted .names)
+  pub held : lentStore ts′ ns′ (storeOf wanted .terms) (storeOf wanted .symbols) ≡ storeOf wanted
   pub unchanged : storeOf wanted ≡ lentStore ts ns n m → (ts′ ≡ ts) × (ns′ ≡ ns)
 
 -- the same of the work on a call's own arrays f, which are then g
@@ -43,6 +44,9 @@ pub record Worked (A : Type 0) (storeOf : A → Store) (f : Flat) (ns : List (Li
   pub literals : take (g .room) (g .literals) ≡ storeOf wanted .literals
   pub entries : ns′ ≡ entriesAfter ns (storeOf wanted .names)
   pub kept : storeOf wanted .names ≡ entriesOf (take 128 ns) → ns′ ≡ ns
+  pub long : length (storeOf wanted .records) ≡ f .room * 11
+  pub wide : length (storeOf wanted .literals) ≡ f .room
+  pub named : length (storeOf wanted .names) ≡ min 128 (length ns) * 32
 
 -- of the best term
 abbrev pub LentBest :

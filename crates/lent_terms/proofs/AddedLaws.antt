@@ -1,13 +1,12 @@
 -- From the flat call's answer to the answer on lent lists. Assumes nothing.
-use Prim.Native.Nat.{ℕ, _+_, _*_, _≤_, min}
+use Prim.Native.Nat.{ℕ, _+_, _*_, min}
 use mathlib.Core.Path.{_≡_, refl, ap, sym, _∙_, subst}
-use mathlib.Core.List.{List, [], _∷_, _++_}
-use native.Mathlib.Omega.{arith}
-use lib.ListN.{length, take, drop}
+use mathlib.Core.List.{List, _++_}
+use lib.ListN.{length, take, drop, length-take}
 use lib.Seq.{take-at}
 use lib.IntN.{ℤ}
 use Rattle.lent_entries.specs.Entries.{entriesOf, entriesAfter, AllWide}
-use Rattle.lent_entries.proofs.EntriesLaws.{entriesAfter-front}
+use Rattle.lent_entries.proofs.EntriesLaws.{entriesOf-length, entriesAfter-front}
 use Rattle.term_rules.specs.declared.Term.{Term}
 use Rattle.term_rules.specs.Lent.{Store, store}
 use Rattle.lent.specs.declared.Flat.{Flat}
@@ -20,6 +19,7 @@ use Rattle.lent.proofs.StoreLaws.{
   recordsAfter-lists,
   recordsAfter-same,
   entriesAfter-same,
+  lentStore-after,
 }
 use Rattle.term.specs.Answers.{Answer, seenAdded}
 use Rattle.term.specs.declared.Added.{Added}
@@ -49,7 +49,8 @@ Given f bs n m = store (take (f .room * 11) (f .records)) (take (f .room) (f .li
 added-in :
     (f : Flat) (ns ns′ : List (List ℕ)) (n m : ℕ) (wanted : Answer ℕ × Store) (r : Added) (rs bs : List ℕ) (ls : List
     ℤ) →
-    length rs ≡ f .room * 11 → length ls ≡ f .room → AllWide (take 128 ns) → ns′ ≡ entriesAfter ns bs →
+    length rs ≡ f .room * 11 → length ls ≡ f .room → length bs ≡ min 128 (length ns) * 32 → AllWide (take 128 ns) →
+    ns′ ≡ entriesAfter ns bs →
     seenAdded r rs ls bs n m ≡ wanted →
     AddedIn f ns n m wanted record {
       flat = record {
@@ -59,7 +60,7 @@ added-in :
       };
       added = r;
     } ns′
-added-in f ns ns′ n m wanted r rs bs ls long wide all after e =
+added-in f ns ns′ n m wanted r rs bs ls long wide size all after e =
     let records : rs ≡ wanted .1 .records = sym (seen-records rs ls bs n m r) ∙ ap (λ (w : Answer ℕ × Store). w .1
     .records) e in
     let literals : ls ≡ wanted .1 .literals =
@@ -76,6 +77,9 @@ added-in f ns ns′ n m wanted r rs bs ls long wide all after e =
       literals = take-at ls (drop (f .room) (f .literals)) (f .room) wide ∙ literals;
       entries = after ∙ ap (entriesAfter ns) names;
       kept = λ same. after ∙ ap (entriesAfter ns) (names ∙ same) ∙ entriesAfter-same ns all;
+      long = ap length (sym records) ∙ long;
+      wide = ap length (sym literals) ∙ wide;
+      named = ap length (sym names) ∙ size;
     }
 
 module _ (f : Flat) (ns : List (List ℕ)) (n m : ℕ) (model : Store → Answer ℕ × Store) (r : Added) (rs bs : List ℕ)
@@ -96,7 +100,8 @@ module _ (f : Flat) (ns : List (List ℕ)) (n m : ℕ) (model : Store → Answer
   pub added-same-names : seenAdded r rs ls bs n m ≡ model (Given f bs n m) → AddedIn f ns n m (model (storeIn f ns n
       m)) Left ns
   added-same-names e =
-      added-in f ns ns n m (model (storeIn f ns n m)) r rs bs ls long wide all
+      added-in f ns ns n m (model (storeIn f ns n m)) r rs bs ls long wide
+      (ap length copied ∙ entriesOf-length (take 128 ns) all ∙ ap (λ (k : ℕ). k * 32) (length-take 128 ns)) all
       (sym (entriesAfter-same ns all) ∙ ap (entriesAfter ns) (sym copied)) (e ∙ ap model (storeIn-is f ns n m bs
       copied))
 
@@ -106,7 +111,7 @@ module _ (f : Flat) (ns : List (List ℕ)) (n m : ℕ) (model : Store → Answer
       ++ rest) →
       seenAdded r rs ls bs′ n m ≡ model (Given f bs n m) → AddedIn f ns n m (model (storeIn f ns n m)) Left ns′
   added-names bs′ rest ns′ size after e =
-      added-in f ns ns′ n m (model (storeIn f ns n m)) r rs bs′ ls long wide all
+      added-in f ns ns′ n m (model (storeIn f ns n m)) r rs bs′ ls long wide size all
       (after ∙ entriesAfter-front ns bs′ rest size) (e ∙ ap model (storeIn-is f ns n m bs copied))
 
 -- the call on lent lists answers as the work does on what was copied of them
@@ -119,7 +124,8 @@ pub lent-added :
 unfolding lentStore
 lent-added ts ts′ ns ns′ f n m model r l a back =
     let same : storeIn f ns n m ≡ lentStore ts ns n m = loaded-store ts ns f n m l in
-    let b : AddedIn f ns n m (model (lentStore ts ns n m)) r ns′ =
+    let wanted : Answer ℕ × Store = model (lentStore ts ns n m) in
+    let b : AddedIn f ns n m wanted r ns′ =
     subst (λ (s : Store). AddedIn f ns n m (model s) r ns′) same a in
     let records : ts′ ≡ recordsAfter ts (model (lentStore ts ns n m) .1) =
     back
@@ -129,6 +135,10 @@ lent-added ts ts′ ns ns′ f n m model r l a back =
       answer = b .answer;
       records = records;
       entries = b .entries;
+      held =
+          (λ i. lentStore (records i) (b .entries i) (wanted .1 .terms) (wanted .1 .symbols))
+          ∙ lentStore-after ts ns (wanted .1) (wanted .1 .terms) (wanted .1 .symbols)
+          (b .long ∙ ap (λ (k : ℕ). k * 11) (l .room)) (b .wide ∙ l .room) (b .named);
       unchanged = λ e. (
         records ∙ ap (recordsAfter ts) e ∙ recordsAfter-same ts ns n m (l .eight),
         b .kept (ap (λ (s : Store). s .names) e),

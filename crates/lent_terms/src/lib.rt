@@ -2,7 +2,7 @@
 // entries once into arrays of its own, hands them to the call of the same name in the crate `term`, and, where it
 // adds, puts them back.
 ghost use mathlib.Core.Path.{_≡_};
-ghost use Rattle.term.specs.Answers.{seenFound, seenCount, seenOrder, seenSort};
+ghost use Rattle.term.specs.Answers.{seenFound, seenCount, seenGot, seenOrder, seenSort};
 ghost use Rattle.term.specs.Calls.{
   addLiteral,
   addVariable,
@@ -340,7 +340,7 @@ pub fn find_application(
 
 fn get_in(f: Flat, ns: &[Name], terms: usize, symbols: usize, i: usize) -> Got
     requires { ⌜ Whole f ⌝ }
-    ensures { λ r. ⌜ r ≡ getTerm (storeIn f (now (ns .entry)) terms symbols) i ⌝ }
+    ensures { λ r. ⌜ seenGot r ≡ getTerm (storeIn f (now (ns .entry)) terms symbols) i ⌝ }
 {
     let records = f.records;
     let literals = f.literals;
@@ -361,7 +361,7 @@ fn get_in(f: Flat, ns: &[Name], terms: usize, symbols: usize, i: usize) -> Got
 
 // Term `i`.
 pub fn get(ts: &[Term], ns: &[Name], terms: usize, symbols: usize, i: usize) -> Got
-    ensures { λ r. ⌜ r ≡ getTerm (lentStore (now (ts .entry)) (now (ns .entry)) terms symbols) i ⌝ }
+    ensures { λ r. ⌜ seenGot r ≡ getTerm (lentStore (now (ts .entry)) (now (ns .entry)) terms symbols) i ⌝ }
 {
     let f = lent::load(ts);
     get_in(f, ns, terms, symbols, i)

@@ -1,3 +1,2 @@
 -- The definitions of the crate `lent_texts`.
-pub mod Plain
-pub mod Lets
+pub mod Promises

@@ -9,10 +9,10 @@ use Rattle.refusal.specs.declared.Refusal.{Refusal}
 use Rattle.needlevale_c.specs.Codes.Below.{belowZero}
 use Rattle.term_rules.specs.Lent.{Store, store}
 use Rattle.term_rules.specs.Nodes.{literal}
+use Rattle.term_rules.specs.Growing.{Takes}
 use Rattle.term.specs.Answers as terms
 use Rattle.term.specs.Answers.{seenAdded}
 use Rattle.term.specs.Calls.{addLiteral}
-use Rattle.term.specs.Promises.{After}
 use Rattle.term.specs.declared.Added.{Added}
 use Rattle.term.specs.declared.Added.the-variants.{Term, Refused as NotAdded}
 use Rattle.term.proofs.Promises.{promises}
@@ -59,7 +59,10 @@ module _
   -- a term's number is below 1,024
   pub term-within : (i n′ m′ : ℕ) → r ≡ Term i n′ m′ → i < 1024
   term-within i n′ m′ e =
-      let takes = subst (After s (literal v)) (sym (at (Term i n′ m′) e)) (promises .literalAdded s v) in
+      let x : seenAdded (Term i n′ m′) rs ls ns n m ≡ addLiteral s v = at (Term i n′ m′) e in
+      let takes =
+      subst (Takes s (literal v) i) (sym (ap (λ (y : terms.Answer ℕ × Store). y .1) x))
+      (promises .literalAdded s v .takes i (sym (ap (λ (y : terms.Answer ℕ × Store). y .0) x))) in
       omega (
         arith,
         takes .below,

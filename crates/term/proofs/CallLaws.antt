@@ -9,11 +9,10 @@ use lib.Dec.{leb, ltb}
 use lib.ListN.{length}
 use lib.IntN.{ℤ}
 use Rattle.name.specs.Name.{valid}
-use Rattle.name.specs.declared.Found.{Found}
 use Rattle.name.specs.declared.Found.the-variants.{At, Missing}
 use Rattle.refusal.specs.declared.Refusal.{Refusal}
 use Rattle.refusal.specs.declared.Refusal.the-variants.{BadStore, BadName, BadSize, BadTerm, NoRoom, Absent}
-use Rattle.term_rules.specs.Lent.{Store, store}
+use Rattle.term_rules.specs.Lent.{Store, store, recordAt}
 use Rattle.term_rules.specs.WellFormed.{allBelow, wellFormed}
 use Rattle.term_rules.specs.Nodes.{Node, literal}
 use Rattle.term_rules.specs.Adding.{findTerm, at, noRoom, add}
@@ -44,7 +43,7 @@ use Rattle.term.specs.Calls.{
   sizing,
   sizeOf,
   getFaults,
-  noTerm,
+  zeroRecord,
   getting,
   getTerm,
   compareFaults,
@@ -168,20 +167,20 @@ module _ (s : Store) where
   size-given e = sym (ap (sizing s) (unless-yes (wellFormed s) BadStore fine e))
 
   module _ (i : ℕ) where
-    pub get-store : wellFormed s ≡ false → noTerm BadStore ≡ getTerm s i
+    pub get-store : wellFormed s ≡ false → (refuse BadStore, zeroRecord) ≡ getTerm s i
     unfolding getTerm getting getFaults
     get-store e = sym (ap (getting s i) (unless-no (wellFormed s) BadStore _ e))
 
     module _ (e : wellFormed s ≡ true) where
-      pub get-term : s .terms ≤ i → noTerm BadTerm ≡ getTerm s i
+      pub get-term : s .terms ≤ i → (refuse BadTerm, zeroRecord) ≡ getTerm s i
       unfolding getTerm getting getFaults
       get-term h =
           sym
           (ap (getting s i)
           (unless-yes (wellFormed s) BadStore _ e ∙ unless-no (ltb i (s .terms)) BadTerm fine (le-ltb i (s .terms) h)))
 
-      pub get-given : i < s .terms → getting s i fine ≡ getTerm s i
-      unfolding getTerm getFaults
+      pub get-given : i < s .terms → (given tt, recordAt s i) ≡ getTerm s i
+      unfolding getTerm getting getFaults
       get-given h =
           sym
           (ap (getting s i)

@@ -16,15 +16,27 @@ use Rattle.term.specs.declared.Compared.{Compared}
 use Rattle.term.specs.declared.Compared.the-variants.{Order, Refused as notCompared}
 use Rattle.term.specs.declared.Verdict.{Verdict}
 use Rattle.term.specs.declared.Verdict.the-variants.{Done, Refused as notDone}
-use Rattle.term.specs.Answers.{Answer, given, refused, seenAdded, seenFound, seenCount, seenOrder, seenSort}
+use Rattle.term.specs.declared.Got.{Got}
+use Rattle.term.specs.Answers.{
+  Answer,
+  given,
+  refused,
+  seenAdded,
+  seenFound,
+  seenCount,
+  seenVerdict,
+  seenGot,
+  seenOrder,
+  seenSort,
+}
 
-given-same : {A : Type 0} {a b : A} → given a ≡ given b → a ≡ b
+pub given-same : {A : Type 0} {a b : A} → given a ≡ given b → a ≡ b
 given-same e = cc
 
-refused-same : {A : Type 0} {m n : ℕ} → _≡_ {A = Answer A} (refused m) (refused n) → m ≡ n
+pub refused-same : {A : Type 0} {m n : ℕ} → _≡_ {A = Answer A} (refused m) (refused n) → m ≡ n
 refused-same e = cc
 
-given-refused : {P A : Type 0} {a : A} {n : ℕ} → given a ≡ refused n → P
+pub given-refused : {P A : Type 0} {a : A} {n : ℕ} → given a ≡ refused n → P
 given-refused e = let z : _≡_ {A = ℕ} 0 1 = cc in absurd (omega arith)
 
 pub looked-once : (r q : Looked) → seenFound r ≡ seenFound q → r ≡ q
@@ -45,14 +57,20 @@ compared-once (Order i) (notCompared q) e = given-refused e
 compared-once (notCompared r) (Order j) e = given-refused (sym e)
 compared-once (notCompared r) (notCompared q) e = ap notCompared (number-once r q (refused-same e))
 
+verdict-once : (r q : Verdict) → seenVerdict r ≡ seenVerdict q → r ≡ q
+verdict-once Done Done e = refl
+verdict-once Done (notDone q) e = given-refused e
+verdict-once (notDone r) Done e = given-refused (sym e)
+verdict-once (notDone r) (notDone q) e = ap notDone (number-once r q (refused-same e))
+
 pub sorted-once : (r q : Verdict) (l m : List ℕ) → seenSort r l ≡ seenSort q m → (r ≡ q) × (l ≡ m)
-sorted-once r q l m e = (by r q (ap (λ x. x .0) e), ap (λ x. x .1) e)
-  where
-    by : (r q : Verdict) → seenSort r l .0 ≡ seenSort q m .0 → r ≡ q
-    by Done Done e = refl
-    by Done (notDone q) e = given-refused e
-    by (notDone r) Done e = given-refused (sym e)
-    by (notDone r) (notDone q) e = ap notDone (number-once r q (refused-same e))
+sorted-once r q l m e = (verdict-once r q (ap (λ x. x .0) e), ap (λ x. x .1) e)
+
+pub got-once : (g h : Got) → seenGot g ≡ seenGot h → g ≡ h
+got-once g h e =
+    let v : g .verdict ≡ h .verdict = verdict-once (g .verdict) (h .verdict) (ap (λ x. x .0) e) in
+    let t : g .term ≡ h .term = ap (λ x. x .1) e in
+    rw (v, t)
 
 pub added-once :
     (r q : Added) (rs rs′ : List ℕ) (ls ls′ : List ℤ) (ns ns′ : List ℕ) (n m : ℕ) →

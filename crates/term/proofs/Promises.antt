@@ -1,22 +1,40 @@
 -- The promises of the crate `term` hold. Assumes nothing.
-use mathlib.Core.Path.{sym, _∙_}
 use Rattle.order.proofs.Sorting.SortLaws.{sorted-unique}
 use Rattle.term_rules.proofs.FactsLaws.{sound-of-wellFormed, wellFormed-of-sound}
 use Rattle.term_rules.proofs.Meaning.MeansLaws.{means-one, means-once}
 use Rattle.term_rules.proofs.Meaning.TreeLaws.{treeAt-means}
 use Rattle.term_order.specs.TreeOrder.{atMost}
 use Rattle.term_order.proofs.LawfulLaws.{trees-tells, atMost-linear}
-use Rattle.term_order.proofs.CodeLaws.{compare-same}
 use Rattle.term.specs.Promises.{Promises}
-use Rattle.term.proofs.DeterminedLaws.{added-once, looked-once, counted-once, compared-once, sorted-once}
+use Rattle.term.proofs.DeterminedLaws.{
+  added-once,
+  looked-once,
+  counted-once,
+  got-once,
+  compared-once,
+  sorted-once,
+}
+use Rattle.term.proofs.AddsLaws.{
+  literal-adds,
+  variable-adds,
+  application-adds,
+  literal-finds,
+  variable-finds,
+  application-finds,
+}
 use Rattle.term.proofs.PromiseLaws.{
-  literal-after,
-  variable-after,
-  application-after,
-  found-again,
-  sort-order,
-  compare-trees,
+  size-refused,
+  size-is,
+  get-refused,
+  get-is,
+  get-zeros,
+  compare-refused,
+  compare-is,
+  sort-refused,
   sort-after,
+  sort-order,
+  order-numbers,
+  compare-trees,
 }
 
 pub promises : Promises
@@ -26,22 +44,32 @@ promises = record {
   meant = λ s i w h. treeAt-means s (sound-of-wellFormed s w) i h;
   oneTerm = λ s i t u p q. means-one s t u i p q;
   oneNumber = λ s i j t w h k p q. means-once s (sound-of-wellFormed s w) t i j h k p q;
-  found = λ s i w h. found-again s w i h;
-  literalAdded = literal-after;
-  variableAdded = variable-after;
-  applicationAdded = application-after;
+  literalAdded = literal-adds;
+  variableAdded = variable-adds;
+  applicationAdded = application-adds;
+  literalFound = literal-finds;
+  variableFound = variable-finds;
+  applicationFound = application-finds;
+  sizeRefused = size-refused;
+  sizeGiven = size-is;
+  getRefused = get-refused;
+  getGiven = get-is;
+  getZeros = get-zeros;
+  compareRefused = compare-refused;
+  compareGiven = compare-is;
+  sortRefused = sort-refused;
+  sorts = sort-after;
+  sortedOnce = λ s l m p q e. sorted-unique (atMost s) (atMost-linear s) l m p q e;
+  sortOrder = λ s a b w h k. sort-order s w a b h k;
   orderFlips = trees-tells .flips;
   orderTrans = trees-tells .trans;
   orderSame = trees-tells .same;
-  orderNumbers = λ s a b w h k e. compare-same s (sound-of-wellFormed s w) a b h k e;
-  orderTrees = λ s s′ a b a′ b′ t u w w′ h k h′ k′ p q p′ q′.
-      compare-trees s w a b t u h k p q ∙ sym (compare-trees s′ w′ a′ b′ t u h′ k′ p′ q′);
-  sortOrder = λ s a b w h k. sort-order s w a b h k;
-  sorts = sort-after;
-  sortedOnce = λ s l m p q e. sorted-unique (atMost s) (atMost-linear s) l m p q e;
+  orderNumbers = λ s a b w h k. order-numbers s w a b h k;
+  orderTrees = λ s a b t u w h k p q. compare-trees s w a b t u h k p q;
   addDetermined = added-once;
   findDetermined = looked-once;
   sizeDetermined = counted-once;
+  getDetermined = got-once;
   compareDetermined = compared-once;
   sortDetermined = sorted-once;
 }

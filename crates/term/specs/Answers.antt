@@ -42,13 +42,14 @@ abbrev pub seenCount : Counted → Answer ℕ
 seenCount (counted n) = given n
 seenCount (notCounted r) = refuse r
 
--- the answer of get
-abbrev pub verdictOf : {A : Type 0} → Verdict → A → Answer A
-verdictOf Done a = given a
-verdictOf (notDone r) a = refuse r
+-- whether a call was done
+abbrev pub seenVerdict : Verdict → Answer Unit
+seenVerdict Done = given tt
+seenVerdict (notDone r) = refuse r
 
-abbrev pub seenGot : Got → Answer Term
-seenGot g = verdictOf (g .verdict) (g .term)
+-- the answer of get, and the record that it gives
+abbrev pub seenGot : Got → Answer Unit × Term
+seenGot g = (seenVerdict (g .verdict), g .term)
 
 -- the answer of compare
 abbrev pub seenOrder : Compared → Answer Ordering
@@ -57,4 +58,4 @@ seenOrder (notCompared r) = refuse r
 
 -- the answer of sort, and the list that it left
 abbrev pub seenSort : Verdict → List ℕ → Answer Unit × List ℕ
-seenSort v l = (verdictOf v tt, l)
+seenSort v l = (seenVerdict v, l)

@@ -1,7 +1,7 @@
 -- What each call answers and leaves, from the lent store: document 01, 'Terms', with the refusals in its order.
 -- Assumes nothing: these are definitions.
 use Prim.Native.Nat.{ℕ}
-use mathlib.Core.Bool.{Bool, true, false, _&&_}
+use mathlib.Core.Bool.{Bool, true, false}
 use mathlib.Core.List.{List}
 use lib.ListN.{length, replicate}
 use lib.Dec.{leb, ltb}
@@ -20,9 +20,6 @@ use Rattle.term_rules.specs.Adding.{findTerm, Adds, at, noRoom, add}
 use Rattle.order.specs.Sort.{sorted}
 use Rattle.term_order.specs.TreeOrder.{compareAt, atMost}
 use Rattle.term.specs.Answers.{Answer, given, refuse}
-use Rattle.term.specs.declared.Verdict.{Verdict}
-use Rattle.term.specs.declared.Verdict.the-variants.{Done, Refused}
-use Rattle.term.specs.declared.Got.{Got}
 
 -- what may be wrong with a call, in order; nothing, if all tests pass
 pub data Faults : Type 0 where
@@ -97,17 +94,14 @@ unfoldable pub getFaults : Store → ℕ → Faults
 getFaults s i = unless (wellFormed s) BadStore (unless (ltb i (s .terms)) BadTerm fine)
 
 -- a refused get gives a record of zeros
-unfoldable pub noTerm : Refusal → Got
-noTerm r = record {
-  verdict = Refused r;
-  term = record { kind = 0; symbol = 0; count = 0; literal = pos 0; children = replicate 8 0 };
-}
+unfoldable pub zeroRecord : Term
+zeroRecord = record { kind = 0; symbol = 0; count = 0; literal = pos 0; children = replicate 8 0 }
 
-unfoldable pub getting : Store → ℕ → Faults → Got
-getting s i fine = record { verdict = Done; term = recordAt s i }
-getting s i (fault r) = noTerm r
+unfoldable pub getting : Store → ℕ → Faults → Answer Unit × Term
+getting s i fine = (given tt, recordAt s i)
+getting s i (fault r) = (refuse r, zeroRecord)
 
-unfoldable pub getTerm : Store → ℕ → Got
+unfoldable pub getTerm : Store → ℕ → Answer Unit × Term
 getTerm s i = getting s i (getFaults s i)
 
 unfoldable pub compareFaults : Store → ℕ → ℕ → Faults

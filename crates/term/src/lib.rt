@@ -10,12 +10,12 @@ ghost use Rattle.term.specs.Calls.{
   findVariable,
   findApplication,
   sizeOf,
-  noTerm,
+  zeroRecord,
   getTerm,
   compareTerms,
   sortTerms,
 };
-ghost use Rattle.term.specs.Answers.{seenAdded, seenFound, seenCount, seenOrder, seenSort};
+ghost use Rattle.term.specs.Answers.{refuse, seenAdded, seenFound, seenCount, seenGot, seenOrder, seenSort};
 use name::Found;
 use order::Ordering;
 use refusal::Refusal;
@@ -278,7 +278,7 @@ pub fn size(
 
 // The answer of `get` where it is refused.
 fn no_term(refusal: Refusal) -> Got
-    ensures { λ r. ⌜ r ≡ noTerm refusal ⌝ }
+    ensures { λ r. ⌜ seenGot r ≡ (refuse refusal, zeroRecord) ⌝ }
 {
     let term = Term {
         kind: 0,
@@ -303,7 +303,8 @@ pub fn get(
     i: usize,
 ) -> Got
     ensures { λ r. ⌜
-        r ≡ getTerm (store (now (records .entry)) (now (literals .entry)) (now (names .entry)) terms symbols) i
+        seenGot r
+        ≡ getTerm (store (now (records .entry)) (now (literals .entry)) (now (names .entry)) terms symbols) i
         ⌝ }
 {
     if !term_record::check(records, literals, names, terms, symbols) {

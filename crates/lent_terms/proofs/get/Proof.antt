@@ -57,6 +57,7 @@ use Rattle.term.specs.declared.Got.{Got}
 use Rattle.term.proofs.Got as R
 use Rattle.term.proofs.Got.Laws as R′
 use Rattle.term_rules.specs.Lent.{Store}
+use Rattle.term.specs.Answers.{seenGot}
 use Rattle.term.specs.Calls.{getTerm}
 use Rattle.lent.specs.Records.{lentStore}
 use Rattle.lent.proofs.StoreLaws.{loaded-store}
@@ -162,7 +163,7 @@ module _ {M : Type 1} (𝓤 : URA M) (H : Heap 𝓤) (A : Atoms 𝓤) (W : Given
 
   exits :
       (r : Got) (u : Val) → Is R.the-row r (u ∷ []) →
-      r ≡ getTerm (lentStore (ts .now) (ns .now) terms symbols) i → ent 𝓤 (⋆ 𝓤 H A (Toks ∷ [])) (Post u)
+      seenGot r ≡ getTerm (lentStore (ts .now) (ns .now) terms symbols) i → ent 𝓤 (⋆ 𝓤 H A (Toks ∷ [])) (Post u)
   exits r u is e =
       qed W (Toks ∷ []) ∵
       suffices ! _ (ends-at 𝓤 H A it.ended stayed (it.clauses 𝓤 H A mem run) W entry u r
@@ -203,7 +204,7 @@ module _ {M : Type 1} (𝓤 : URA M) (H : Heap 𝓤) (A : Atoms 𝓤) (W : Given
         land ! (from ! (stop !)) (init ! 9 refl (LL.lawful F.the-type F′.the-laws 𝓤 H A W .typed f _ isf .0)) $
         move ! (7 ∷ 6 ∷ []) $ group ! 2 $ use1 W (raw (Wrk .pre (to-wrk f v))) (goes-wrk f v isf (lf .whole)) $
         calls-plain ! fm wrk.ended (wrk.clauses 𝓤 H A mem run) known-wrk (to-wrk f v)
-        (λ r. r ≡ getTerm (storeIn f (ns .now) terms symbols) i) (λ r. id⊢ 𝓤 _)
+        (λ r. seenGot r ≡ getTerm (storeIn f (ns .now) terms symbols) i) (λ r. id⊢ 𝓤 _)
         (and-then ! (load ! (from ! (stop !)) (look ! 8 refl)) (and-then !
         (load ! (from ! (stop !)) (look ! 16 refl)) (and-then ! (load ! (from ! (stop !)) (look ! 14 refl))
         (and-then ! (load ! (from ! (stop !)) (look ! 12 refl)) (and-then !

@@ -3,8 +3,7 @@ use mathlib.Core.Path.{ap, sym, _∙_}
 use borrow.Author.Tests.{not-true, not-false}
 use Rattle.term_rules.specs.declared.Term.{Term}
 use Rattle.term_rules.specs.Lent.{store}
-use Rattle.term.specs.declared.Verdict.the-variants.{Done}
-use Rattle.term.specs.Calls.{getting}
+use Rattle.term.specs.Answers.{given}
 use Rattle.term.proofs.CallLaws.{get-store, get-term, get-given, in-records}
 use borrow.Author.Needs.{needs}
 use Rattle.term.proofs.get.Statement.{statement}
@@ -41,11 +40,10 @@ record-at-requires c κs =
     in-records s (g .i) (sym (c .before .before .check .ensures) ∙ not-false _ (c .before .if1 .left)) (c .if2 .left)
 
 returns-3 : tie.Need-returns-3
-unfolding getting
 returns-3 c =
     let g = c .before .before .before .before .before .before .args in
     let s = store (g .records .now) (g .literals .now) (g .names .now) (g .terms) (g .symbols) in
-    ap (λ (t : Term). record { verdict = Done; term = t }) (c .record-at .ensures)
+    ap (λ (t : Term). (given tt, t)) (c .record-at .ensures)
     ∙ get-given s (g .i) (sym (c .before .before .before .check .ensures) ∙ not-false _ (c .before .before .if1 .left))
     (c .before .if2 .left)
 

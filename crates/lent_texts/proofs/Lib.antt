@@ -1,0 +1,2 @@
+-- The laws of the crate `lent_texts`.
+pub mod Promises

@@ -1,2 +1,0 @@
--- The laws of `lets`.
-pub mod Promises

@@ -1,2 +1,0 @@
--- The laws of `plain`.
-pub mod Promises
