@@ -12,7 +12,7 @@ use build::Built;
 use refusal::Refusal;
 use variant_answers::Variants;
 
-pub mod of_class; // of_class.rt: the variants of a class, over flat rows: costs and choice, the rows that are kept, then their terms
+pub mod kept_rows; // kept_rows.rt: the variants of a class, over flat rows: costs and choice, the rows that are kept, then their terms
 
 // How many are kept, the passes and the counts of terms and symbols then; or the refusal.
 pub enum VariantsAnswer {
@@ -116,7 +116,7 @@ fn choose(
     let mut marks: [u64; 512] = [0; 512];
     let mut known: [u64; 512] = [0; 512];
     let mut plan: [u64; 5120] = [0; 5120];
-    let kept = crate::of_class::decide(
+    let kept = crate::kept_rows::decide(
         outputs,
         heads,
         starts,

@@ -29,7 +29,7 @@ use Rattle.table_rules.specs.Rules.Order.{viewOf, scanOrder, scanned}
 use Rattle.table_rules.specs.Rules.Facts.{Known}
 use Rattle.table_rules.proofs.Rules.CoverLaws.{ReachedClass, view-sound}
 use Rattle.answer_rules.specs.Variants.{fileRow, costFor, isVariant, variantRows, keyFor, keptRows}
-use Rattle.variants_root.proofs.of_class.SortLaws.{kept-passes}
+use Rattle.variants_root.proofs.kept_rows.SortLaws.{kept-passes}
 use Rattle.extract.specs.First.{RowCost, ComesFirst, FirstRows, keptFileRows, keptCosts}
 use Rattle.extract.proofs.VariantFacts.GrownLaws.{row-cost, Found, row-found, row-cost-once}
 

@@ -38,7 +38,7 @@ use Rattle.answer_rules.specs.Variants.{
   variantsIn,
 }
 use Rattle.answer_rules.proofs.PlanLaws.{buildRank, plan-ranked}
-use Rattle.variants_root.proofs.of_class.SortLaws.{kept-passes}
+use Rattle.variants_root.proofs.kept_rows.SortLaws.{kept-passes}
 use Rattle.extract.proofs.VariantFacts.RowLaws.{row-lower}
 use Rattle.extract.specs.Terms.{RowTerm, RowTerms}
 use Rattle.extract.proofs.VariantFacts.TermLaws.{terms-grow, terms-append}

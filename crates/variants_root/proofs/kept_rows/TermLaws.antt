@@ -30,7 +30,7 @@ use Rattle.best_class.proofs.SolvedLaws.{part-children, part-in, known-is, agre
 use Rattle.variant_terms.specs.Rows.{Deep, KidIn}
 use Rattle.variant_terms.specs.Turned.{nameIn, kidsIn, rowsIn, Listed, AllListed}
 use Rattle.variants_root.specs.Flat.{VariantTable}
-use Rattle.variants_root.proofs.of_class.RowLaws.{rows-many, file-row, name-is}
+use Rattle.variants_root.proofs.kept_rows.RowLaws.{rows-many, file-row, name-is}
 
 -- children that can be built are below every depth that is enough
 module _ (ranks : List ℕ) (values : List ℤ) (rank : ℕ → ℕ) (is : (c : ℕ) → getD ranks c 0 ≡ rank c) (d : ℕ) (deep :

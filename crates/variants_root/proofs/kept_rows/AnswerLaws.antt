@@ -42,9 +42,9 @@ use Rattle.variant_rows.specs.Kept.{keptIn}
 use Rattle.variant_terms.specs.Turned.{nameIn, kidsIn, rowsIn, AllListed, Steady, Wholly, wholly}
 use Rattle.variant_answers.specs.Kept.{dearIn, pricesOf, builtIn, answerIn, AnswerReady, Answers}
 use Rattle.variants_root.specs.Flat.{VariantTable}
-use Rattle.variants_root.proofs.of_class.RowLaws.{passes-are, cost-is, kept-is, kept-from}
-use Rattle.variants_root.proofs.of_class.BuildLaws.{deep, listed}
-use Rattle.variants_root.proofs.of_class.TermLaws.{variants-are}
+use Rattle.variants_root.proofs.kept_rows.RowLaws.{passes-are, cost-is, kept-is, kept-from}
+use Rattle.variants_root.proofs.kept_rows.BuildLaws.{deep, listed}
+use Rattle.variants_root.proofs.kept_rows.TermLaws.{variants-are}
 
 -- where none is too dear, each costs less
 not-dear :

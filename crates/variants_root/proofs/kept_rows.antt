@@ -1,4 +1,4 @@
--- The laws of `of_class`.
+-- The laws of `kept_rows`.
 pub mod SortLaws
 pub mod RowLaws
 pub mod BuildLaws

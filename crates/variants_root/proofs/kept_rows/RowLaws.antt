@@ -44,7 +44,7 @@ use Rattle.variant_rows.specs.Candidates.{PartsIn, priceOf, Prices, isCandidate
 use Rattle.variant_rows.specs.Kept.{KeptReady, keptIn}
 use Rattle.variant_rows.proofs.KeptLaws.{picked-below}
 use Rattle.variants_root.specs.Flat.{VariantTable}
-use Rattle.variants_root.proofs.of_class.SortLaws.{sorted-by-keys, kept-passes}
+use Rattle.variants_root.proofs.kept_rows.SortLaws.{sorted-by-keys, kept-passes}
 
 module _
     (t : Table) (root : ℕ) (outputs heads starts children order functions labels : List ℕ) (values : List ℤ)

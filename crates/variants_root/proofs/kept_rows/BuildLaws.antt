@@ -32,7 +32,7 @@ use Rattle.variant_terms.specs.Rows.{Deep, KidIn}
 use Rattle.variant_terms.specs.Turned.{Listed}
 use Rattle.variant_rows.specs.Candidates.{priceOf, isCandidate}
 use Rattle.variants_root.specs.Flat.{VariantTable}
-use Rattle.variants_root.proofs.of_class.RowLaws.{rows-many, named, few-kids}
+use Rattle.variants_root.proofs.kept_rows.RowLaws.{rows-many, named, few-kids}
 
 -- a sum that does not saturate has parts that do not
 pub below-min : (M h s : ℕ) → min M (h + s) < M → s < M

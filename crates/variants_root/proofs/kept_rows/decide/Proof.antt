@@ -1,4 +1,4 @@
--- `of_class::decide` meets its contract: the run, the kept rows, and what they answer. Assumes nothing.
+-- `kept_rows::decide` meets its contract: the run, the kept rows, and what they answer. Assumes nothing.
 use Prim.Native.Nat.{ℕ, _<_}
 use mathlib.Core.Path.{_≡_, refl, sym, _∙_, subst}
 use lib.ListN.{length, getD, take, length-replicate}
@@ -7,12 +7,12 @@ use Rattle.term_rules.specs.Lent.{store}
 use Rattle.price.specs.Solved.{SolveReady, Solved}
 use Rattle.best_class.proofs.SolvedLaws.{solve-ready}
 use Rattle.variant_answers.specs.Kept.{lending}
-use Rattle.variants_root.proofs.of_class.RowLaws.{kept-ready}
-use Rattle.variants_root.proofs.of_class.AnswerLaws.{answer-ready, answer-told}
+use Rattle.variants_root.proofs.kept_rows.RowLaws.{kept-ready}
+use Rattle.variants_root.proofs.kept_rows.AnswerLaws.{answer-ready, answer-told}
 use native.Mathlib.Omega.{arith}
 use borrow.Author.Needs.{needs}
-use Rattle.variants_root.proofs.of_class.decide.Statement.{statement}
-use Rattle.variants_root.proofs.of_class.decide.Tie as tie
+use Rattle.variants_root.proofs.kept_rows.decide.Statement.{statement}
+use Rattle.variants_root.proofs.kept_rows.decide.Tie as tie
 
 solve-requires : tie.Need-solve-requires
 solve-requires c κs =
