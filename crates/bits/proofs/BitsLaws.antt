@@ -2,10 +2,10 @@
 use Prim.Native.Nat.{ℕ, zero, suc, _+_, _-_, _*_, _/_, _%_, _^_, _<_, _≤_}
 use mathlib.Core.List.{List, [], _∷_, _++_}
 use mathlib.Core.Path.{_≡_, refl, sym, ap, _∙_}
-use native.Mathlib.Nat.{pow-suc, zero-div, mul-assoc, lt-of-lt-of-le}
+use native.Mathlib.Nat.{pow-suc, zero-div}
 use native.Mathlib.Numerals.{add-one}
 use native.Mathlib.Omega.{arith}
-use lib.Pow.{pow-mono, pow-pos, mod-pow-add, shr-shr}
+use lib.Pow.{mod-pow-add, shr-shr}
 use lib.ListN.{length, getD, take, drop, length-drop}
 use lib.Seq.{take-suc, getD-drop}
 use Rattle.bits.specs.Bits.{bitsOf, value, number}
@@ -70,33 +70,19 @@ part-suc b j n h =
     let g : suc n ≡ n + 1 = omega arith in
     rw (e, f, g, mod-pow-add (b / 2 ^ (7 - (j + n))) n 1, shr-shr b (7 - (j + n)) 1)
 
-regroup : (a p q r : ℕ) → (a * p + q) * 2 + r ≡ a * (p * 2) + (q * 2 + r)
-regroup a p q r = rw (← mul-assoc a p 2) (omega arith)
-
--- The bits of one byte more.
-pub number-part : (s : List ℕ) (k i n : ℕ) → k + (i + n) ≤ 8 * length s → (k + i) % 8 + n ≤ 8
-    → number s k (i + n) ≡ number s k i * 2 ^ n + getD s ((k + i) / 8) 0 / 2 ^ (8 - ((k + i) % 8 + n)) % 2 ^ n
-number-part s k i zero h l =
-    let e : i + 0 ≡ i = omega arith in
-    let z : getD s ((k + i) / 8) 0 / 2 ^ (8 - ((k + i) % 8 + 0)) % 1 ≡ 0 = omega arith in
-    rw (e, z) (omega arith)
-number-part s k i (suc n) h l =
-    let e : i + suc n ≡ suc (i + n) = omega arith in
-    let d : (k + (i + n)) / 8 ≡ (k + i) / 8 = omega arith in
-    let m : (k + (i + n)) % 8 ≡ (k + i) % 8 + n = omega arith in
+-- The bits that lie in one byte.
+pub number-within : (s : List ℕ) (k n : ℕ) → k + n ≤ 8 * length s → k % 8 + n ≤ 8
+    → number s k n ≡ getD s (k / 8) 0 / 2 ^ (8 - (k % 8 + n)) % 2 ^ n
+number-within s k zero h l =
+    let z : getD s (k / 8) 0 / 2 ^ (8 - (k % 8 + 0)) % 1 ≡ 0 = omega arith in
+    rw z (number-zero s k)
+number-within s k (suc n) h l =
+    let d : (k + n) / 8 ≡ k / 8 = omega arith in
+    let m : (k + n) % 8 ≡ k % 8 + n = omega arith in
     rw (
-      e,
-      number-suc s k (i + n) (omega arith),
+      number-suc s k n (omega arith),
       d,
       m,
-      number-part s k i n (omega arith) (omega arith),
-      part-suc (getD s ((k + i) / 8) 0) ((k + i) % 8) n (omega arith),
-      pow-suc 2 n,
+      number-within s k n (omega arith) (omega arith),
+      part-suc (getD s (k / 8) 0) (k % 8) n (omega arith),
     )
-    (regroup (number s k i) (2 ^ n) _ _)
-
--- A field of at most 64 bits stays below 2 ^ 64 while its bytes are added.
-pub number-part-lt : (s : List ℕ) (k i n : ℕ) → k + (i + n) ≤ 8 * length s → (k + i) % 8 + n ≤ 8 → i + n ≤ 64
-    → number s k i * 2 ^ n + getD s ((k + i) / 8) 0 / 2 ^ (8 - ((k + i) % 8 + n)) % 2 ^ n < 2 ^ 64
-number-part-lt s k i n h l m =
-    lt-of-lt-of-le (rw (number-part s k i n h l) at (number-lt s k (i + n) h)) (pow-mono m)

@@ -46,7 +46,7 @@ pub fn rows(
     let m = candidates::find_rows(ranks, outputs, starts, children, c, list);
     let k = smaller(most, m);
     let n = outputs.len();
-    variant_order::choose(
+    variant_sort::choose(
         prices,
         order,
         functions,

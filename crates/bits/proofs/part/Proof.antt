@@ -23,7 +23,7 @@ rem-result : tie.Need-rem-result
 rem-result c = rw (c .power .ensures) (pow-pos _)
 
 returns : tie.Need-returns
-returns c = rw (c .power .ensures, c .before .wide .ensures)
+returns c = rw (c .power .ensures, c .before .wide .ensures .0)
 
 pub part-spec : {M : Type 1} → statement M
 part-spec =

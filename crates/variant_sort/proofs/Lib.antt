@@ -1,0 +1,2 @@
+-- The laws of the crate `variant_sort`.
+pub mod SortLaws
