@@ -2,4 +2,5 @@
 pub mod TermLaws
 pub mod AgreeLaws
 pub mod PlanLaws
+pub mod Room
 pub mod BestLaws

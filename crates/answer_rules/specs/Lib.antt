@@ -3,4 +3,5 @@ pub mod Answers
 pub mod Plan
 pub mod Best
 pub mod Variants
+pub mod Room
 pub mod Demand

@@ -53,9 +53,7 @@ module _ (p : Plan) where
   stuck-trans : {s s′ : Store} {rs ns : List ℕ} {ls : List ℤ} → Grows s s′ → Stuck s′ rs ls ns → Stuck s rs ls ns
   stuck-trans g k = record {
     last = k .last;
-    node = k .node;
     grows = grows-trans g (k .grows);
-    refused = k .refused;
     records = k .records;
     literals = k .literals;
     names = k .names;
@@ -78,9 +76,7 @@ module _ (p : Plan) where
       record { grows = g .grows; tracks = tracks-grows s lent (g .grows) h; stands = stands lent t g }
   added-right s x node h stands noRoom e g = record {
     last = s .lent;
-    node = node;
     grows = grows-refl (s .lent) (h .formed);
-    refused = e;
     records = refl;
     literals = refl;
     names = refl;

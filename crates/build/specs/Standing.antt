@@ -7,8 +7,7 @@ use lib.ListN.{getD}
 use lib.IntN.{ℤ}
 use Rattle.term_rules.specs.Lent.{Store}
 use Rattle.term_rules.specs.WellFormed.{wellFormed}
-use Rattle.term_rules.specs.Nodes.{Node, Tree, Means}
-use Rattle.term_rules.specs.Adding.{add, noRoom}
+use Rattle.term_rules.specs.Nodes.{Tree, Means}
 use Rattle.term_rules.specs.Growing.{Grows}
 use Rattle.build.specs.Plan.{Child, class, Plan, ChildTree}
 use Rattle.build.specs.Building.{State}
@@ -31,12 +30,10 @@ pub record Builds (p : Plan) (s : State) (x : Child) (t : ℕ) (s′ : State) : 
   pub tracks : Tracks p s′
   pub stands : Stands p (s′ .lent) x t
 
--- a term had no room, and the store was left as it was then
+-- building ended early: the lists are left as those of a store that grew from the first
 pub record Stuck (s : Store) (rs : List ℕ) (ls : List ℤ) (ns : List ℕ) : Type 0 where
   pub last : Store
-  pub node : Node
   pub grows : Grows s last
-  pub refused : add last node ≡ noRoom
   pub records : rs ≡ last .records
   pub literals : ls ≡ last .literals
   pub names : ns ≡ last .names

@@ -7,8 +7,6 @@ use lib.ListN.{getD, replicate}
 use lib.IntN.{ℤ}
 use Rattle.term_rules.specs.Lent.{Store, store}
 use Rattle.term_rules.specs.WellFormed.{wellFormed}
-use Rattle.term_rules.specs.Nodes.{Node}
-use Rattle.term_rules.specs.Adding.{add, noRoom}
 use Rattle.term_rules.specs.Growing.{Grows}
 use Rattle.build.specs.Plan.{class, Plan}
 use Rattle.build.specs.Building.{state, Out, done, full, buildIn}
@@ -51,15 +49,11 @@ pub record Enters (p : Plan) (s : Store) (c t : ℕ) (s′ : Store) : Type 0 whe
   pub grows : Grows s s′
   pub stands : Stands p s′ (class c) t
 
--- NoRoom: a term had no room, and nothing lent is changed
+-- NoRoom: nothing lent is changed
 pub record Refused (s : Store) (rs : List ℕ) (ls : List ℤ) (ns : List ℕ) : Type 0 where
   pub records : rs ≡ s .records
   pub literals : ls ≡ s .literals
   pub names : ns ≡ s .names
-  pub last : Store
-  pub node : Node
-  pub grows : Grows s last
-  pub refused : add last node ≡ noRoom
 
 -- what each answer tells
 abbrev pub Tells : Plan → Store → ℕ → Built → List ℕ → List ℤ → List ℕ → Type 0

@@ -1,4 +1,5 @@
 -- The laws of the crate `extract`.
+pub mod LiteralLaws
 pub mod VariantFacts
 pub mod TableLaws
 pub mod RootLaws
@@ -12,4 +13,3 @@ pub mod DeterminedLaws
 pub mod VariantWayLaws
 pub mod VariantDeterminedLaws
 pub mod Promises
-pub mod Room

@@ -14,18 +14,9 @@ use Rattle.table_rules.specs.Rules.Choosing.{limit, answerFor}
 use Rattle.answer_rules.specs.Answers.{value, After}
 use Rattle.answer_rules.specs.Best.{BestTerm, bestAt}
 use Rattle.answer_rules.specs.Variants.{keptRows, variantsAt}
-use Rattle.extract.proofs.VariantFacts.OutcomeLaws.{
-  dear-told,
-  dear-refused,
-  full-told,
-  full-refused,
-  literal-full,
-  literal-refused,
-}
+use Rattle.extract.proofs.VariantFacts.OutcomeLaws.{dear-told, dear-refused}
 use Rattle.extract.proofs.VariantFacts.WayLaws.{at-fault}
 use Rattle.extract.proofs.VariantFacts.CallLaws.{
-  literal-after,
-  variants-returned,
   variants-rest,
   variants-unchanged,
   variants-number,
@@ -36,13 +27,13 @@ use Rattle.extract.proofs.VariantFacts.CallLaws.{
   bad-store-when,
 }
 use Rattle.extract.proofs.VariantFacts.FirstLaws.{first-rows}
-use Rattle.extract.proofs.VariantFacts.ClassLaws.{
-  class-full,
-  class-comes-back,
-  class-passes as kept-passes,
-  class-few,
-  class-not-falling,
-  class-none,
+use Rattle.extract.proofs.VariantFacts.ClassLaws.{class-comes-back, class-passes as kept-passes, class-none}
+use Rattle.extract.proofs.VariantFacts.ToldLaws.{
+  rows-full-told,
+  rows-full-refused,
+  rows-room-told,
+  rows-room-kept,
+  literal-told,
 }
 use Rattle.extract.specs.Promises.{ClassRoot, BaseRoot, BaseOutcome, PassCount, Promises}
 use Rattle.extract.proofs.RootLaws.{best-fault}
@@ -51,8 +42,12 @@ use Rattle.extract.proofs.VerdictLaws.{
   no-term-when,
   too-dear-then,
   too-dear-when,
-  outcome-otherwise,
+  choice-when,
   found-then,
+  room-then,
+  room-when,
+  no-room-then,
+  no-room-when,
   number-told,
 }
 use Rattle.extract.proofs.WayLaws.{
@@ -70,7 +65,6 @@ use Rattle.extract.proofs.WayLaws.{
   bad-store-is,
   bad-store-then,
   refusal-unchanged,
-  value-returned,
 }
 use Rattle.extract.proofs.DeterminedLaws.{best-once}
 use Rattle.extract.proofs.VariantDeterminedLaws.{variants-once}
@@ -109,22 +103,36 @@ promises = record {
       let w = verdict file root v s t r f in
       let x = verdict-right file root v s t r f in
       let k = verdict-kept file root v s t r f in
-      (no-term-then limit t c s a w x k, no-term-when limit t c s a w x k);
+      (no-term-then t root c s a w x k, no-term-when t root c s a w x k);
   too-dear = λ file root v t s r f.
       let c : ℕ = flatClass t root v in
       let a = bestAt file root v s in
       let w = verdict file root v s t r f in
       let x = verdict-right file root v s t r f in
       let k = verdict-kept file root v s t r f in
-      (too-dear-then limit t c s a w x k, too-dear-when limit t c s a w x k);
+      (too-dear-then t root c s a w x k, too-dear-when t root c s a w x k);
   otherwise = λ file root v t s r f.
-      outcome-otherwise limit t (flatClass t root v) s (bestAt file root v s) (verdict file root v s t r f)
+      choice-when t root (flatClass t root v) s (bestAt file root v s) (verdict file root v s t r f)
       (verdict-right file root v s t r f) (verdict-kept file root v s t r f);
+  given-room = λ file root v t s r f.
+      let c : ℕ = flatClass t root v in
+      let a = bestAt file root v s in
+      let w = verdict file root v s t r f in
+      let x = verdict-right file root v s t r f in
+      let k = verdict-kept file root v s t r f in
+      (λ e. room-then t root c s a w k (e .0) (e .1), room-when t root c s a w x k);
   comes-back = λ file root v t s r f.
-      found-then limit t (flatClass t root v) s (bestAt file root v s) (verdict file root v s t r f)
-      (verdict-right file root v s t r f) (verdict-kept file root v s t r f);
+      found-then t root (flatClass t root v) s (bestAt file root v s) (verdict file root v s t r f)
+      (verdict-kept file root v s t r f);
+  no-room = λ file root v t s r f.
+      let c : ℕ = flatClass t root v in
+      let a = bestAt file root v s in
+      let w = verdict file root v s t r f in
+      let x = verdict-right file root v s t r f in
+      let k = verdict-kept file root v s t r f in
+      (no-room-then t root c s a w k, no-room-when t root c s a w x k);
   numbers = λ file root v t s r f.
-      number-told limit t (flatClass t root v) s (bestAt file root v s) (verdict file root v s t r f)
+      number-told t root (flatClass t root v) s (bestAt file root v s) (verdict file root v s t r f)
       (verdict-kept file root v s t r f);
   passes = counted;
   base-root = base;
@@ -134,19 +142,12 @@ promises = record {
   bad-store = λ file root v t s h p.
       (bad-store-then file root v s t h p, λ f. told (bad-store-is file root v s t h p f));
   unchanged = refusal-unchanged;
-  returned = value-returned;
   one-answer = best-once;
   variants-kept = λ file root v n t l r f.
       first-rows t (class-known file root v n t l r) root (r .sort) (flatClass t root v)
       (class-reached file root v n t l r) n;
   variants-come-back = λ file root v n t l r f.
       class-comes-back t (class-known file root v n t l r) root (r .sort) (flatClass t root v)
-      (class-reached file root v n t l r) n l f (variantsAt file root v n l) (class-outcome file root v n t l r f);
-  variants-few = λ file root v n t l r f.
-      class-few t (class-known file root v n t l r) root (r .sort) (flatClass t root v)
-      (class-reached file root v n t l r) n l f (variantsAt file root v n l) (class-outcome file root v n t l r f);
-  variants-sorted = λ file root v n t l r f.
-      class-not-falling t (class-known file root v n t l r) root (r .sort) (flatClass t root v)
       (class-reached file root v n t l r) n l f (variantsAt file root v n l) (class-outcome file root v n t l r f);
   variants-none = λ file root v n t l r f.
       class-none t (class-known file root v n t l r) root (r .sort) (flatClass t root v)
@@ -155,8 +156,8 @@ promises = record {
       pass-count t (class-known file root v n t l r) root (k .passes) (r .sort)
       (kept-passes t (class-known file root v n t l r) root (r .sort) (flatClass t root v)
       (class-reached file root v n t l r) n l f (variantsAt file root v n l) (class-outcome file root v n t l r f) k e);
-  variants-base-root = λ file root v n t l r f k e.
-      literal-after l f (literalOf t v) (variantsAt file root v n l) k e (base-kept file root v n t l r f) .0;
+  variants-base-root = λ file root v n t l r f.
+      literal-told l (literalOf t v) f (variantsAt file root v n l) (base-kept file root v n t l r f);
   variants-file-first = λ file root v n l x e. at-fault file root v n l x e;
   variants-bad-root = λ file root v n t l h.
       (bad-root-told file root v n l t (h .end) (h .is), bad-root-when file root v n l t (h .end) (h .is));
@@ -170,21 +171,26 @@ promises = record {
       let o = class-outcome file root v n t l r f in
       (dear-told t root l rows a o, dear-refused t root l rows a o);
   variants-no-room = λ file root v n t l r f.
-      let rows = keptRows t root (flatClass t root v) n in
+      let k = class-known file root v n t l r in
+      let q = class-reached file root v n t l r in
+      let c : ℕ = flatClass t root v in
       let a = variantsAt file root v n l in
-      let o = class-outcome file root v n t l r f in
-      (full-told t root l rows a o, λ q. full-refused t root l rows a o (q .0) (q .1));
-  variants-full = λ file root v n t l r f.
-      class-full t (class-known file root v n t l r) root (r .sort) (flatClass t root v)
-      (class-reached file root v n t l r) n l f (variantsAt file root v n l) (class-outcome file root v n t l r f);
-  variants-base-no-room = λ file root v n t l r f.
+      let o = class-outcome file root v n t l r f in (
+        rows-full-told t k root (r .sort) c q n l f a o,
+        λ x. rows-full-refused t k root (r .sort) c q n l f a o (x .0) (x .1),
+      );
+  variants-given-room = λ file root v n t l r f.
+      let k = class-known file root v n t l r in
+      let q = class-reached file root v n t l r in
+      let c : ℕ = flatClass t root v in
       let a = variantsAt file root v n l in
-      let o = base-kept file root v n t l r f in
-      (literal-full l (literalOf t v) a o, literal-refused l (literalOf t v) a o);
+      let o = class-outcome file root v n t l r f in (
+        λ x. rows-room-told t k root (r .sort) c q n l f a o (x .0) (x .1),
+        rows-room-kept t k root (r .sort) c q n l f a o,
+      );
   variants-numbers = λ file root v n l. variants-number l file root v n;
   variants-not-eleven = λ file root v n l. variants-not-eleven l file root v n;
   variants-unchanged = λ file root v n l. variants-unchanged l file root v n;
-  variants-returned = λ file root v n l. variants-returned l file root v n;
   variants-rest = λ file root v n l. variants-rest l file root v n;
   variants-one-answer = variants-once;
 }

@@ -12,4 +12,6 @@ pub mod CallLaws
 pub mod GrownLaws
 pub mod FirstLaws
 pub mod VariantLaws
+pub mod RoomLaws
 pub mod ClassLaws
+pub mod ToldLaws

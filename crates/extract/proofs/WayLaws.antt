@@ -41,8 +41,9 @@ use Rattle.table_rows.proofs.LoadLaws.{accepted-of}
 use Rattle.answer_rules.specs.Answers.{Answer, value, refusal, After, refused}
 use Rattle.answer_rules.specs.Best.{BestTerm, bestLiteral, bestBuilt, bestClass, bestOf, bestAt}
 use Rattle.answer_rules.specs.Plan.{planFor, rankFor}
-use Rattle.answer_rules.specs.Demand.{HasNoRoom, Kept}
+use Rattle.answer_rules.specs.Demand.{Kept}
 use Rattle.answer_rules.proofs.BestLaws.{DemandThree, demand-three}
+use Rattle.extract.proofs.LiteralLaws.{literal-fits, literal-full}
 use Rattle.extract.proofs.VariantFacts.OutcomeLaws.{not-refused, same-number, same-value}
 use Rattle.extract.specs.Promises.{Holding, ClassRoot, BaseRoot, PassCount, BaseOutcome}
 use Rattle.extract.proofs.RootLaws.{sort-below, value-in-sort, root-in, best-fault, best-bad, best-rooted}
@@ -162,10 +163,10 @@ module _ (file : List ℕ) (root v : ℕ) (s : Store) where
     unfolding verdict
     verdict-right = three .is-right
 
-    pub verdict-kept : Kept t (flatClass t root v) s (bestAt file root v s) verdict
+    pub verdict-kept : Kept t root (flatClass t root v) s (bestAt file root v s) verdict
     unfolding verdict
     verdict-kept =
-        subst (λ (a : After BestTerm). Kept t (flatClass t root v) s a (three .verdict))
+        subst (λ (a : After BestTerm). Kept t root (flatClass t root v) s a (three .verdict))
         (sym (best-is t (r .held) (class-root-in t (r .held) r) f)) (three .kept)
 
 -- The literal of a base root that was added, or had no room.
@@ -173,8 +174,9 @@ module _ (s : Store) (f : wellFormed s ≡ true) (z : ℤ) where
   pub base-outcome :
       (x : Adds) → add s (literal z) ≡ x → BaseOutcome z s (bestLiteral s x .store) (bestLiteral s x .answer)
   unfolding bestLiteral
-  base-outcome (at i s′) e = (refl, refl, subst (Gives s (literal z)) e (add-gives s (literal z) f tt))
-  base-outcome noRoom e = (refl, refl, e)
+  base-outcome (at i s′) e =
+      (refl, refl, subst (Gives s (literal z)) e (add-gives s (literal z) f tt), literal-fits s f z i s′ e)
+  base-outcome noRoom e = (refl, refl, literal-full s f z e)
 
   -- a refusal leaves the store
   literal-unchanged : (x : Adds) (k : ℕ) → bestLiteral s x .answer ≡ refusal k → bestLiteral s x .store ≡ s
@@ -281,9 +283,9 @@ module _ (file : List ℕ) (root v : ℕ) (s : Store) where
           (base-returned (literalOf t v) (bestLiteral s x) (bestLiteral s x .answer) b
           (base-outcome s f (literalOf t v) x refl) (told-by (bestLiteral s x) d e))
       go (byClass t r f d) =
-          let o = found-then limit t (flatClass t root v) s (bestAt file root v s) (verdict file root v s t r f)
-          (verdict-right file root v s t r f) (verdict-kept file root v s t r f) b e in
-          (o .1 .grows, o .1 .below)
+          let o = found-then t root (flatClass t root v) s (bestAt file root v s) (verdict file root v s t r f)
+          (verdict-kept file root v s t r f) b e in
+          (o .grows, o .below)
 
 -- A root and a well-formed store are refused by 11, 12 or 13 alone.
 module _ (file : List ℕ) (root v : ℕ) (s : Store) (t : Table) (h : Holding file t) (p : isRoot t root v ≡ true) where
@@ -296,10 +298,10 @@ module _ (file : List ℕ) (root v : ℕ) (s : Store) (t : Table) (h : Holding f
       let q : k ≡ 13 = sym (same-number e) ∙ o .0 in
       (omega (arith, q), omega (arith, q))
 
-  class-number : (s′ : Store) (k : ℕ) → (k ≡ 11) ⊎ ((k ≡ 12) ⊎ HasNoRoom s k s′) → Late k
-  class-number s′ k (inl e) = (omega (arith, e), omega (arith, e))
-  class-number s′ k (inr (inl e)) = (omega (arith, e), omega (arith, e))
-  class-number s′ k (inr (inr o)) = (omega (arith, o .number), omega (arith, o .number))
+  class-number : (k : ℕ) → (k ≡ 11) ⊎ ((k ≡ 12) ⊎ (k ≡ 13)) → Late k
+  class-number k (inl e) = (omega (arith, e), omega (arith, e))
+  class-number k (inr (inl e)) = (omega (arith, e), omega (arith, e))
+  class-number k (inr (inr e)) = (omega (arith, e), omega (arith, e))
 
   formed-number : wellFormed s ≡ true → (k : ℕ) → bestAt file root v s .answer ≡ refusal k → Late k
   formed-number f k e =
@@ -316,8 +318,8 @@ module _ (file : List ℕ) (root v : ℕ) (s : Store) (t : Table) (h : Holding f
         eq = eqb-false (sortOf t root .kind) 0 q;
         inside = value-in-sort t root v p q;
       } in
-      class-number (bestAt file root v s .store) k
-      (number-told limit t (flatClass t root v) s (bestAt file root v s) (verdict file root v s t r f)
+      class-number k
+      (number-told t root (flatClass t root v) s (bestAt file root v s) (verdict file root v s t r f)
       (verdict-kept file root v s t r f) k e))
 
   pub bad-store-then : bestAt file root v s .answer ≡ refusal 17 → wellFormed s ≡ false

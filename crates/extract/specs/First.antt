@@ -9,14 +9,17 @@ use Rattle.order.specs.Compare.{upTo}
 use Rattle.variant_order.specs.Keys.{Key, compareKeys}
 use Rattle.term_rules.specs.Lent.{Store}
 use Rattle.term_rules.specs.Nodes.{Means}
+use Rattle.term_rules.specs.Growing.{Grows}
 use Rattle.choice_rules.specs.Rows.{Child, literal, class, rowAt}
 use Rattle.choice_rules.specs.Deriving.{Tree, leaf, node, Forest, none, more, treeCost, NotIn}
+use Rattle.choice_rules.specs.Edges.{ChosenAll}
 use Rattle.choice_rules.specs.Demand.Deriving.{Deriving, Cheapest}
 use Rattle.file_rules.specs.Table.{Table}
 use Rattle.table_rules.specs.Rules.Rows.{tableRowOf, tableRows, usable}
 use Rattle.table_rules.specs.Rules.Terms.{nameOf, termOf}
-use Rattle.table_rules.specs.Rules.Choosing.{limit}
-use Rattle.answer_rules.specs.Variants.{fileRow, costFor, keptRows, Kept, VariantsAfter}
+use Rattle.table_rules.specs.Rules.Choosing.{limit, edgeRow}
+use Rattle.answer_rules.specs.Room.{Fits}
+use Rattle.answer_rules.specs.Variants.{fileRow, costFor, keptRows, Kept, VariantsAfter, Lending}
 
 -- "every usable row of it with a cost": row r heads a term that derives class c. After saturation its cost is w: no
 -- term that it heads costs less, and one costs just that.
@@ -71,10 +74,11 @@ BestChildren t none (k ∷ ks) = ⊥
 BestChildren t (more u f) [] = ⊥
 BestChildren t (more u f) (k ∷ ks) = BestChild t u k × BestChildren t f ks
 
--- Term u of the store is the variant of class c that row r heads: built from usable rows, each child by its best term,
--- it derives the class; its exact cost is w, and no other term that the row heads is cheaper.
-pub record Variant (t : Table) (c r w : ℕ) (s : Store) (u : ℕ) : Type 0 where
+-- Term u of the store is the variant of class c that row r heads: over the trees that the edges' rows choose for its
+-- children, best ones, it derives the class; its exact cost is w, and no other term that the row heads is cheaper.
+pub record Variant (t : Table) (root c r w : ℕ) (s : Store) (u : ℕ) : Type 0 where
   pub children : Forest
+  pub chosen : ChosenAll (tableRows t) (edgeRow t root) children (rowAt (tableRows t) r .children)
   pub is-deriving : Deriving (tableRows t) (usable t) c (node r children)
   pub exact : treeCost (tableRows t) (node r children) ≡ w
   pub least : (f : Forest) → Deriving (tableRows t) (usable t) c (node r f) → w ≤ treeCost (tableRows t) (node r f)
@@ -83,12 +87,16 @@ pub record Variant (t : Table) (c r w : ℕ) (s : Store) (u : ℕ) : Type 0 wher
   pub means : Means s u (termOf t (node r children))
 
 -- What comes back of these rows at these costs: as many results, at the front of the lists the costs, all below 2^64-1,
--- and the numbers of the rows' variants in the returned store.
-pub record ComeBack (t : Table) (c : ℕ) (rows costs : List ℕ) (a : VariantsAfter) (k : Kept) : Type 0 where
+-- and the numbers of the rows' variants in the returned store, which is one that the lent one may become. What was
+-- there before is still there.
+pub record ComeBack
+    (t : Table) (root c : ℕ) (rows costs : List ℕ) (l : Lending) (a : VariantsAfter) (k : Kept) : Type 0 where
   pub count-is : k .count ≡ length rows
   pub costs-are : (j : ℕ) → j < k .count → getD (a .costs) j 0 ≡ getD costs j 0
   pub below : (j : ℕ) → j < k .count → getD (a .costs) j 0 < limit
   pub variants :
       (j : ℕ) →
       j < k .count →
-      Variant t c (getD rows j 0) (getD (a .costs) j 0) (a .store) (getD (a .terms) j 0)
+      Variant t root c (getD rows j 0) (getD (a .costs) j 0) (a .store) (getD (a .terms) j 0)
+  pub fits : Fits (l .store) (a .store)
+  pub grows : Grows (l .store) (a .store)

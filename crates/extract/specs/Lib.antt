@@ -4,4 +4,3 @@ pub mod Terms
 pub mod Told
 pub mod First
 pub mod Promises
-pub mod Room

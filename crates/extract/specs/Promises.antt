@@ -13,9 +13,8 @@ use Rattle.refusal.specs.declared.Refusal.{Refusal}
 use Rattle.bits.specs.Got.{got, refused as fault}
 use Rattle.term_rules.specs.Lent.{Store}
 use Rattle.term_rules.specs.WellFormed.{wellFormed}
-use Rattle.term_rules.specs.Nodes.{literal}
-use Rattle.term_rules.specs.Adding.{add, noRoom}
-use Rattle.term_rules.specs.Growing.{Grows, Takes}
+use Rattle.term_rules.specs.Nodes.{literal, number}
+use Rattle.term_rules.specs.Growing.{Takes}
 use Rattle.choice_rules.specs.Deriving.{Tree, treeCost}
 use Rattle.choice_rules.specs.Run.{Run, blank, FirstStill, costed}
 use Rattle.choice_rules.specs.Demand.Deriving.{Deriving}
@@ -28,26 +27,15 @@ use Rattle.table_rules.specs.Rules.Terms.{literalOf}
 use Rattle.table_rules.specs.Rules.Choosing.{limit}
 use Rattle.answer_rules.specs.Answers.{Answer, value, refusal, After, refused}
 use Rattle.answer_rules.specs.Best.{BestTerm, bestAt}
-use Rattle.answer_rules.specs.Demand.{ComesBack, HasNoRoom, BestOutcome}
-use Rattle.answer_rules.specs.Variants.{keptRows, Kept, VariantsAfter, Lending, variantsRefused, variantsAt}
+use Rattle.answer_rules.specs.Room.{Fits, HasRoom, NoRoomFor}
+use Rattle.answer_rules.specs.Demand.{Choice, chosenTerm, ComesBack}
+use Rattle.answer_rules.specs.Variants.{Kept, VariantsAfter, Lending, variantsRefused, variantsAt}
 use Rattle.variant_order.specs.Arrays.{AllBelow}
 use Rattle.variants_root.specs.declared.VariantsAnswer.{VariantsAnswer}
 use Rattle.variants_root.specs.Several.{seenVariants}
-use Rattle.extract.specs.Returned.{Returned}
 use Rattle.extract.specs.First.{FirstRows, keptFileRows, keptCosts, ComeBack}
-use Rattle.extract.specs.Told.{
-  OneOf,
-  HasDear,
-  NoPlaces,
-  NoRoomFor,
-  NoRoomForLiteral,
-  FullAfter,
-  Unchanged,
-  EmptyList,
-  RestStays,
-  NotFalling,
-  OneLiteral,
-}
+use Rattle.extract.specs.Terms.{HasRoomForRows, NoRoomForRows}
+use Rattle.extract.specs.Told.{OneOf, HasDear, NoPlaces, Places, Unchanged, EmptyList, RestStays, LiteralTold}
 use Rattle.best_root.specs.declared.BestAnswer.{BestAnswer}
 use Rattle.best_root.specs.Single.{seenBest}
 
@@ -89,10 +77,12 @@ pub record PassCount (t : Table) (root p : ℕ) : Type 0 where
   pub counted : p ≡ run .passes
   pub few : p ≤ costed (run .state .ranks) + 1
 
--- A base root: "A base root costs 1", in one pass; or its literal has no room.
+-- A base root: "A base root costs 1", in one pass, and its literal comes back in a store that the lent one may become;
+-- or no such store holds it, and nothing is changed.
 abbrev pub BaseOutcome : ℤ → Store → Store → Answer BestTerm → Type 0
-BaseOutcome z s s′ (value b) = (b .cost ≡ 1) × (b .passes ≡ 1) × Takes s (literal z) (b .term) s′
-BaseOutcome z s s′ (refusal k) = (k ≡ 13) × (s′ ≡ s) × (add s (literal z) ≡ noRoom)
+BaseOutcome z s s′ (value b) =
+    (b .cost ≡ 1) × (b .passes ≡ 1) × Takes s (literal z) (b .term) s′ × Fits s s′
+BaseOutcome z s s′ (refusal k) = (k ≡ 13) × (s′ ≡ s) × NoRoomFor s (number z)
 
 -- P of what variants answer: of the table, the root sort, the class, the number asked for, what is lent and the answer.
 abbrev pub OfVariants : (Table → ℕ → ℕ → ℕ → Lending → VariantsAfter → Type 0) → Type 0
@@ -119,25 +109,26 @@ pub record Promises : Type 0 where
       (λ t root c s a.
       (a .answer ≡ refusal 12)
       ↔ (((u : Tree) × Derivation t c u) × ((u : Tree) → Derivation t c u → limit ≤ treeCost (tableRows t) u)))
-  -- "Otherwise, given room in the store, a deriving term comes back; its exact cost is the number reported; none is
-  -- cheaper; and down its chosen rows no class is met twice on a path."
+  -- "Otherwise": the class has a chosen tree, the one that the edges' rows choose, and that is a cheapest one.
   pub otherwise :
+      OfClasses (λ t root c s a. (u : Tree) → Derivation t c u → treeCost (tableRows t) u < limit → Choice t root c)
+  -- "given room in the store, a deriving term comes back": exactly when some store that the lent one may become in its
+  -- room holds the chosen term.
+  pub given-room :
       OfClasses
       (λ t root c s a.
-      (u : Tree) →
-      Derivation t c u →
-      treeCost (tableRows t) u < limit →
-      (w : ℕ) × BestOutcome t c w s (a .store) (a .answer))
-  -- Whatever comes back is such a term, at a cost below 2^64-1.
+      ((b : BestTerm) × (a .answer ≡ value b)) ↔ ((x : Choice t root c) × HasRoom s (chosenTerm t root c x)))
+  -- What comes back is the chosen term: "its exact cost is the number reported; none is cheaper; and down its chosen
+  -- rows no class is met twice on a path."
   pub comes-back :
+      OfClasses (λ t root c s a. (b : BestTerm) → a .answer ≡ value b → ComesBack t root c s b (a .store))
+  -- "NoRoom | new terms or names exceed the store's room": exactly when no such store holds the chosen term.
+  pub no-room :
       OfClasses
       (λ t root c s a.
-      (b : BestTerm) → a .answer ≡ value b → (b .cost < limit) × ComesBack t c (b .cost) s b (a .store))
-  -- No other number is told of a class, and NoRoom only where a term of it had none.
-  pub numbers :
-      OfClasses
-      (λ t root c s a.
-      (k : ℕ) → a .answer ≡ refusal k → (k ≡ 11) ⊎ ((k ≡ 12) ⊎ HasNoRoom s k (a .store)))
+      (a .answer ≡ refusal 13) ↔ ((x : Choice t root c) × NoRoomFor s (chosenTerm t root c x)))
+  -- No other number is told of a class.
+  pub numbers : OfClasses (λ t root c s a. (k : ℕ) → a .answer ≡ refusal k → (k ≡ 11) ⊎ ((k ≡ 12) ⊎ (k ≡ 13)))
   -- "The answer carries the number of passes": those of the run over the rows that the root sort reaches.
   pub passes : OfClasses (λ t root c s a. (b : BestTerm) → a .answer ≡ value b → PassCount t root (b .passes))
   -- A base root is its literal.
@@ -162,16 +153,11 @@ pub record Promises : Type 0 where
       Holding file t →
       isRoot t root v ≡ true →
       (bestAt file root v s .answer ≡ refusal 17) ↔ (wellFormed s ≡ false)
-  -- "Nothing lent is changed" by a refusal,
+  -- "Nothing lent is changed" by a refusal.
   pub unchanged :
       (file : List ℕ) (root v : ℕ) (s : Store) (k : ℕ) →
       bestAt file root v s .answer ≡ refusal k →
       bestAt file root v s .store ≡ s
-  -- and a store that comes back is well formed, keeps every term under its number, and has the term that is answered.
-  pub returned :
-      (file : List ℕ) (root v : ℕ) (s : Store) (b : BestTerm) →
-      bestAt file root v s .answer ≡ value b →
-      Grows s (bestAt file root v s .store) × (b .term < bestAt file root v s .store .terms)
   -- Any two answers that the contract of `best` allows coincide, and so do the lists that it leaves.
   pub one-answer :
       (r q : BestAnswer) (rs rs′ : List ℕ) (ls ls′ : List ℤ) (ns ns′ : List ℕ) (n m : ℕ) →
@@ -180,24 +166,20 @@ pub record Promises : Type 0 where
   -- Variants, "every usable row of it with a cost, sorted by cost, function name bytes, row cells as numbers (literal
   -- indices, not values), then the first n": the rows that are kept are these, at these costs.
   pub variants-kept : OfVariants (λ t root c n l a. FirstRows t c n (keptFileRows t root c n) (keptCosts t root c n))
-  -- What comes back is a term for each of them in the returned store: it derives the class, its exact cost is the
-  -- number told, and that is below 2^64-1.
+  -- What comes back is a term for each of them in the returned store: over the trees that the edges' rows choose for
+  -- its children it derives the class, its exact cost is the number told, and that is below 2^64-1.
   pub variants-come-back :
       OfVariants
       (λ t root c n l a.
-      (k : Kept) → a .answer ≡ value k → ComeBack t c (keptFileRows t root c n) (keptCosts t root c n) a k)
-  -- "then the first n": at most n,
-  pub variants-few : OfVariants (λ t root c n l a. (k : Kept) → a .answer ≡ value k → k .count ≤ n)
-  -- "sorted by cost": the costs told do not fall.
-  pub variants-sorted :
-      OfVariants (λ t root c n l a. (k : Kept) → a .answer ≡ value k → NotFalling (a .costs) (k .count))
+      (k : Kept) →
+      a .answer ≡ value k →
+      ComeBack t root c (keptFileRows t root c n) (keptCosts t root c n) l a k)
   -- "None is an empty list", where no term derives the class.
   pub variants-none : OfVariants (λ t root c n l a. ((u : Tree) → Derivation t c u → ⊥) → EmptyList l a)
   -- "The answer carries the number of passes", as best's does.
   pub variants-passes : OfVariants (λ t root c n l a. (k : Kept) → a .answer ≡ value k → PassCount t root (k .passes))
-  -- "A base root gives one variant, even for n = 0."
-  pub variants-base-root :
-      OfBaseRoots (λ z l a. (k : Kept) → a .answer ≡ value k → OneLiteral z l a (k .count) (k .passes))
+  -- "A base root gives one variant, even for n = 0.", or NoRoom and no other number.
+  pub variants-base-root : OfBaseRoots (λ z l a. LiteralTold z l a (a .answer))
   -- "Best and variants: file, 10, 17, 11, 12, 13": the file's first fault comes before all,
   pub variants-file-first :
       (file : List ℕ) (root v n : ℕ) (l : Lending) (x : Refusal) →
@@ -217,19 +199,23 @@ pub record Promises : Type 0 where
   -- then TooDear: "variants: a kept one costs 2^64-1 after saturation",
   pub variants-too-dear :
       OfVariants (λ t root c n l a. (a .answer ≡ refusal 12) ↔ HasDear (keptCosts t root c n))
-  -- then NoRoom: "new terms or names exceed the store's room .., or the result its lent buffer".
+  -- then NoRoom, "new terms or names exceed the store's room .., or the result its lent buffer": none of the kept ones
+  -- is too dear, and a list has no places for as many results, or no store that the lent one may become in its room
+  -- holds the terms of all kept rows.
   pub variants-no-room :
       OfVariants
       (λ t root c n l a.
       (a .answer ≡ refusal 13)
-      ↔ (AllBelow limit (keptCosts t root c n) × NoRoomFor t root (keptRows t root c n) l))
-  -- If the results have their places, some store that grew from the lent one had no room for a term.
-  pub variants-full :
+      ↔ (AllBelow limit (keptCosts t root c n)
+      × (NoPlaces l (length (keptFileRows t root c n)) ⊎ NoRoomForRows t root (l .store) (keptFileRows t root c n))))
+  -- They come back exactly when none is too dear, both lists have the places, and some such store holds the terms.
+  pub variants-given-room :
       OfVariants
       (λ t root c n l a.
-      a .answer ≡ refusal 13 → NoPlaces l (length (keptRows t root c n)) ⊎ FullAfter (l .store))
-  -- NoRoom of a base root: a list of results has no place, or the literal no room in the store.
-  pub variants-base-no-room : OfBaseRoots (λ z l a. (a .answer ≡ refusal 13) ↔ NoRoomForLiteral z l)
+      ((k : Kept) × (a .answer ≡ value k))
+      ↔ (AllBelow limit (keptCosts t root c n)
+      × Places l (length (keptFileRows t root c n))
+      × HasRoomForRows t root (l .store) (keptFileRows t root c n)))
   -- No other number is told: the file's own, 10, 17, 12 and 13,
   pub variants-numbers :
       (file : List ℕ) (root v n : ℕ) (l : Lending) (k : ℕ) →
@@ -243,13 +229,7 @@ pub record Promises : Type 0 where
       (file : List ℕ) (root v n : ℕ) (l : Lending) (k : ℕ) →
       variantsAt file root v n l .answer ≡ refusal k →
       Unchanged l (variantsAt file root v n l)
-  -- A store that comes back is well formed, keeps every term under its number, and has every term that is told,
-  pub variants-returned :
-      (file : List ℕ) (root v n : ℕ) (l : Lending) (k : Kept) →
-      variantsAt file root v n l .answer ≡ value k →
-      Returned (l .store) (variantsAt file root v n l .store) (variantsAt file root v n l .costs)
-      (variantsAt file root v n l .terms) (k .count)
-  -- and what is past the results stays in both lists.
+  -- What is past the results stays in both lists.
   pub variants-rest :
       (file : List ℕ) (root v n : ℕ) (l : Lending) (k : Kept) →
       variantsAt file root v n l .answer ≡ value k →

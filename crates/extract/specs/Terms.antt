@@ -1,27 +1,42 @@
--- The term of a row in a store, over the best terms of its children. Assumes nothing: definitions.
+-- The term of a row in a store, each child by the tree that the edges' rows choose, and room for such terms.
+-- Assumes nothing: definitions.
 use mathlib.Core.List.{List, [], _∷_}
 use Prim.Native.Nat.{ℕ, _<_}
 use Rattle.term_rules.specs.Lent.{Store}
-use Rattle.term_rules.specs.Nodes.{Trees, applied, Means}
-use Rattle.build.specs.Plan.{TreesOf}
+use Rattle.term_rules.specs.Nodes.{Means}
+use Rattle.choice_rules.specs.Rows.{rowAt}
+use Rattle.choice_rules.specs.Deriving.{node, Forest}
+use Rattle.choice_rules.specs.Edges.{ChosenAll}
 use Rattle.file_rules.specs.Table.{Table}
-use Rattle.table_rules.specs.Rules.Terms.{nameOf}
-use Rattle.answer_rules.specs.Plan.{planChildren, planFor}
-use Rattle.answer_rules.specs.Variants.{fileRow}
+use Rattle.table_rules.specs.Rules.Rows.{tableRows}
+use Rattle.table_rules.specs.Rules.Terms.{termOf}
+use Rattle.table_rules.specs.Rules.Choosing.{edgeRow}
+use Rattle.answer_rules.specs.Room.{Fits}
 
--- Term u of the store is that of row i of the scan order: its function's name over its children's terms, each class by
--- its edge.
-pub record RowTerm (t : Table) (root : ℕ) (s : Store) (i u : ℕ) : Type 0 where
+-- Term u of the store is that of row r of the file: the row over the trees that the edges' rows choose for its
+-- children, down to their literals.
+pub record RowTerm (t : Table) (root : ℕ) (s : Store) (r u : ℕ) : Type 0 where
+  pub children : Forest
+  pub chosen : ChosenAll (tableRows t) (edgeRow t root) children (rowAt (tableRows t) r .children)
   pub below : u < s .terms
-  pub trees : Trees
-  pub of : TreesOf (planFor t root) (planChildren t (fileRow t root i)) trees
-  pub means : Means s u (applied (nameOf t (fileRow t root i)) trees)
+  pub means : Means s u (termOf t (node r children))
 
 -- The terms are those of the rows, one for one.
 pub data RowTerms (t : Table) (root : ℕ) (s : Store) : List ℕ → List ℕ → Type 0 where
   noTerms : RowTerms t root s [] []
   moreTerms :
-      {i u : ℕ} {rows us : List ℕ} →
-      RowTerm t root s i u →
+      {r u : ℕ} {rows us : List ℕ} →
+      RowTerm t root s r u →
       RowTerms t root s rows us →
-      RowTerms t root s (i ∷ rows) (u ∷ us)
+      RowTerms t root s (r ∷ rows) (u ∷ us)
+
+-- Some store that the first may become in its room holds the terms of the rows,
+pub record HasRoomForRows (t : Table) (root : ℕ) (s : Store) (rows : List ℕ) : Type 0 where
+  pub store : Store
+  pub numbers : List ℕ
+  pub fits : Fits s store
+  pub terms : RowTerms t root store rows numbers
+
+-- or none does.
+abbrev pub NoRoomForRows : Table → ℕ → Store → List ℕ → Type 0
+NoRoomForRows t root s rows = (s′ : Store) (us : List ℕ) → Fits s s′ → RowTerms t root s′ rows us → ⊥

@@ -15,7 +15,7 @@ use Rattle.program_rules.specs.Reply.{emptyStore, bestReply, bestAnswer, inRoom
 use Rattle.program_rules.specs.Seen.{seen}
 use Rattle.program_rules.specs.declared.replies.Answered.{Answered}
 use Rattle.program_rules.specs.declared.replies.Answered.the-variants.{Written, Refused}
-use Rattle.extract.proofs.Promises.{promises}
+use Rattle.extract.proofs.WayLaws.{value-returned}
 use Rattle.program.specs.Calls.{bestTold, bestCall}
 
 -- the store that the program starts with
@@ -57,7 +57,7 @@ pub best-returns :
     found (bestTerm w i p) s ≡ bestAt file sort v start →
     (wellFormed s ≡ true) × (i < s .terms)
 best-returns file sort v {w} {i} {p} {s} e =
-    let kept = promises .returned file sort v start (bestTerm w i p)
+    let kept = value-returned file sort v start (bestTerm w i p)
     (sym (ap (λ (a : After BestTerm). a .answer) e)) in (
       ap wellFormed (ap (λ (a : After BestTerm). a .store) e) ∙ kept .0 .formed,
       subst (λ (x : Store). i < x .terms) (sym (ap (λ (a : After BestTerm). a .store) e)) (kept .1),

@@ -50,17 +50,9 @@ module _
       Tells p s c (left s o .answer) (left s o .records) (left s o .literals) (left s o .names)
   unfolding left
   left-tells (done t s′) b = record { grows = b .grows; stands = b .stands }
-  left-tells (full me rs ls ns) k = record {
-    records = refl;
-    literals = refl;
-    names = refl;
-    last = k .last;
-    node = k .node;
-    grows = k .grows;
-    refused = k .refused;
-  }
+  left-tells (full me rs ls ns) k = record { records = refl; literals = refl; names = refl }
 
-  -- the term of the class stands in the returned store, or a term had no room and nothing changed
+  -- the term of the class stands in the returned store, or nothing changed
   pub whole-tells :
       Tells p s c (whole p (rank c) s c .answer) (whole p (rank c) s c .records) (whole p (rank c) s c .literals)
       (whole p (rank c) s c .names)

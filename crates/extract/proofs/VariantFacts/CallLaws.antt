@@ -20,8 +20,7 @@ use Rattle.term_rules.proofs.Adding.AddingLaws.{grows-refl, add-gives}
 use Rattle.choice_rules.proofs.ListLaws.{Each, each-get}
 use Rattle.choice_rules.proofs.Demand.OrderLaws.{map-length, map-get}
 use Rattle.bits.specs.Got.{got}
-use Rattle.build.specs.Building.{State, state, Out, done, full}
-use Rattle.build.specs.Standing.{Stuck}
+use Rattle.build.specs.Building.{State, state, Out, done}
 use Rattle.build.proofs.BuildingLaws.{tracks-of-zeros}
 use Rattle.file_rules.specs.Table.{Table}
 use Rattle.file_rules.specs.File.{tableAt}
@@ -42,17 +41,11 @@ use Rattle.answer_rules.specs.Variants.{
   roomForResults,
   variantsAt,
 }
+use Rattle.answer_rules.specs.Room.{Fits}
 use Rattle.extract.specs.Returned.{Returned}
-use Rattle.extract.specs.Terms.{RowTerm, noTerms}
-use Rattle.extract.specs.Told.{
-  OneOf,
-  builtRows,
-  FullAfter,
-  Unchanged,
-  RestStays,
-  OneLiteral,
-}
-use Rattle.extract.proofs.VariantFacts.TermLaws.{terms-length, terms-below, terms-get}
+use Rattle.extract.proofs.LiteralLaws.{literal-fits}
+use Rattle.extract.specs.Told.{OneOf, builtRows, Unchanged, RestStays, OneLiteral}
+use Rattle.extract.proofs.VariantFacts.TermLaws.{BuiltTerm, noBuilt, terms-length, terms-below, terms-get}
 use Rattle.extract.proofs.VariantFacts.ReturnLaws.{AllMade, RowsRight, rows-right, kept-sound}
 use Rattle.extract.proofs.VariantFacts.OutcomeLaws.{
   not-refused,
@@ -144,7 +137,7 @@ module _ (t : Table) (k : Known t) (root : ℕ) (h : root < length (t .sorts)) (
       rows-right t k root h (keptRows t root c n) (kept-sound t k root h c n cheap) []
       (state (replicate 512 0) s) (state (replicate 512 0) s) []
       (tracks-of-zeros (planFor t root) 512 s f)
-      (record { grows = grows-refl s f; are = noTerms })
+      (record { grows = grows-refl s f; are = noBuilt })
 
   pub built-made :
       (ts : List ℕ) (st : State) →
@@ -153,16 +146,6 @@ module _ (t : Table) (k : Known t) (root : ℕ) (h : root < length (t .sorts)) (
   built-made ts st e =
       subst (λ (o : Out (List ℕ)). RowsRight t k root h (state (replicate 512 0) s) (keptRows t root c n) o) e
       built-right
-
-  pub built-full :
-      (me rs : List ℕ) (ls : List ℤ) (ns : List ℕ) →
-      builtRows t root (keptRows t root c n) s ≡ full me rs ls ns →
-      FullAfter s
-  built-full me rs ls ns e =
-      let q : Stuck s rs ls ns =
-      subst (λ (o : Out (List ℕ)). RowsRight t k root h (state (replicate 512 0) s) (keptRows t root c n) o) e
-      built-right in
-      record { last = q .last; node = q .node; grown = q .grows; refused = q .refused }
 
 -- What is told of the kept rows of a class.
 module _ (t : Table) (known : Known t) (root : ℕ) (h : root < length (t .sorts)) (c n : ℕ) (l : Lending)
@@ -196,17 +179,17 @@ module _ (t : Table) (known : Known t) (root : ℕ) (h : root < length (t .sorts
       (omega (arith, counted))
       ∙ map-get (costFor t root) rows j 0 0 (omega (arith, q .count-is)))
 
-  pub told-term : (j : ℕ) → j < k .count → RowTerm t root (a .store) (getD rows j 0) (getD (a .terms) j 0)
+  pub told-term : (j : ℕ) → j < k .count → BuiltTerm t root (a .store) (getD rows j 0) (getD (a .terms) j 0)
   unfolding variantsKept
   told-term j b =
-      subst (λ (x : VariantsAfter). RowTerm t root (x .store) (getD rows j 0) (getD (x .terms) j 0)) (sym (q .is))
-      (subst (λ (u : ℕ). RowTerm t root (q .state .lent) (getD rows j 0) u)
+      subst (λ (x : VariantsAfter). BuiltTerm t root (x .store) (getD rows j 0) (getD (x .terms) j 0)) (sym (q .is))
+      (subst (λ (u : ℕ). BuiltTerm t root (q .state .lent) (getD rows j 0) u)
       (sym
       (kept-term l paid (q .numbers) (runOf t root .passes) (q .state .lent) as-many paid-places j
       (omega (arith, counted))))
       (terms-get (made .are) j (omega (arith, q .count-is))))
 
-  rows-returned : Back l a (k .count)
+  pub rows-returned : Back l a (k .count)
   rows-returned =
       subst (λ (x : VariantsAfter). Back l x (k .count)) (sym (q .is))
       (subst
@@ -221,13 +204,13 @@ module _ (t : Table) (known : Known t) (root : ℕ) (h : root < length (t .sorts
       (subst
       (λ (m : ℕ). RestStays l (variantsKept l paid (q .numbers) (runOf t root .passes) (q .state .lent)) m)
       counted
-      (kept-rest l paid (q .numbers) (runOf t root .passes) (q .state .lent) as-many))
+      (kept-rest l paid (q .numbers) (runOf t root .passes) (q .state .lent) as-many paid-places))
 
 -- What is told of a literal.
 module _ (l : Lending) (f : wellFormed (l .store) ≡ true) (z : ℤ) (a : VariantsAfter) (k : Kept)
     (e : a .answer ≡ value k) where
   abbrev After : Type 0
-  After = OneLiteral z l a (k .count) (k .passes) × (Back l a (k .count) × RestStays l a (k .count))
+  After = OneLiteral z l a k × (Back l a (k .count) × RestStays l a (k .count))
 
   literal-kept :
       (i : ℕ) (s : Store) →
@@ -249,13 +232,15 @@ module _ (l : Lending) (f : wellFormed (l .store) ≡ true) (z : ℤ) (a : Varia
           takes = subst (λ (y : VariantsAfter). Takes (l .store) (literal z) (getD (y .terms) 0 0) (y .store)) (sym q)
               (subst (λ (u : ℕ). Takes (l .store) (literal z) u s)
               (sym (kept-term l (1 ∷ []) (i ∷ []) 1 s refl r 0 (omega arith))) g);
+          fits = subst (λ (y : VariantsAfter). Fits (l .store) (y .store)) (sym q) (literal-fits (l .store) f z i s d);
+          places = places l 1 r;
         },
         (
           subst (λ (y : VariantsAfter). Back l y (k .count)) (sym q)
               (subst (λ (m : ℕ). Back l x m) (sym (c .0))
               (kept-returned l (1 ∷ []) (i ∷ []) 1 s refl r (g .grows) (g .below, tt))),
           subst (λ (y : VariantsAfter). RestStays l y (k .count)) (sym q)
-              (subst (λ (m : ℕ). RestStays l x m) (sym (c .0)) (kept-rest l (1 ∷ []) (i ∷ []) 1 s refl)),
+              (subst (λ (m : ℕ). RestStays l x m) (sym (c .0)) (kept-rest l (1 ∷ []) (i ∷ []) 1 s refl r)),
         ),
       )
 

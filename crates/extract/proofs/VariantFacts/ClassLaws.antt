@@ -16,7 +16,8 @@ use Rattle.table_rules.specs.Rules.Rows.{tableRows, usable}
 use Rattle.table_rules.specs.Rules.Choosing.{limit, runOf}
 use Rattle.table_rules.specs.Rules.Facts.{Known}
 use Rattle.table_rules.proofs.Rules.CoverLaws.{ReachedClass}
-use Rattle.answer_rules.specs.Answers.{value, refusal}
+use Rattle.answer_rules.specs.Answers.{value}
+use Rattle.answer_rules.specs.Room.{Fits}
 use Rattle.answer_rules.specs.Variants.{
   fileRow,
   costFor,
@@ -27,11 +28,9 @@ use Rattle.answer_rules.specs.Variants.{
   Lending,
   variantsKept,
 }
-use Rattle.extract.specs.Told.{FullAfter, NoPlaces, NotFalling, EmptyList}
+use Rattle.extract.specs.Told.{NoPlaces, EmptyList}
 use Rattle.extract.specs.First.{RowCost, keptFileRows, keptCosts, Variant, ComeBack}
 use Rattle.extract.proofs.VariantFacts.OutcomeLaws.{
-  told,
-  same-number,
   no-places,
   cheap-when,
   dear-then,
@@ -40,12 +39,12 @@ use Rattle.extract.proofs.VariantFacts.OutcomeLaws.{
   noPlaces,
   stuck,
   kept,
-  kept-told,
   KeptRows,
   rows-kept,
 }
-use Rattle.extract.proofs.VariantFacts.CallLaws.{built-full, told-cost, told-term}
-use Rattle.extract.proofs.VariantFacts.FirstLaws.{kept-few, kept-place, kept-variant, first-cheaper, first-rows}
+use Rattle.extract.proofs.VariantFacts.CallLaws.{told-cost, told-term, rows-returned}
+use Rattle.extract.proofs.VariantFacts.RoomLaws.{rows-fit}
+use Rattle.extract.proofs.VariantFacts.FirstLaws.{kept-place, kept-variant, first-rows}
 use Rattle.extract.proofs.VariantFacts.VariantLaws.{variant-is}
 
 -- Where no row is kept nothing changes.
@@ -79,18 +78,6 @@ none-told t root l a (kept d p ts s b e) =
 module _ (t : Table) (known : Known t) (root : ℕ) (h : root < length (t .sorts)) (c : ℕ)
     (r : ReachedClass t root c) (n : ℕ) (l : Lending) (f : wellFormed (l .store) ≡ true) (a : VariantsAfter)
     (o : Outcome t root l (keptRows t root c n) a) where
-  -- NoRoom: a list is too short, or a term had no room
-  pub class-full :
-      a .answer ≡ refusal 13 → NoPlaces l (length (keptRows t root c n)) ⊎ FullAfter (l .store)
-  class-full e = go o
-    where
-      go : Outcome t root l (keptRows t root c n) a → NoPlaces l (length (keptRows t root c n)) ⊎ FullAfter (l .store)
-      go (dear d q) = absurd (omega (arith, same-number (told q e)))
-      go (noPlaces d p q) = inl (no-places l (length (keptRows t root c n)) p)
-      go (stuck d p me rs ls ns b q) = inr (built-full t known root h c n (l .store) f d me rs ls ns b)
-      go (kept d p ts s b q) =
-          kept-told l (map (costFor t root) (keptRows t root c n)) ts (runOf t root .passes) (s .lent) a q e
-
   module _ (k : Kept) (e : a .answer ≡ value k) where
     kept-rows : KeptRows t root l (keptRows t root c n) a k
     kept-rows = rows-kept t root l (keptRows t root c n) a o k e
@@ -108,14 +95,21 @@ module _ (t : Table) (known : Known t) (root : ℕ) (h : root < length (t .sorts
         (omega (arith, inside j b, map-length (costFor t root) (keptRows t root c n))))
 
     variant : (j : ℕ) (b : j < k .count) →
-        Variant t c (fileRow t root (getD (keptRows t root c n) j 0)) (costFor t root (getD (keptRows t root c n) j 0))
+        Variant t root c (fileRow t root (getD (keptRows t root c n) j 0)) (costFor t root (getD (keptRows t root c n) j 0))
         (a .store) (getD (a .terms) j 0)
     variant j b =
         variant-is t known root h c r (getD (keptRows t root c n) j 0) (kept-place t known root h c r n j (inside j b))
         (kept-variant t known root h c r n j (inside j b)) (cheap j b) (a .store) (getD (a .terms) j 0)
         (told-term t known root h c n l f a k kept-rows j b)
 
-    pub class-comes-back : ComeBack t c (keptFileRows t root c n) (keptCosts t root c n) a k
+    fits : Fits (l .store) (a .store)
+    unfolding variantsKept
+    fits =
+        subst (Fits (l .store)) (sym (ap (λ (y : VariantsAfter). y .store) (kept-rows .is)))
+        (rows-fit t known root h c n (l .store) f (kept-rows .not-dear-any) (kept-rows .numbers) (kept-rows .state)
+        (kept-rows .built))
+
+    pub class-comes-back : ComeBack t root c (keptFileRows t root c n) (keptCosts t root c n) l a k
     class-comes-back = record {
       count-is = kept-rows .count-is ∙ sym (map-length (fileRow t root) (keptRows t root c n));
       costs-are = λ j b.
@@ -123,21 +117,12 @@ module _ (t : Table) (known : Known t) (root : ℕ) (h : root < length (t .sorts
       below = λ j b. subst (λ (x : ℕ). x < limit) (sym (paid j b)) (cheap j b);
       variants = λ j b.
           rw (map-get (fileRow t root) (keptRows t root c n) j 0 0 (inside j b), paid j b) (variant j b);
+      fits = fits;
+      grows = rows-returned t known root h c n l f a k kept-rows .grows;
     }
 
     pub class-passes : k .passes ≡ runOf t root .passes
     class-passes = kept-rows .passes-are
-
-    pub class-few : k .count ≤ n
-    class-few = omega (arith, kept-few t known root h c r n, kept-rows .count-is)
-
-    pub class-not-falling : NotFalling (a .costs) (k .count)
-    class-not-falling i j b m =
-        let w = class-comes-back in
-        let g : i < k .count = omega (arith, b, m) in
-        let rows = first-rows t known root h c r n in
-        let low = first-cheaper _ _ (rows .in-order i j b (omega (arith, m, w .count-is))) in
-        omega (arith, w .costs-are i g, w .costs-are j m, low)
 
   -- "None is an empty list."
   module _ (no : (u : Tree) → Deriving (tableRows t) (usable t) c u → ⊥) where

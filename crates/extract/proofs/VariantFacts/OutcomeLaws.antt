@@ -9,7 +9,7 @@ use borrow.Author.Tests.{leb-true, leb-false}
 use lib.Dec.{leb}
 use lib.IntN.{ℤ}
 use lib.ListN.{length, drop}
-use lib.Seq.{paste, drop-paste}
+use lib.Seq.{paste, length-paste, drop-paste}
 use Rattle.refusal.specs.declared.Refusal.{Refusal}
 use Rattle.refusal.specs.declared.Refusal.the-variants.{TooDear, NoRoom}
 use Rattle.order.proofs.OrderLaws.{cases}
@@ -38,16 +38,7 @@ use Rattle.answer_rules.specs.Variants.{
   variantsBuilt,
   variantsOfRows,
 }
-use Rattle.extract.specs.Told.{
-  HasDear,
-  builtRows,
-  Stops,
-  NoPlaces,
-  NoRoomFor,
-  NoRoomForLiteral,
-  Unchanged,
-  RestStays,
-}
+use Rattle.extract.specs.Told.{HasDear, builtRows, NoPlaces, Places, Unchanged, RestStays}
 use Rattle.extract.proofs.VariantFacts.ReturnLaws.{not-dear}
 
 -- A value is no refusal, and answers are the same where what they say is.
@@ -81,7 +72,7 @@ module _ (l : Lending) (n : ℕ) where
           let y : _≡_ {A = ℕ} 0 1 = cc in
           absurd (omega arith)
 
-  pub places : roomForResults l n ≡ true → (n ≤ length (l .costs)) × (n ≤ length (l .terms))
+  pub places : roomForResults l n ≡ true → Places l n
   unfolding roomForResults
   places e = (
     leb-true n (length (l .costs)) (and-first (leb n (length (l .costs))) (leb n (length (l .terms))) e),
@@ -114,13 +105,20 @@ module _ (l : Lending) (ws ts : List ℕ) (p : ℕ) (s : Store) where
       let d = same-value (sym (told e h) ∙ kept-answer) in
       (ap (λ (y : Kept). y .count) d, ap (λ (y : Kept). y .passes) d)
 
-  pub kept-rest : length ts ≡ length ws → RestStays l (variantsKept l ws ts p s) (length ws)
+  pub kept-rest :
+      length ts ≡ length ws →
+      roomForResults l (length ws) ≡ true →
+      RestStays l (variantsKept l ws ts p s) (length ws)
   unfolding variantsKept
-  kept-rest e = record {
-    costs-rest = past (l .costs) ws;
-    terms-rest =
-        subst (λ (k : ℕ). drop k (paste (l .terms) 0 ts (length ts)) ≡ drop k (l .terms)) e (past (l .terms) ts);
-  }
+  kept-rest e r =
+      let m = places l (length ws) r in
+      record {
+        costs-length = length-paste (l .costs) 0 ws (length ws) (omega (arith, m .0)) (omega arith);
+        terms-length = length-paste (l .terms) 0 ts (length ts) (omega (arith, e, m .1)) (omega arith);
+        costs-rest = past (l .costs) ws;
+        terms-rest =
+            subst (λ (k : ℕ). drop k (paste (l .terms) 0 ts (length ts)) ≡ drop k (l .terms)) e (past (l .terms) ts);
+      }
     where
       past : (d x : List ℕ) → drop (length x) (paste d 0 x (length x)) ≡ drop (length x) d
       past d x =
@@ -224,38 +222,6 @@ module _ (t : Table) (root : ℕ) (l : Lending) (rows : List ℕ) where
         go (stuck d r me rs ls ns b e) p = no p d
         go (kept d r ts s b e) p = no p d
 
-    stops-when : (me rs : List ℕ) (ls : List ℤ) (ns : List ℕ) →
-        builtRows t root rows (l .store) ≡ full me rs ls ns →
-        Stops (builtRows t root rows (l .store))
-    stops-when me rs ls ns e = subst (λ (o : Out (List ℕ)). Stops o) (sym e) tt
-
-    pub full-told :
-        Outcome a →
-        a .answer ≡ refusal 13 →
-        AllBelow limit (map (costFor t root) rows) × NoRoomFor t root rows l
-    full-told (dear d e) h = absurd (omega (arith, same-number (told e h)))
-    full-told (noPlaces d r e) h = (cheap-when t root rows d, inl (no-places l (length rows) r))
-    full-told (stuck d r me rs ls ns b e) h = (cheap-when t root rows d, inr (stops-when me rs ls ns b))
-    full-told (kept d r ts s b e) h =
-        kept-told l (map (costFor t root) rows) ts (runOf t root .passes) (s .lent) a e h
-
-    pub full-refused :
-        Outcome a →
-        AllBelow limit (map (costFor t root) rows) →
-        NoRoomFor t root rows l →
-        a .answer ≡ refusal 13
-    full-refused (dear d e) c h =
-        let q = dear-then t root rows d in
-        absurd (omega (arith, c (q .0) (q .1 .0), q .1 .1))
-    full-refused (noPlaces d r e) c h = ap (λ (y : VariantsAfter). y .answer) e
-    full-refused (stuck d r me rs ls ns b e) c h = ap (λ (y : VariantsAfter). y .answer) e
-    full-refused (kept d r ts s b e) c h = absurd (go h)
-      where
-        go : NoRoomFor t root rows l → ⊥
-        go (inl (inl q)) = omega (arith, q, places l (length rows) r .0)
-        go (inl (inr q)) = omega (arith, q, places l (length rows) r .1)
-        go (inr q) = subst (λ (o : Out (List ℕ)). Stops o) b q
-
     pub rows-number : Outcome a → (k : ℕ) → a .answer ≡ refusal k → (k ≡ 12) ⊎ (k ≡ 13)
     rows-number (dear d e) k h = inl (sym (same-number (told e h)))
     rows-number (noPlaces d r e) k h = inr (sym (same-number (told e h)))
@@ -336,20 +302,3 @@ module _ (l : Lending) (z : ℤ) where
     literal-unchanged (noRoomHere d e) k h = refused-unchanged l NoRoom a e
     literal-unchanged (noPlaceHere i s d r e) k h = refused-unchanged l NoRoom a e
     literal-unchanged (keptHere i s d r e) k h = kept-told l (1 ∷ []) (i ∷ []) 1 s a e h
-
-    pub literal-full : LiteralOutcome a → a .answer ≡ refusal 13 → NoRoomForLiteral z l
-    literal-full (noRoomHere d e) h = inr d
-    literal-full (noPlaceHere i s d r e) h = inl (no-places l 1 r)
-    literal-full (keptHere i s d r e) h = kept-told l (1 ∷ []) (i ∷ []) 1 s a e h
-
-    pub literal-refused : LiteralOutcome a → NoRoomForLiteral z l → a .answer ≡ refusal 13
-    literal-refused (noRoomHere d e) h = ap (λ (y : VariantsAfter). y .answer) e
-    literal-refused (noPlaceHere i s d r e) h = ap (λ (y : VariantsAfter). y .answer) e
-    literal-refused (keptHere i s d r e) h = absurd (go h)
-      where
-        go : NoRoomForLiteral z l → ⊥
-        go (inl (inl q)) = omega (arith, q, places l 1 r .0)
-        go (inl (inr q)) = omega (arith, q, places l 1 r .1)
-        go (inr q) =
-            let y : _≡_ {A = ℕ} 0 1 = cc in
-            omega arith

@@ -17,7 +17,7 @@ use Rattle.choice_rules.proofs.ListLaws.{or-fails, Each, each-both}
 use Rattle.table_rules.proofs.PickedLaws.{Passes}
 use Rattle.choice_rules.proofs.Demand.OrderLaws.{map-length, inOrder-length}
 use Rattle.build.specs.Building.{State, Out, done, full}
-use Rattle.build.specs.Standing.{Tracks, Stuck}
+use Rattle.build.specs.Standing.{Tracks}
 use Rattle.file_rules.specs.Table.{Table}
 use Rattle.table_rules.specs.Rules.Rows.{tableRowOf, tableRows}
 use Rattle.table_rules.specs.Rules.Order.{scanOrder, scanned}
@@ -40,11 +40,10 @@ use Rattle.answer_rules.specs.Variants.{
 use Rattle.answer_rules.proofs.PlanLaws.{buildRank, plan-ranked}
 use Rattle.variants_root.proofs.kept_rows.SortLaws.{kept-passes}
 use Rattle.extract.proofs.VariantFacts.RowLaws.{row-lower}
-use Rattle.extract.specs.Terms.{RowTerm, RowTerms}
-use Rattle.extract.proofs.VariantFacts.TermLaws.{terms-grow, terms-append}
+use Rattle.extract.proofs.VariantFacts.TermLaws.{BuiltTerm, BuiltTerms, terms-grow, terms-append}
 use Rattle.extract.proofs.VariantFacts.TurnLaws.{RowRight, row-made}
 
-each-of-get : (P : ℕ → Type 0) (xs : List ℕ) → ((j : ℕ) → j < length xs → P (getD xs j 0)) → Each P xs
+pub each-of-get : (P : ℕ → Type 0) (xs : List ℕ) → ((j : ℕ) → j < length xs → P (getD xs j 0)) → Each P xs
 each-of-get P [] f = tt
 each-of-get P (x ∷ xs) f = (f 0 (omega arith), each-of-get P xs (λ j l. f (suc j) (omega (arith, l))))
 
@@ -104,11 +103,11 @@ module _ (t : Table) (k : Known t) (root : ℕ) (h : root < length (t .sorts)) w
   -- what all of them leave
   pub record AllMade (s : State) (rows us : List ℕ) (s′ : State) : Type 0 where
     pub grows : Grows (s .lent) (s′ .lent)
-    pub are : RowTerms t root (s′ .lent) rows us
+    pub are : BuiltTerms t root (s′ .lent) rows us
 
   abbrev pub RowsRight : State → List ℕ → Out (List ℕ) → Type 0
   RowsRight s rows (done us s′) = AllMade s rows us s′
-  RowsRight s rows (full me rs ls ns) = Stuck (s .lent) rs ls ns
+  RowsRight s rows (full me rs ls ns) = Unit {0}
 
   -- the rows, after others
   abbrev RightOn : List ℕ → Type 0
@@ -131,7 +130,7 @@ module _ (t : Table) (k : Known t) (root : ℕ) (h : root < length (t .sorts)) w
         | full me rs ls ns ↦ full me rs ls ns
       ])
   row-then i rows ys s₀ s ts on a (done u s′) m =
-      let own : RowTerm t root (s′ .lent) i u =
+      let own : BuiltTerm t root (s′ .lent) i u =
       record { below = m .below; trees = m .trees; of = m .of; means = m .means } in
       subst (λ (x : List ℕ). RowsRight s₀ x (variantsIn t root depth s′ (ts ++ (u ∷ [])) rows))
       (append-assoc ys (i ∷ []) rows)
@@ -140,15 +139,7 @@ module _ (t : Table) (k : Known t) (root : ℕ) (h : root < length (t .sorts)) w
         grows = grows-trans (a .grows) (m .grows);
         are = terms-append (terms-grow (m .grows) (a .are)) own;
       }))
-  row-then i rows ys s₀ s ts on a (full me rs ls ns) m = record {
-    last = m .last;
-    node = m .node;
-    grows = grows-trans (a .grows) (m .grows);
-    refused = m .refused;
-    records = m .records;
-    literals = m .literals;
-    names = m .names;
-  }
+  row-then i rows ys s₀ s ts on a (full me rs ls ns) m = tt
 
   pub rows-right : (rows : List ℕ) → Each Sound rows → RightOn rows
   unfolding variantsIn

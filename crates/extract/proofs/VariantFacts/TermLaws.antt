@@ -5,16 +5,33 @@ use Prim.Native.Nat.{ℕ, zero, suc, _<_}
 use native.Mathlib.Omega.{arith}
 use lib.ListN.{length, getD}
 use Rattle.term_rules.specs.Lent.{Store}
-use Rattle.term_rules.specs.Nodes.{applied}
+use Rattle.term_rules.specs.Nodes.{Trees, applied, Means}
 use Rattle.term_rules.specs.Growing.{Grows}
 use Rattle.choice_rules.proofs.ListLaws.{Each}
+use Rattle.build.specs.Plan.{TreesOf}
 use Rattle.file_rules.specs.Table.{Table}
 use Rattle.table_rules.specs.Rules.Terms.{nameOf}
+use Rattle.answer_rules.specs.Plan.{planChildren, planFor}
 use Rattle.answer_rules.specs.Variants.{fileRow}
-use Rattle.extract.specs.Terms.{RowTerm, RowTerms, noTerms, moreTerms}
+
+-- Term u of the store is what the builder builds of row i of the scan order: its function's name over its children's
+-- terms, each class by its plan.
+pub record BuiltTerm (t : Table) (root : ℕ) (s : Store) (i u : ℕ) : Type 0 where
+  pub below : u < s .terms
+  pub trees : Trees
+  pub of : TreesOf (planFor t root) (planChildren t (fileRow t root i)) trees
+  pub means : Means s u (applied (nameOf t (fileRow t root i)) trees)
+
+pub data BuiltTerms (t : Table) (root : ℕ) (s : Store) : List ℕ → List ℕ → Type 0 where
+  noBuilt : BuiltTerms t root s [] []
+  moreBuilt :
+      {i u : ℕ} {rows us : List ℕ} →
+      BuiltTerm t root s i u →
+      BuiltTerms t root s rows us →
+      BuiltTerms t root s (i ∷ rows) (u ∷ us)
 
 module _ {t : Table} {root : ℕ} where
-  term-grows : {s s′ : Store} {i u : ℕ} → Grows s s′ → RowTerm t root s i u → RowTerm t root s′ i u
+  term-grows : {s s′ : Store} {i u : ℕ} → Grows s s′ → BuiltTerm t root s i u → BuiltTerm t root s′ i u
   term-grows {i = i} {u = u} g h = record {
     below = omega (arith, g .more, h .below);
     trees = h .trees;
@@ -23,33 +40,33 @@ module _ {t : Table} {root : ℕ} where
   }
 
   pub terms-grow :
-      {s s′ : Store} {rows us : List ℕ} → Grows s s′ → RowTerms t root s rows us → RowTerms t root s′ rows us
-  terms-grow g noTerms = noTerms
-  terms-grow g (moreTerms h hs) = moreTerms (term-grows g h) (terms-grow g hs)
+      {s s′ : Store} {rows us : List ℕ} → Grows s s′ → BuiltTerms t root s rows us → BuiltTerms t root s′ rows us
+  terms-grow g noBuilt = noBuilt
+  terms-grow g (moreBuilt h hs) = moreBuilt (term-grows g h) (terms-grow g hs)
 
   pub terms-append :
       {s : Store} {i u : ℕ} {rows us : List ℕ} →
-      RowTerms t root s rows us →
-      RowTerm t root s i u →
-      RowTerms t root s (rows ++ (i ∷ [])) (us ++ (u ∷ []))
-  terms-append noTerms h = moreTerms h noTerms
-  terms-append (moreTerms g gs) h = moreTerms g (terms-append gs h)
+      BuiltTerms t root s rows us →
+      BuiltTerm t root s i u →
+      BuiltTerms t root s (rows ++ (i ∷ [])) (us ++ (u ∷ []))
+  terms-append noBuilt h = moreBuilt h noBuilt
+  terms-append (moreBuilt g gs) h = moreBuilt g (terms-append gs h)
 
-  pub terms-length : {s : Store} {rows us : List ℕ} → RowTerms t root s rows us → length us ≡ length rows
-  terms-length noTerms = refl
-  terms-length (moreTerms h hs) = ap suc (terms-length hs)
+  pub terms-length : {s : Store} {rows us : List ℕ} → BuiltTerms t root s rows us → length us ≡ length rows
+  terms-length noBuilt = refl
+  terms-length (moreBuilt h hs) = ap suc (terms-length hs)
 
   pub terms-below :
-      {s : Store} {rows us : List ℕ} → RowTerms t root s rows us → Each (λ (u : ℕ). u < s .terms) us
-  terms-below noTerms = tt
-  terms-below (moreTerms h hs) = (h .below, terms-below hs)
+      {s : Store} {rows us : List ℕ} → BuiltTerms t root s rows us → Each (λ (u : ℕ). u < s .terms) us
+  terms-below noBuilt = tt
+  terms-below (moreBuilt h hs) = (h .below, terms-below hs)
 
   pub terms-get :
       {s : Store} {rows us : List ℕ} →
-      RowTerms t root s rows us →
+      BuiltTerms t root s rows us →
       (j : ℕ) →
       j < length rows →
-      RowTerm t root s (getD rows j 0) (getD us j 0)
-  terms-get noTerms j l = absurd (omega arith)
-  terms-get (moreTerms h hs) zero l = h
-  terms-get (moreTerms h hs) (suc j) l = terms-get hs j (omega arith)
+      BuiltTerm t root s (getD rows j 0) (getD us j 0)
+  terms-get noBuilt j l = absurd (omega arith)
+  terms-get (moreBuilt h hs) zero l = h
+  terms-get (moreBuilt h hs) (suc j) l = terms-get hs j (omega arith)

@@ -12,7 +12,7 @@ use Rattle.term_rules.specs.Growing.{Grows, Gives}
 use Rattle.term_rules.proofs.Adding.AddingLaws.{grows-refl, grows-trans, add-gives}
 use Rattle.build.specs.Plan.{Child, Plan, TreesOf}
 use Rattle.build.specs.Building.{State, Out, done, full, added, childIn, childrenIn, buildIn}
-use Rattle.build.specs.Standing.{Tracks, Stuck}
+use Rattle.build.specs.Standing.{Tracks}
 use Rattle.build.specs.Ready.{AllLower, Ranked}
 use Rattle.build.proofs.StandingLaws.{
   stands-grows,
@@ -51,9 +51,7 @@ module _ (p : Plan) (rank : ℕ → ℕ) (ranked : Ranked p rank) (d : ℕ) wher
       }))
   go-on x xs ys s₀ s ks rest h (full me rs ls ns) b = record {
     last = b .last;
-    node = b .node;
     grows = grows-trans (h .grows) (b .grows);
-    refused = b .refused;
     records = b .records;
     literals = b .literals;
     names = b .names;
@@ -82,17 +80,16 @@ module _ (p : Plan) (rank : ℕ → ℕ) (ranked : Ranked p rank) (d : ℕ) wher
 
   abbrev pub RowRight : List ℕ → List Child → State → Out ℕ → Type 0
   RowRight name xs s (done u s′) = Made name xs s u s′
-  RowRight name xs s (full me rs ls ns) = Stuck (s .lent) rs ls ns
+  RowRight name xs s (full me rs ls ns) = Unit {0}
 
   added-made :
       (name : List ℕ) (xs : List Child) (s₀ s : State) (ks : List ℕ) →
       BuildsAll p s₀ xs ks s →
       (a : Adds) →
-      add (s .lent) (application name ks) ≡ a →
       Gives (s .lent) (application name ks) a →
       RowRight name xs s₀ (added s a)
   unfolding added
-  added-made name xs s₀ s ks h (at u lent) e b =
+  added-made name xs s₀ s ks h (at u lent) b =
       let v = standAll-trees (standAll-grows (b .grows) (h .stand)) in
       record {
         grows = grows-trans (h .grows) (b .grows);
@@ -102,15 +99,7 @@ module _ (p : Plan) (rank : ℕ → ℕ) (ranked : Ranked p rank) (d : ℕ) wher
         of = v .of;
         means = isApplied name ks (v .trees) (b .is) (v .means);
       }
-  added-made name xs s₀ s ks h noRoom e b = record {
-    last = s .lent;
-    node = application name ks;
-    grows = h .grows;
-    refused = e;
-    records = refl;
-    literals = refl;
-    names = refl;
-  }
+  added-made name xs s₀ s ks h noRoom b = tt
 
   own-made :
       (name : List ℕ) (xs : List Child) (s : State) →
@@ -121,10 +110,10 @@ module _ (p : Plan) (rank : ℕ → ℕ) (ranked : Ranked p rank) (d : ℕ) wher
       RowRight name xs s (ownVariant name o)
   unfolding ownVariant
   own-made name xs s v few (done ks s′) h =
-      added-made name xs s s′ ks h (add (s′ .lent) (application name ks)) refl
+      added-made name xs s s′ ks h (add (s′ .lent) (application name ks))
       (add-gives (s′ .lent) (application name ks) (h .tracks .formed)
       (v, omega (arith, standAll-length (h .stand), few), standAll-below (h .stand)))
-  own-made name xs s v few (full me rs ls ns) h = h
+  own-made name xs s v few (full me rs ls ns) h = tt
 
   -- a row of that name over children that have their ranks
   pub row-made :

@@ -13,14 +13,13 @@ use Rattle.choice_rules.specs.Edges.{Chosen, ChosenAll}
 use Rattle.choice_rules.specs.Run.{childCost, priced}
 use Rattle.choice_rules.proofs.ListLaws.{Each, each-of-sum}
 use Rattle.choice_rules.specs.Demand.Deriving.{AllUsable, AllUsableIn}
-use Rattle.choice_rules.specs.Demand.Orders.{renumber, renumberIn}
 use Rattle.build.specs.Plan.{TreesOf}
 use Rattle.build.proofs.StandingLaws.{treesOf-unique}
 use Rattle.file_rules.specs.Table.{Table}
 use Rattle.table_rules.specs.Rules.Rows.{tableRows, usable}
-use Rattle.table_rules.specs.Rules.Order.{scanOrder, scanned}
+use Rattle.table_rules.specs.Rules.Order.{scanned}
 use Rattle.table_rules.specs.Rules.Terms.{nameOf, termOf, termsOf}
-use Rattle.table_rules.specs.Rules.Choosing.{limit, runOf, edgeFor}
+use Rattle.table_rules.specs.Rules.Choosing.{limit, runOf, edgeRow}
 use Rattle.table_rules.specs.Rules.Facts.{Known}
 use Rattle.table_rules.proofs.Rules.CoverLaws.{ReachedClass}
 use Rattle.table_rules.proofs.Rules.AnswerLaws.{ChosenTree, chosen-tree}
@@ -28,9 +27,9 @@ use Rattle.answer_rules.specs.Plan.{planChildren, planFor}
 use Rattle.answer_rules.specs.Variants.{fileRow, costFor, isVariant}
 use Rattle.answer_rules.proofs.PlanLaws.{costOf}
 use Rattle.answer_rules.proofs.TermLaws.{chosen-terms}
-use Rattle.extract.specs.Terms.{RowTerm}
 use Rattle.extract.specs.First.{BestChild, BestChildren, Variant}
 use Rattle.extract.proofs.VariantFacts.RowLaws.{below-min}
+use Rattle.extract.proofs.VariantFacts.TermLaws.{BuiltTerm}
 use Rattle.extract.proofs.VariantFacts.GrownLaws.{
   answer-best,
   Near,
@@ -44,27 +43,22 @@ use Rattle.extract.proofs.VariantFacts.GrownLaws.{
 }
 
 module _ (t : Table) (known : Known t) (root : ℕ) (h : root < length (t .sorts)) where
-  -- the tree that the edges choose for a child, over the scan order, and what it is over the file
+  -- the tree that the edges' rows choose for a child
   pub record ChosenChild (k : Child) : Type 0 where
     pub tree : Tree
-    pub chosen : Chosen (scanned t root) (edgeFor t root) tree k
-    pub scanned-derives : Derives (scanned t root) tree k
-    pub derives : Derives (tableRows t) (renumber (scanOrder t root) tree) k
-    pub all-usable : AllUsable (usable t) (renumber (scanOrder t root) tree)
-    pub cost :
-        treeCost (tableRows t) (renumber (scanOrder t root) tree) ≡ childCost (runOf t root .state .costs) k
-    pub is-best : BestChild t (renumber (scanOrder t root) tree) k
+    pub chosen : Chosen (tableRows t) (edgeRow t root) tree k
+    pub derives : Derives (tableRows t) tree k
+    pub all-usable : AllUsable (usable t) tree
+    pub cost : treeCost (tableRows t) tree ≡ childCost (runOf t root .state .costs) k
+    pub is-best : BestChild t tree k
 
   pub record ChosenChildren (ks : List Child) : Type 0 where
     pub forest : Forest
-    pub chosen : ChosenAll (scanned t root) (edgeFor t root) forest ks
-    pub scanned-derives : DeriveAll (scanned t root) forest ks
-    pub derives : DeriveAll (tableRows t) (renumberIn (scanOrder t root) forest) ks
-    pub all-usable : AllUsableIn (usable t) (renumberIn (scanOrder t root) forest)
-    pub cost :
-        forestCost (tableRows t) (renumberIn (scanOrder t root) forest)
-        ≡ sumOf (childCost (runOf t root .state .costs)) ks
-    pub are-best : BestChildren t (renumberIn (scanOrder t root) forest) ks
+    pub chosen : ChosenAll (tableRows t) (edgeRow t root) forest ks
+    pub derives : DeriveAll (tableRows t) forest ks
+    pub all-usable : AllUsableIn (usable t) forest
+    pub cost : forestCost (tableRows t) forest ≡ sumOf (childCost (runOf t root .state .costs)) ks
+    pub are-best : BestChildren t forest ks
 
   child-chosen :
       (k : Child) →
@@ -72,23 +66,15 @@ module _ (t : Table) (known : Known t) (root : ℕ) (h : root < length (t .sorts
       priced (runOf t root .state .ranks) k ≡ true →
       childCost (runOf t root .state .costs) k < limit →
       ChosenChild k
-  unfolding Chosen Derives AllUsable treeCost renumber priced childCost
-  child-chosen (literal i) n p l = record {
-    tree = leaf i;
-    chosen = refl;
-    scanned-derives = refl;
-    derives = refl;
-    all-usable = tt;
-    cost = refl;
-    is-best = refl;
-  }
+  unfolding Chosen Derives AllUsable treeCost priced childCost
+  child-chosen (literal i) n p l =
+      record { tree = leaf i; chosen = refl; derives = refl; all-usable = tt; cost = refl; is-best = refl }
   child-chosen (class d) n p l =
       let q : ChosenTree t root d (costOf t root d) =
       chosen-tree t known root h d (costOf t root d) (n d refl) (answer-best t root d p l) in
       record {
         tree = q .tree;
         chosen = q .chosen;
-        scanned-derives = q .derives;
         derives = q .cheapest .is-deriving .derives;
         all-usable = q .cheapest .is-deriving .all-usable;
         cost = q .cheapest .exact;
@@ -101,23 +87,15 @@ module _ (t : Table) (known : Known t) (root : ℕ) (h : root < length (t .sorts
       Each (λ (k : Child). priced (runOf t root .state .ranks) k ≡ true) ks →
       Each (λ (k : Child). childCost (runOf t root .state .costs) k < limit) ks →
       ChosenChildren ks
-  unfolding ChosenAll DeriveAll AllUsableIn forestCost renumberIn sumOf
-  children-chosen [] n p l = record {
-    forest = none;
-    chosen = tt;
-    scanned-derives = tt;
-    derives = tt;
-    all-usable = tt;
-    cost = refl;
-    are-best = tt;
-  }
+  unfolding ChosenAll DeriveAll AllUsableIn forestCost sumOf
+  children-chosen [] n p l =
+      record { forest = none; chosen = tt; derives = tt; all-usable = tt; cost = refl; are-best = tt }
   children-chosen (k ∷ ks) n p l =
       let a = child-chosen k (n .0) (p .0) (l .0) in
       let b = children-chosen ks (n .1) (p .1) (l .1) in
       record {
         forest = more (a .tree) (b .forest);
         chosen = (a .chosen, b .chosen);
-        scanned-derives = (a .scanned-derives, b .scanned-derives);
         derives = (a .derives, b .derives);
         all-usable = (a .all-usable, b .all-usable);
         cost = rw (a .cost, b .cost) refl;
@@ -139,24 +117,23 @@ module _ (t : Table) (known : Known t) (root : ℕ) (h : root < length (t .sorts
     saturates-not : min limit (rowAt (tableRows t) own .head + sum) < limit
     saturates-not = subst (λ (x : ℕ). x < limit) (row-cost-is t known root h c r i place v) cheap
 
-    kids-chosen : ChosenChildren kids
+    pub kids-chosen : ChosenChildren kids
     kids-chosen =
         children-chosen kids (row-near-all t known root h c r i place v) (row-priced t known root h c r i place v)
         (each-of-sum (childCost (runOf t root .state .costs)) limit kids
         (below-min limit (rowAt (tableRows t) own .head) sum saturates-not))
 
-    kids-terms :
-        TreesOf (planFor t root) (planChildren t own) (termsOf t (renumberIn (scanOrder t root) (kids-chosen .forest)))
+    kids-terms : TreesOf (planFor t root) (planChildren t own) (termsOf t (kids-chosen .forest))
     unfolding planChildren
-    kids-terms = chosen-terms t root (kids-chosen .forest) kids (kids-chosen .chosen) (kids-chosen .scanned-derives)
+    kids-terms = chosen-terms t root (kids-chosen .forest) kids (kids-chosen .chosen)
 
-    pub variant-is : (s : Store) (u : ℕ) → RowTerm t root s i u → Variant t c own (costFor t root i) s u
+    pub variant-is : (s : Store) (u : ℕ) → BuiltTerm t root s i u → Variant t root c own (costFor t root i) s u
     unfolding Derives AllUsable treeCost termOf
     variant-is s u q =
         let q′ = kids-chosen in
-        let g : Forest = renumberIn (scanOrder t root) (q′ .forest) in
         record {
-          children = g;
+          children = q′ .forest;
+          chosen = q′ .chosen;
           is-deriving = record {
             derives = (
               row-below t known root h c r i place v,

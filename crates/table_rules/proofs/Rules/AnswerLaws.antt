@@ -4,7 +4,7 @@ use mathlib.Core.List.{List}
 use Prim.Native.Nat.{ℕ, _<_}
 use lib.ListN.{length}
 use Rattle.choice_rules.specs.Rows.{class}
-use Rattle.choice_rules.specs.Deriving.{Tree, Derives}
+use Rattle.choice_rules.specs.Deriving.{Tree}
 use Rattle.choice_rules.specs.Edges.{Chosen}
 use Rattle.choice_rules.specs.Answer.{Answer, best}
 use Rattle.choice_rules.proofs.Promises.{promises}
@@ -15,16 +15,16 @@ use Rattle.file_rules.specs.Table.{Table}
 use Rattle.table_rules.specs.Rules.Classes.{sortOf, classCount, flatClass}
 use Rattle.table_rules.specs.Rules.Rows.{tableRows, usable}
 use Rattle.table_rules.specs.Rules.Order.{scanOrder, scanned}
-use Rattle.table_rules.specs.Rules.Choosing.{limit, runOf, answerFor, edgeFor}
+use Rattle.table_rules.specs.Rules.Choosing.{limit, runOf, answerFor, edgeFor, edgeRow}
 use Rattle.table_rules.specs.Rules.Facts.{Known}
 use Rattle.table_rules.proofs.Rules.CoverLaws.{ReachedClass, scanOrder-covers, scanned-within, root-class}
+use Rattle.table_rules.proofs.Rules.ChosenLaws.{chosen-in-file}
 
--- a cheapest deriving tree, and that it is the one that the edges choose
+-- the tree that the edges' rows choose, a cheapest deriving one
 pub record ChosenTree (t : Table) (root c w : ℕ) : Type 0 where
   pub tree : Tree
-  pub chosen : Chosen (scanned t root) (edgeFor t root) tree (class c)
-  pub derives : Derives (scanned t root) tree (class c)
-  pub cheapest : Cheapest (tableRows t) (usable t) c w (renumber (scanOrder t root) tree)
+  pub chosen : Chosen (tableRows t) (edgeRow t root) tree (class c)
+  pub cheapest : Cheapest (tableRows t) (usable t) c w tree
 
 module _ (t : Table) (k : Known t) (root : ℕ) (h : root < length (t .sorts)) where
   -- of every class that the root sort reaches
@@ -49,9 +49,8 @@ module _ (t : Table) (k : Known t) (root : ℕ) (h : root < length (t .sorts)) w
   chosen-tree c w r e =
       let p = promises limit (scanned t root) (classCount t) (scanned-within t k root h) .cheapest c w e in
       record {
-        tree = p .0;
-        chosen = p .1;
-        derives = p .2 .derives;
+        tree = renumber (scanOrder t root) (p .0);
+        chosen = chosen-in-file t root (p .0) (class c) (p .1) (p .2 .derives);
         cheapest =
             cheapest-of-best (tableRows t) (usable t) (scanOrder t root) (ReachedClass t root)
             (scanOrder-covers t k root h) c r w (p .0) (p .2);

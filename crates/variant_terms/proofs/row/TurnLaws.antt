@@ -41,9 +41,7 @@ pub stuck-after :
     {s s′ : Store} {rs ns : List ℕ} {ls : List ℤ} → Grows s s′ → Stuck s′ rs ls ns → Stuck s rs ls ns
 stuck-after g k = record {
   last = k .last;
-  node = k .node;
   grows = grows-trans g (k .grows);
-  refused = k .refused;
   records = k .records;
   literals = k .literals;
   names = k .names;
@@ -69,9 +67,7 @@ own-by p s node h (at t lent) e w = record {
 }
 own-by p s node h noRoom e w = record {
   last = s .lent;
-  node = node;
   grows = grows-refl (s .lent) (h .formed);
-  refused = e;
   records = refl;
   literals = refl;
   names = refl;

@@ -41,9 +41,9 @@ use Rattle.build.proofs.StandingLaws.{
   treesOf-unique,
 }
 use Rattle.build.proofs.BuildingLaws.{Right, RightBelow, child-right, build-right}
 use Rattle.answer_rules.specs.Variants.{ownVariant}
-use Rattle.extract.proofs.Room.HoldLaws.{AllTrees, NodeTree}
-use Rattle.extract.proofs.Room.StepLaws.{GoodAdd}
+use Rattle.answer_rules.proofs.Room.HoldLaws.{AllTrees, NodeTree}
+use Rattle.answer_rules.proofs.Room.StepLaws.{GoodAdd}
 
 -- what a build leaves: G of the store, or Bad where there was no room
 abbrev pub Good : (Store → Type 0) → Type 0 → Out ℕ → Type 0

@@ -21,9 +21,9 @@ use Rattle.build.proofs.StandingLaws.{childTree-unique}
 use Rattle.build.proofs.BuildingLaws.{tracks-of-zeros}
 use Rattle.build.specs.Whole.{left, whole, Tells}
 use Rattle.build.proofs.whole.WholeLaws.{whole-tells}
-use Rattle.extract.specs.Room.Room.{Holds, Fits, NoRoomFor}
-use Rattle.extract.proofs.Room.HoldLaws.{AllTrees, children-held}
-use Rattle.extract.proofs.Room.StepLaws.{
+use Rattle.answer_rules.specs.Room.{Holds, Fits, NoRoomFor}
+use Rattle.answer_rules.proofs.Room.HoldLaws.{AllTrees, children-held}
+use Rattle.answer_rules.proofs.Room.StepLaws.{
   Within,
   within-of-fits,
   fits-self,
@@ -32,7 +32,7 @@ use Rattle.extract.proofs.Room.StepLaws.{
   add-fits,
   add-within,
 }
-use Rattle.extract.proofs.Room.BuildLaws.{Good, Step, build-good}
+use Rattle.answer_rules.proofs.Room.BuildLaws.{Good, Step, build-good}
 
 not-full : {P : Type 0} {t n m : ℕ} → Done t n m ≡ Full → P
 not-full e = let z : _≡_ {A = ℕ} 0 1 = cc in absurd (omega arith)

@@ -47,8 +47,8 @@ use Rattle.term_rules.proofs.Adding.NodeLaws.{means-kept}
 use Rattle.term_rules.specs.Trees.{treeAt}
 use Rattle.term_rules.proofs.Meaning.MeansLaws.{Below, below-head, below-tail, says-all, means-one}
 use Rattle.term_rules.proofs.Meaning.TreeLaws.{treeAt-means}
-use Rattle.extract.specs.Room.Room.{Holds, Fits}
-use Rattle.extract.proofs.Room.HoldLaws.{
+use Rattle.answer_rules.specs.Room.{Holds, Fits}
+use Rattle.answer_rules.proofs.Room.HoldLaws.{
   HasName,
   name-held,
   NodeTree,
@@ -58,7 +58,7 @@ use Rattle.extract.proofs.Room.HoldLaws.{
   terms-within,
   names-within,
 }
-use Rattle.extract.proofs.Room.AppendLaws.{NameOf, Appended, append-leaves, same-term-room, same-symbol-room}
+use Rattle.answer_rules.proofs.Room.AppendLaws.{NameOf, Appended, append-leaves, same-term-room, same-symbol-room}
 
 -- every term and name of the first store is in the second, whatever its number, and their rooms are the same
 pub record Within (s s′ : Store) : Type 0 where

@@ -3,43 +3,48 @@
 use Prim.Native.Nat.{ℕ, suc, _<_, _≤_}
 use mathlib.Core.Path.{_≡_, subst}
 use mathlib.Core.Bool.{true, false}
-use mathlib.Core.List.{List, [], _∷_, _++_}
+use mathlib.Core.List.{List, [], _∷_, _++_, map}
 use native.Mathlib.Omega.{arith}
 use lib.ListN.{length, replicate}
 use lib.IntN.{ℤ}
 use Rattle.name.specs.Name.{valid}
 use Rattle.term_rules.specs.Lent.{Store}
 use Rattle.term_rules.specs.WellFormed.{wellFormed}
-use Rattle.term_rules.specs.Nodes.{Tree, applied, Trees}
+use Rattle.term_rules.specs.Nodes.{Tree, applied, Trees, Means}
 use Rattle.term_rules.proofs.FactsLaws.{sound-of-wellFormed}
 use Rattle.choice_rules.specs.Rows.{rowAt}
+use Rattle.choice_rules.specs.Deriving.{Forest}
+use Rattle.choice_rules.specs.Edges.{ChosenAll}
 use Rattle.choice_rules.proofs.ListLaws.{Each}
 use Rattle.choice_rules.proofs.Demand.OrderLaws.{map-length, inOrder-length}
 use Rattle.build.specs.Plan.{TreesOf}
 use Rattle.build.specs.Building.{State, state, Out, done, full}
 use Rattle.build.specs.Standing.{Tracks}
+use Rattle.build.proofs.StandingLaws.{treesOf-unique}
 use Rattle.build.proofs.BuildingLaws.{tracks-of-zeros}
 use Rattle.file_rules.specs.Table.{Table}
 use Rattle.table_rules.specs.Rules.Rows.{tableRowOf, tableRows}
 use Rattle.table_rules.specs.Rules.Order.{scanOrder, scanned}
-use Rattle.table_rules.specs.Rules.Terms.{nameOf}
-use Rattle.table_rules.specs.Rules.Choosing.{runOf}
+use Rattle.table_rules.specs.Rules.Terms.{nameOf, termOf, termsOf}
+use Rattle.table_rules.specs.Rules.Choosing.{runOf, edgeRow}
 use Rattle.table_rules.specs.Rules.Facts.{Known}
 use Rattle.table_rules.proofs.Rules.CoverLaws.{scanned-below, children-length}
 use Rattle.answer_rules.specs.Plan.{planChild, planChildren, planFor}
 use Rattle.answer_rules.specs.Variants.{fileRow, keptRows, anyDear, variantIn, variantsIn}
+use Rattle.answer_rules.proofs.TermLaws.{chosen-terms}
 use Rattle.answer_rules.proofs.PlanLaws.{buildRank, plan-ranked}
-use Rattle.extract.specs.Terms.{RowTerms, noTerms, moreTerms}
+use Rattle.extract.specs.Terms.{RowTerm, RowTerms, noTerms, moreTerms, NoRoomForRows}
 use Rattle.extract.specs.Told.{builtRows}
 use Rattle.extract.proofs.VariantFacts.RowLaws.{row-lower}
+use Rattle.extract.proofs.VariantFacts.TermLaws.{BuiltTerm, BuiltTerms, noBuilt, moreBuilt}
 use Rattle.extract.proofs.VariantFacts.TurnLaws.{RowRight, row-made}
 use Rattle.extract.proofs.VariantFacts.ReturnLaws.{Sound, kept-sound}
 use Rattle.extract.proofs.VariantFacts.CallLaws.{built-made}
-use Rattle.extract.specs.Room.Room.{Holds, Fits, NoRoomForRows}
-use Rattle.extract.proofs.Room.HoldLaws.{AllTrees, children-held}
-use Rattle.extract.proofs.Room.StepLaws.{Within, within-of-fits, fits-self}
-use Rattle.extract.proofs.Room.BuildLaws.{Good, Step, row-good}
-use Rattle.extract.proofs.Room.WholeLaws.{all-trees, within-step, fits-step}
+use Rattle.answer_rules.specs.Room.{Holds, Fits}
+use Rattle.answer_rules.proofs.Room.HoldLaws.{AllTrees, children-held}
+use Rattle.answer_rules.proofs.Room.StepLaws.{Within, within-of-fits, fits-self}
+use Rattle.answer_rules.proofs.Room.BuildLaws.{Good, Step, row-good}
+use Rattle.answer_rules.proofs.Room.WholeLaws.{all-trees, within-step, fits-step}
 
 -- what the rows leave: G of the store, or Bad where there was no room
 abbrev GoodRows : (Store → Type 0) → Type 0 → Out (List ℕ) → Type 0
@@ -125,12 +130,55 @@ module _ (t : Table) (k : Known t) (root : ℕ) (h : root < length (t .sorts)) w
         row-then rows i s us (rows-keep rows (q .1) (n .1)) (variantIn t root depth s i) (row-right s i tr (q .0))
         (row-keeps s i tr (q .0) (n .0) g)
 
+  -- the terms of rows, over the chosen trees and as the builder sees them
+  built-of-row : {s : Store} (i : ℕ) {u : ℕ} → RowTerm t root s (fileRow t root i) u → BuiltTerm t root s i u
+  unfolding planChildren termOf
+  built-of-row i r = record {
+    below = r .below;
+    trees = termsOf t (r .children);
+    of = chosen-terms t root (r .children) (rowAt (tableRows t) (fileRow t root i) .children) (r .chosen);
+    means = r .means;
+  }
+
+  pub built-of-rows :
+      {s : Store} (rows : List ℕ) {us : List ℕ} →
+      RowTerms t root s (map (fileRow t root) rows) us →
+      BuiltTerms t root s rows us
+  built-of-rows [] noTerms = noBuilt
+  built-of-rows (i ∷ rows) (moreTerms r rs) = moreBuilt (built-of-row i r) (built-of-rows rows rs)
+
+  -- the edges' rows choose trees for the children of row i
+  abbrev pub ChosenRow : ℕ → Type 0
+  ChosenRow i =
+      (f : Forest) × ChosenAll (tableRows t) (edgeRow t root) f (rowAt (tableRows t) (fileRow t root i) .children)
+
+  row-of-built : {s : Store} {i u : ℕ} → ChosenRow i → BuiltTerm t root s i u → RowTerm t root s (fileRow t root i) u
+  unfolding planChildren termOf
+  row-of-built {s = s} {i = i} {u = u} q b = record {
+    children = q .0;
+    chosen = q .1;
+    below = b .below;
+    means =
+        subst (λ (x : Trees). Means s u (applied (nameOf t (fileRow t root i)) x))
+        (treesOf-unique (b .of)
+        (chosen-terms t root (q .0) (rowAt (tableRows t) (fileRow t root i) .children) (q .1)))
+        (b .means);
+  }
+
+  pub rows-of-built :
+      {s : Store} {rows us : List ℕ} →
+      Each ChosenRow rows →
+      BuiltTerms t root s rows us →
+      RowTerms t root s (map (fileRow t root) rows) us
+  rows-of-built q noBuilt = noTerms
+  rows-of-built q (moreBuilt b bs) = moreTerms (row-of-built (q .0) b) (rows-of-built (q .1) bs)
+
   -- the terms of rows that a store holds
   rows-needed :
       (Need : Tree → Type 0) {s : Store} {rows us : List ℕ} →
-      ((u : Tree) → Holds s u → Need u) → RowTerms t root s rows us → Each (NeededRow Need) rows
-  rows-needed Need f noTerms = tt
-  rows-needed Need f (moreTerms {i = i} {u = u} r rs) = (
+      ((u : Tree) → Holds s u → Need u) → BuiltTerms t root s rows us → Each (NeededRow Need) rows
+  rows-needed Need f noBuilt = tt
+  rows-needed Need f (moreBuilt {i = i} {u = u} r rs) = (
     record {
       trees = r .trees;
       of = r .of;
@@ -150,7 +198,7 @@ module _ (t : Table) (k : Known t) (root : ℕ) (h : root < length (t .sorts)) w
 
     -- rows whose terms a store holds are not refused
     never-full :
-        (s′ : Store) (us : List ℕ) → Fits s s′ → RowTerms t root s′ rows us →
+        (s′ : Store) (us : List ℕ) → Fits s s′ → BuiltTerms t root s′ rows us →
         GoodRows (λ (b : Store). Within b s′) ⊥ (builtRows t root rows s)
     never-full s′ us g r =
         rows-keep (λ (b : Store). Within b s′) (Holds s′) ⊥
@@ -160,12 +208,12 @@ module _ (t : Table) (k : Known t) (root : ℕ) (h : root < length (t .sorts)) w
 
     pub rows-full :
         (me rs : List ℕ) (ls : List ℤ) (ns : List ℕ) → builtRows t root rows s ≡ full me rs ls ns →
-        NoRoomForRows t root s rows
+        NoRoomForRows t root s (map (fileRow t root) rows)
     rows-full me rs ls ns e s′ us g r =
-        subst (λ (o : Out (List ℕ)). GoodRows (λ (b : Store). Within b s′) ⊥ o) e (never-full s′ us g r)
+        subst (λ (o : Out (List ℕ)). GoodRows (λ (b : Store). Within b s′) ⊥ o) e (never-full s′ us g (built-of-rows rows r))
 
     pub rows-there :
-        (us : List ℕ) (st : State) → builtRows t root rows s ≡ done us st → RowTerms t root (st .lent) rows us
+        (us : List ℕ) (st : State) → builtRows t root rows s ≡ done us st → BuiltTerms t root (st .lent) rows us
     rows-there us st e = built-made t k root h c n s f cheap us st e .are
 
     pub rows-fit : (us : List ℕ) (st : State) → builtRows t root rows s ≡ done us st → Fits s (st .lent)

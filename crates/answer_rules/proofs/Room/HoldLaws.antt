@@ -42,8 +42,8 @@ use Rattle.term_rules.proofs.Meaning.NodeLaws.{
 }
 use Rattle.term_rules.proofs.Meaning.MeansLaws.{Below, below-head, below-tail, says, says-all, means-once, means-one}
 use Rattle.term_rules.proofs.Meaning.TreeLaws.{treeAt-once}
-use Rattle.extract.specs.Room.Room.{Holds}
-use Rattle.extract.proofs.Room.CountLaws.{one-more}
+use Rattle.answer_rules.specs.Room.{Holds}
+use Rattle.answer_rules.proofs.Room.CountLaws.{one-more}
 
 -- it holds of every tree
 abbrev pub AllTrees : (Tree → Type 0) → Trees → Type 0
