@@ -26,27 +26,33 @@
 extern "C" {
 #endif
 
-/* The refusals, with the numbers of docs/RULES.md. A call returns minus the number, exactly when: */
+/* The refusals, from the table of docs/RULES.md (scripts/refusals writes them). A call returns minus the number,
+ * exactly when: */
 enum needlevale_refusal {
     NEEDLEVALE_SHORT = 1,         /* the input ends before a field does */
-    NEEDLEVALE_BAD_VERSION = 2,   /* version is not 1 */
-    NEEDLEVALE_BAD_SIZE = 3,      /* class count or running total over 512; arity or child count over 8;
-                                     row count over 1,024; let start count over 4,294,966,271 */
-    NEEDLEVALE_BAD_NAME = 4,      /* length 0 or over 31, or a byte not allowed (a let prefix may be empty) */
-    NEEDLEVALE_DUP_NAME = 5,      /* a function name comes again */
-    NEEDLEVALE_BAD_SORT = 6,      /* sort number not below S, or a base output sort */
-    NEEDLEVALE_BAD_FUNCTION = 7,  /* row's function not below F */
-    NEEDLEVALE_BAD_VALUE = 8,     /* cell out of range */
+    NEEDLEVALE_BAD_VERSION = 2,   /* the version is not 1 */
+    NEEDLEVALE_BAD_SIZE = 3,      /* a class count or the running total of classes is over 512; an arity or a count of
+                                     children is over 8; a row count is over 1,024; a let start count is over
+                                     4,294,966,271 */
+    NEEDLEVALE_BAD_NAME = 4,      /* a name's length is 0 or over 31, or a byte of it is not allowed; a let prefix may
+                                     be empty */
+    NEEDLEVALE_DUP_NAME = 5,      /* a function's name comes again */
+    NEEDLEVALE_BAD_SORT = 6,      /* a sort number is not below the number of sorts, or an output sort is a base
+                                     sort */
+    NEEDLEVALE_BAD_FUNCTION = 7,  /* a row's function is not below the number of functions */
+    NEEDLEVALE_BAD_VALUE = 8,     /* a cell is not below the bound of its column */
     NEEDLEVALE_TRAILING = 9,      /* a pad bit is set, or bytes follow */
-    NEEDLEVALE_BAD_ROOT = 10,     /* asked sort not below S, or value out of its range */
+    NEEDLEVALE_BAD_ROOT = 10,     /* the sort that is asked for is not below the number of sorts, or the value is not
+                                     below its bound: the class count of an eq sort, the number of literals of a base
+                                     sort */
     NEEDLEVALE_NO_TERM = 11,      /* best only: no term derives the root */
-    NEEDLEVALE_TOO_DEAR = 12,     /* best: some term derives it, and each that does costs 2^64-1 or more;
-                                     variants: a kept one costs 2^64-1 after saturation */
-    NEEDLEVALE_NO_ROOM = 13,      /* new terms or names exceed the store's room (its lent lengths, at most 1,024
-                                     and 128), or the result its lent buffer */
-    NEEDLEVALE_BAD_TERM = 14,     /* a term number not in the store */
-    NEEDLEVALE_ABSENT = 15,       /* lookup: the term is not there */
-    NEEDLEVALE_BAD_MODE = 16,     /* program query mode 3 */
+    NEEDLEVALE_TOO_DEAR = 12,     /* best: some term derives the root and each costs 2^64-1 or more; variants: the cost
+                                     of a kept one is 2^64-1 after saturation */
+    NEEDLEVALE_NO_ROOM = 13,      /* the new terms or names are more than the store has room for, or the result is
+                                     longer than the lent buffer */
+    NEEDLEVALE_BAD_TERM = 14,     /* a term number is not in the store: it is not below the count of terms */
+    NEEDLEVALE_ABSENT = 15,       /* lookup only: the term is not there */
+    NEEDLEVALE_BAD_MODE = 16,     /* the program's query has mode 3 */
     NEEDLEVALE_BAD_STORE = 17     /* the lent store is not well formed */
 };
 
@@ -56,7 +62,8 @@ enum needlevale_refusal {
 /* The room that the program has for its output. The call itself takes any. */
 #define NEEDLEVALE_PROGRAM_OUTPUT 16384
 
-/* A store: numbers of a record (kind, symbol, count, eight children), bytes of a name (length, bytes, zeros). */
+/* A store: numbers of a record (kind, symbol, count, eight children), bytes of a name (length, bytes, zeros). It has
+ * room for as many terms and names as its lent lengths hold, at most 1,024 and 128. */
 #define NEEDLEVALE_RECORD 11
 #define NEEDLEVALE_NAME 32
 
@@ -76,10 +83,10 @@ int64_t needlevale_add_literal(uint64_t *records, size_t records_length, int64_t
 static inline const char *needlevale_name(int64_t returned)
 {
     static const char *const names[] = {
-        "Short",    "BadVersion", "BadSize", "BadName", "DupName", "BadSort", "BadFunction", "BadValue", "Trailing",
-        "BadRoot",  "NoTerm",     "TooDear", "NoRoom",  "BadTerm", "Absent",  "BadMode",     "BadStore",
+        "Short", "BadVersion", "BadSize", "BadName", "DupName", "BadSort", "BadFunction", "BadValue", "Trailing",
+        "BadRoot", "NoTerm", "TooDear", "NoRoom", "BadTerm", "Absent", "BadMode", "BadStore",
     };
-    return returned < 0 && returned >= -17 ? names[-returned - 1] : "no refusal";
+    return returned < 0 && returned >= -(int64_t)(sizeof names / sizeof *names) ? names[-returned - 1] : "no refusal";
 }
 
 #ifdef __cplusplus
