@@ -11,8 +11,9 @@
  * - no two buffers of a call overlap;
  * - a null pointer goes with length 0, and no length in bytes is over 2^63-1;
  * - there is stack for the call. needlevale_answer took 380,920 bytes for no input, 407,344 for the longest file and
- *   636,512 for a term 512 deep, the most that was seen: measured on x86-64 on 2026-11-15, no bound is proved. A thread
- *   with less ends with a fault at its guard page. needlevale_add_literal was not measured.
+ *   636,512 for a term 512 deep, the most that was seen: measured on x86-64 on 2026-11-15, no bound is proved.
+ *   needlevale_add_literal took 14,704 bytes for a store of 1,023 terms, measured under an emulator. A thread with less
+ *   ends with a fault at its guard page.
  * Not proved either: this header, the C compiler, the linker, and the C library's memory functions.
  *
  * A call keeps nothing between calls and may run in several threads at once, on buffers of their own. */
@@ -58,6 +59,9 @@ enum needlevale_refusal {
 
 /* The longest input that is not refused: three bytes of query, then the longest table file. */
 #define NEEDLEVALE_LONGEST_INPUT (3 + 21385)
+
+/* The stack of a thread that is to make a call, in bytes, with 80 KiB for the rest of it. Tested, not proved. */
+#define NEEDLEVALE_STACK 720896
 
 /* The room that the program has for its output. The call itself takes any. */
 #define NEEDLEVALE_PROGRAM_OUTPUT 16384
