@@ -27,6 +27,19 @@
 extern "C" {
 #endif
 
+/* The version, here and nowhere else: the Makefile reads these lines. While the first number is 0, the second goes up
+ * with every change that a caller must follow, and programs built for one do not run with another. */
+#define NEEDLEVALE_VERSION_MAJOR 0
+#define NEEDLEVALE_VERSION_MINOR 1
+#define NEEDLEVALE_VERSION_PATCH 0
+
+/* The same as a text: three numbers with a dot between. */
+#define NEEDLEVALE_VERSION \
+    NEEDLEVALE_TEXT(NEEDLEVALE_VERSION_MAJOR) \
+    "." NEEDLEVALE_TEXT(NEEDLEVALE_VERSION_MINOR) "." NEEDLEVALE_TEXT(NEEDLEVALE_VERSION_PATCH)
+#define NEEDLEVALE_TEXT(number) NEEDLEVALE_TEXT_OF(number)
+#define NEEDLEVALE_TEXT_OF(number) #number
+
 /* The refusals, from the table of docs/RULES.md (scripts/refusals writes them). A call returns minus the number,
  * exactly when: */
 enum needlevale_refusal {
