@@ -16,7 +16,8 @@ RATTLE = "crates/refusal/src/lib.rt"
 NUMBERS = "crates/refusal/specs/Numbers.antt"
 REFERENCE = "oracle/paper/src/refusal.rs"
 PACKAGE = "rust/needlevale/src/refusal.rs"
-WRITTEN = [HEADER, "README.md", CALLER]
+MANUAL = "man/needlevale.3"
+WRITTEN = [HEADER, "README.md", MANUAL, CALLER]
 HELD = [RATTLE, NUMBERS, REFERENCE]
 
 
@@ -73,6 +74,7 @@ class Refusals(unittest.TestCase):
             (HEADER, r"best only: no term", "no term", "write"),
             ("README.md", r"^\| 12 \| TooDear", "| 12 | Dear", "write"),
             ("README.md", r"^\| 16 \| .*\n", "", "write"),
+            (MANUAL, r'NEEDLEVALE_BAD_STORE " \(17\)', 'NEEDLEVALE_BAD_STORE " (18)', "write"),
             (CALLER, r'"BadSort",\n', "", "write"),
             (CALLER, r"&str; \d+", "&str; 0", "write"),
             (RATTLE, r"    NoRoom,\n    BadTerm,", "    BadTerm,\n    NoRoom,", "gives NoRoom the number 14, not 13"),
