@@ -1,5 +1,6 @@
-/* Needlevale as a C library: the program's answer and one call on a term store, from libneedlevale_c.a (x86-64 Linux).
- * The rules are in docs/RULES.md.
+/* Needlevale as a C library: the program's answer and one call on a term store (x86-64 Linux). Installed, it is linked
+ * by the words of `pkg-config --cflags --libs needlevale`; else with the archive of `rt staticlib needlevale_c`. The
+ * rules are in docs/RULES.md. Paths are those of the sources.
  *
  * Proved, for every content of the buffers: a call returns, reads and writes nothing outside them, and gives exactly
  * the answer that the definitions written from the rules give (crates/program_rules/specs/Reply.antt, `replied`;
