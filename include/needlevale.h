@@ -1,5 +1,6 @@
-/* Needlevale as a C library: the program's answer and one call on a term store, from libneedlevale_c.a (x86-64 Linux).
- * The rules are in docs/RULES.md.
+/* Needlevale as a C library: the program's answer and one call on a term store (x86-64 Linux). Installed, it is linked
+ * by the words of `pkg-config --cflags --libs needlevale`; else with the archive of `rt staticlib needlevale_c`. The
+ * rules are in docs/RULES.md. Paths are those of the sources.
  *
  * Proved, for every content of the buffers: a call returns, reads and writes nothing outside them, and gives exactly
  * the answer that the definitions written from the rules give (crates/program_rules/specs/Reply.antt, `replied`;
@@ -11,8 +12,9 @@
  * - no two buffers of a call overlap;
  * - a null pointer goes with length 0, and no length in bytes is over 2^63-1;
  * - there is stack for the call. needlevale_answer took 380,920 bytes for no input, 407,344 for the longest file and
- *   636,512 for a term 512 deep, the most that was seen: measured on x86-64 on 2026-11-15, no bound is proved. A thread
- *   with less ends with a fault at its guard page. needlevale_add_literal was not measured.
+ *   636,512 for a term 512 deep, the most that was seen: measured on x86-64 on 2026-11-15, no bound is proved.
+ *   needlevale_add_literal took 14,704 bytes for a store of 1,023 terms, measured under an emulator. A thread with less
+ *   ends with a fault at its guard page.
  * Not proved either: this header, the C compiler, the linker, and the C library's memory functions.
  *
  * A call keeps nothing between calls and may run in several threads at once, on buffers of their own. */
@@ -26,37 +28,60 @@
 extern "C" {
 #endif
 
-/* The refusals, with the numbers of docs/RULES.md. A call returns minus the number, exactly when: */
+/* The version, here and nowhere else: the Makefile reads these lines. While the first number is 0, the second goes up
+ * with every change that a caller must follow, and programs built for one do not run with another. */
+#define NEEDLEVALE_VERSION_MAJOR 0
+#define NEEDLEVALE_VERSION_MINOR 1
+#define NEEDLEVALE_VERSION_PATCH 0
+
+/* The same as a text: three numbers with a dot between. */
+#define NEEDLEVALE_VERSION \
+    NEEDLEVALE_TEXT(NEEDLEVALE_VERSION_MAJOR) \
+    "." NEEDLEVALE_TEXT(NEEDLEVALE_VERSION_MINOR) "." NEEDLEVALE_TEXT(NEEDLEVALE_VERSION_PATCH)
+#define NEEDLEVALE_TEXT(number) NEEDLEVALE_TEXT_OF(number)
+#define NEEDLEVALE_TEXT_OF(number) #number
+
+/* The refusals, from the table of docs/RULES.md (scripts/refusals writes them). A call returns minus the number,
+ * exactly when: */
 enum needlevale_refusal {
     NEEDLEVALE_SHORT = 1,         /* the input ends before a field does */
-    NEEDLEVALE_BAD_VERSION = 2,   /* version is not 1 */
-    NEEDLEVALE_BAD_SIZE = 3,      /* class count or running total over 512; arity or child count over 8;
-                                     row count over 1,024; let start count over 4,294,966,271 */
-    NEEDLEVALE_BAD_NAME = 4,      /* length 0 or over 31, or a byte not allowed (a let prefix may be empty) */
-    NEEDLEVALE_DUP_NAME = 5,      /* a function name comes again */
-    NEEDLEVALE_BAD_SORT = 6,      /* sort number not below S, or a base output sort */
-    NEEDLEVALE_BAD_FUNCTION = 7,  /* row's function not below F */
-    NEEDLEVALE_BAD_VALUE = 8,     /* cell out of range */
+    NEEDLEVALE_BAD_VERSION = 2,   /* the version is not 1 */
+    NEEDLEVALE_BAD_SIZE = 3,      /* a class count or the running total of classes is over 512; an arity or a count of
+                                     children is over 8; a row count is over 1,024; a let start count is over
+                                     4,294,966,271 */
+    NEEDLEVALE_BAD_NAME = 4,      /* a name's length is 0 or over 31, or a byte of it is not allowed; a let prefix may
+                                     be empty */
+    NEEDLEVALE_DUP_NAME = 5,      /* a function's name comes again */
+    NEEDLEVALE_BAD_SORT = 6,      /* a sort number is not below the number of sorts, or an output sort is a base
+                                     sort */
+    NEEDLEVALE_BAD_FUNCTION = 7,  /* a row's function is not below the number of functions */
+    NEEDLEVALE_BAD_VALUE = 8,     /* a cell is not below the bound of its column */
     NEEDLEVALE_TRAILING = 9,      /* a pad bit is set, or bytes follow */
-    NEEDLEVALE_BAD_ROOT = 10,     /* asked sort not below S, or value out of its range */
+    NEEDLEVALE_BAD_ROOT = 10,     /* the sort that is asked for is not below the number of sorts, or the value is not
+                                     below its bound: the class count of an eq sort, the number of literals of a base
+                                     sort */
     NEEDLEVALE_NO_TERM = 11,      /* best only: no term derives the root */
-    NEEDLEVALE_TOO_DEAR = 12,     /* best: some term derives it, and each that does costs 2^64-1 or more;
-                                     variants: a kept one costs 2^64-1 after saturation */
-    NEEDLEVALE_NO_ROOM = 13,      /* new terms or names exceed the store's room (its lent lengths, at most 1,024
-                                     and 128), or the result its lent buffer */
-    NEEDLEVALE_BAD_TERM = 14,     /* a term number not in the store */
-    NEEDLEVALE_ABSENT = 15,       /* lookup: the term is not there */
-    NEEDLEVALE_BAD_MODE = 16,     /* program query mode 3 */
+    NEEDLEVALE_TOO_DEAR = 12,     /* best: some term derives the root and each costs 2^64-1 or more; variants: the cost
+                                     of a kept one is 2^64-1 after saturation */
+    NEEDLEVALE_NO_ROOM = 13,      /* the new terms or names are more than the store has room for, or the result is
+                                     longer than the lent buffer */
+    NEEDLEVALE_BAD_TERM = 14,     /* a term number is not in the store: it is not below the count of terms */
+    NEEDLEVALE_ABSENT = 15,       /* lookup only: the term is not there */
+    NEEDLEVALE_BAD_MODE = 16,     /* the program's query has mode 3 */
     NEEDLEVALE_BAD_STORE = 17     /* the lent store is not well formed */
 };
 
 /* The longest input that is not refused: three bytes of query, then the longest table file. */
 #define NEEDLEVALE_LONGEST_INPUT (3 + 21385)
 
+/* The stack of a thread that is to make a call, in bytes, with 80 KiB for the rest of it. Tested, not proved. */
+#define NEEDLEVALE_STACK 720896
+
 /* The room that the program has for its output. The call itself takes any. */
 #define NEEDLEVALE_PROGRAM_OUTPUT 16384
 
-/* A store: numbers of a record (kind, symbol, count, eight children), bytes of a name (length, bytes, zeros). */
+/* A store: numbers of a record (kind, symbol, count, eight children), bytes of a name (length, bytes, zeros). It has
+ * room for as many terms and names as its lent lengths hold, at most 1,024 and 128. */
 #define NEEDLEVALE_RECORD 11
 #define NEEDLEVALE_NAME 32
 
@@ -76,10 +101,10 @@ int64_t needlevale_add_literal(uint64_t *records, size_t records_length, int64_t
 static inline const char *needlevale_name(int64_t returned)
 {
     static const char *const names[] = {
-        "Short",    "BadVersion", "BadSize", "BadName", "DupName", "BadSort", "BadFunction", "BadValue", "Trailing",
-        "BadRoot",  "NoTerm",     "TooDear", "NoRoom",  "BadTerm", "Absent",  "BadMode",     "BadStore",
+        "Short", "BadVersion", "BadSize", "BadName", "DupName", "BadSort", "BadFunction", "BadValue", "Trailing",
+        "BadRoot", "NoTerm", "TooDear", "NoRoom", "BadTerm", "Absent", "BadMode", "BadStore",
     };
-    return returned < 0 && returned >= -17 ? names[-returned - 1] : "no refusal";
+    return returned < 0 && returned >= -(int64_t)(sizeof names / sizeof *names) ? names[-returned - 1] : "no refusal";
 }
 
 #ifdef __cplusplus
