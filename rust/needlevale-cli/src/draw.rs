@@ -46,15 +46,12 @@ pub fn run(draw: &Draw) -> Done<()> {
 
 /// The picture that Graphviz makes of it.
 fn rendered(dot: &str, kind: &str) -> Done<Vec<u8>> {
+    let absent =
+        |why: &str| failed(format!("Graphviz's dot, which makes .{kind}, cannot be run: {why} (Debian's graphviz)"));
     let running = Command::new("dot").arg(format!("-T{kind}")).stdin(Stdio::piped()).stdout(Stdio::piped()).spawn();
     let mut running = match running {
         Ok(running) => running,
-        Err(fault) => {
-            return failed(format!(
-                "Graphviz's dot, which makes .{kind}, cannot be run: {} (Debian's graphviz)",
-                reason(&fault)
-            ))
-        }
+        Err(fault) => return absent(&reason(&fault)),
     };
     let mut input = running.stdin.take();
     let text = dot.to_string();
@@ -63,6 +60,8 @@ fn rendered(dot: &str, kind: &str) -> Done<Vec<u8>> {
     let _ = writer.join();
     match output {
         Ok(output) if output.status.success() => Ok(output.stdout),
+        // What an emulator gives where the program is not there.
+        Ok(output) if output.status.code() == Some(127) => absent("No such file or directory"),
         Ok(output) => failed(format!("Graphviz's dot ended with {}", output.status)),
         Err(fault) => failed(format!("Graphviz's dot cannot be read: {}", reason(&fault))),
     }

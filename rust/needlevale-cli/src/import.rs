@@ -6,18 +6,19 @@
 //! Integers that cost 1 and whose type holds nothing else are literals of a base sort.
 
 use crate::args::Import;
-use crate::source::LONGEST_TEXT;
+use crate::source::{titled, LONGEST_TEXT};
 use crate::stop::{failed, refused, Done};
-use crate::streams::{called, read, write};
+use crate::streams::{read, write};
 use needlevale::{name_byte, text, verdict, Draft, Function, Named, Names, Root, Row, Sort, LONGEST_NAME};
 use serde_json::{Map, Value};
 use std::collections::{HashMap, HashSet};
 
 pub fn run(import: &Import) -> Done<()> {
     let bytes = read(&import.json, LONGEST_TEXT)?;
-    let (named, notes) = table_of(&import.json, &bytes, f64::from(import.scale))?;
+    let path = titled(&import.json);
+    let (named, notes) = table_of(&path, &bytes, f64::from(import.scale))?;
     for note in notes {
-        eprintln!("needlevale: {}: {note}", import.json);
+        eprintln!("needlevale: {path}: {note}");
     }
     match verdict(named.table.encode()) {
         Ok(None) => {}
@@ -52,7 +53,7 @@ pub fn table_of(path: &str, bytes: &[u8], scale: f64) -> Done<(Named, Vec<String
             let (line, column) = (fault.line(), fault.column());
             let said = fault.to_string();
             let what = said.split(" at line").next().unwrap_or(&said).to_string();
-            return refused(format!("{path}:{line}:{column}: {} is no JSON: {what}", called(path)));
+            return refused(format!("{path}:{line}:{column}: this is no JSON: {what}"));
         }
     };
     let nodes = nodes_of(path, &value)?;

@@ -32,7 +32,7 @@ impl Source {
     pub fn of_named(path: &str, named: Named) -> Done<Source> {
         let Named { table, names } = named;
         Ok(Source {
-            path: path.to_string(),
+            path: titled(path),
             file: table.encode().to_vec(),
             parts: table.clone().into_draft(),
             names,
@@ -44,7 +44,7 @@ impl Source {
     fn of_file(path: &str, file: Vec<u8>) -> Source {
         let reading = Reading::of(&file);
         Source {
-            path: path.to_string(),
+            path: titled(path),
             table: Table::decode(&file).ok(),
             names: Names::plain(&reading.parts),
             parts: reading.parts.clone(),
@@ -89,7 +89,7 @@ impl Source {
         let query = self.file.len() > 3 && verdict(&self.file[3..]).ok() == Some(None);
         match words {
             _ if query => {
-                "; behind its first three bytes, a query, stands a table file: 'needlevale table show' of that"
+                "; a query of three bytes stands before the table file, which takes none here: tail -c +4 cuts it off"
             }
             Some(b'{') => "; it looks like JSON, which 'needlevale import' reads",
             Some(b'a'..=b'z' | b'A'..=b'Z' | b'(' | b';' | b'#') => {
@@ -160,12 +160,22 @@ impl Source {
     }
 }
 
+/// A path as the beginning of a message has it.
+pub fn titled(path: &str) -> String {
+    if path == "-" {
+        "standard input".to_string()
+    } else {
+        path.to_string()
+    }
+}
+
 fn number(word: &str) -> Option<usize> {
     word.bytes().all(|byte| byte.is_ascii_digit()).then(|| word.parse().unwrap_or(usize::MAX))
 }
 
 /// Reads the text form.
 pub fn parse(path: &str, bytes: Vec<u8>) -> Done<Named> {
+    let path = titled(path);
     if bytes.len() > LONGEST_TEXT {
         return refused(format!("{path}: the text is longer than {LONGEST_TEXT} bytes"));
     }
@@ -174,7 +184,7 @@ pub fn parse(path: &str, bytes: Vec<u8>) -> Done<Named> {
         Err(fault) => {
             let before = &fault.as_bytes()[..fault.utf8_error().valid_up_to()];
             let line = before.iter().filter(|byte| **byte == b'\n').count() + 1;
-            let column = String::from_utf8_lossy(before).lines().last().map_or(0, |line| line.chars().count()) + 1;
+            let column = String::from_utf8_lossy(before).rsplit('\n').next().map_or(0, |line| line.chars().count()) + 1;
             return refused(format!("{path}:{line}:{column}: what stands here is no UTF-8 text"));
         }
     };

@@ -1,7 +1,7 @@
 //! `table make` and `table show`.
 
 use crate::args::TableCommand;
-use crate::source::{parse, Source, LONGEST_TEXT};
+use crate::source::{parse, titled, Source, LONGEST_TEXT};
 use crate::stop::{failed, refused, Done};
 use crate::streams::{read, say, write};
 use needlevale::{text, verdict};
@@ -16,9 +16,9 @@ pub fn run(command: &TableCommand) -> Done<()> {
 fn make(path: &str, output: &str) -> Done<()> {
     let bytes = read(path, LONGEST_TEXT)?;
     if !text::is_text(&bytes) && bytes.first().is_some_and(|byte| *byte >> 4 == 1) {
-        return refused(format!("{path}: this is a table file already, not its text form"));
+        return refused(format!("{}: this is a table file already, not its text form", titled(path)));
     }
-    let named = parse(path, bytes)?;
+    let (named, path) = (parse(path, bytes)?, titled(path));
     // What our encoder wrote is held to the proved reader before it is let out.
     match verdict(named.table.encode()) {
         Ok(None) => write(Some(output), named.table.encode()),
