@@ -22,8 +22,28 @@ sum_of() (
 library_stamp() { sum_of crates crates.txt && sha256sum <"$library"; }
 program_stamp() { sum_of rust && sha256sum <"$library" && sha256sum <"$program"; }
 
-library_fresh() { [ -r "$library" ] && [ "$(library_stamp)" = "$(cat "$library.stamp" 2>/dev/null)" ]; }
-program_fresh() { [ -x "$program" ] && [ -r "$library" ] && [ "$(program_stamp)" = "$(cat "$program.stamp" 2>/dev/null)" ]; }
+# Whether nothing of the given files and folders, entries that came or went among it, has changed since the stamp was
+# written: by the system's own time of change, which no copying sets back.
+untouched() {
+  local stamp=$1
+  shift
+  [ -z "$(find "$@" -name target -prune -o -newercm "$stamp" ! -name Cargo.lock -print -quit 2>&1)" ]
+}
+
+# Whether the library and the program are those of the sources: nothing was touched, or all is as the stamp says.
+library_fresh() {
+  local stamp=$library.stamp
+  [ -r "$stamp" ] && [ -r "$library" ] || return 1
+  untouched "$stamp" "$house/crates" "$house/crates.txt" "$library" && return
+  [ "$(library_stamp)" = "$(cat "$stamp")" ] && touch "$stamp"
+}
+
+program_fresh() {
+  local stamp=$program.stamp
+  [ -r "$stamp" ] && [ -x "$program" ] && [ -r "$library" ] || return 1
+  untouched "$stamp" "$house/rust" "$library" "$program" && return
+  [ "$(program_stamp)" = "$(cat "$stamp")" ] && touch "$stamp"
+}
 
 # How many crates the library stands on, itself counted: crates.txt has them lowest first.
 library_crates() {

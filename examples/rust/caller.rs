@@ -9,17 +9,8 @@ use std::process::ExitCode;
 
 /// Document 01's worked example: five, five and five, and twice that.
 fn worked_example() -> Draft {
-    let num = Function {
-        name: "Num".into(),
-        arguments: vec![1],
-        ..Function::default()
-    };
-    let add = Function {
-        name: "Add".into(),
-        cost: Some(2),
-        arguments: vec![0, 0],
-        ..Function::default()
-    };
+    let num = Function { name: "Num".into(), arguments: vec![1], ..Function::default() };
+    let add = Function { name: "Add".into(), cost: Some(2), arguments: vec![0, 0], ..Function::default() };
     let row = |function, arguments: &[usize], output| Row {
         function,
         arguments: arguments.to_vec(),
@@ -37,17 +28,12 @@ fn worked_example() -> Draft {
 fn asked(words: &[String]) -> Result<(Vec<u8>, usize), String> {
     match words {
         [] => {
-            let table = worked_example()
-                .build()
-                .map_err(|fault| fault.to_string())?;
+            let table = worked_example().build().map_err(|fault| fault.to_string())?;
             Ok((table.encode().to_vec(), 2))
         }
         [path, class] => {
-            let file =
-                std::fs::read(path).map_err(|fault| format!("'{path}' cannot be read: {fault}"))?;
-            let class = class
-                .parse()
-                .map_err(|_| format!("a class is a number, not '{class}'"))?;
+            let file = std::fs::read(path).map_err(|fault| format!("'{path}' cannot be read: {fault}"))?;
+            let class = class.parse().map_err(|_| format!("a class is a number, not '{class}'"))?;
             Ok((file, class))
         }
         _ => Err("give a table file and a class, or nothing for the worked example".to_string()),
@@ -64,12 +50,7 @@ fn main() -> ExitCode {
         }
     };
     match best(&file, Root { sort: 0, value }) {
-        Ok(Best {
-            cost,
-            terms,
-            passes,
-            text,
-        }) => {
+        Ok(Best { cost, terms, passes, text, .. }) => {
             println!("best {cost} {terms} {passes}\n{text}");
             ExitCode::SUCCESS
         }

@@ -158,13 +158,27 @@ setup() { cd "$BATS_TEST_TMPDIR" && cp "$house/examples/worked/table.bin" .; }
   run ! library_fresh
   run ! program_fresh
   library_stamp >"$library.stamp" && program_stamp >"$program.stamp"
+  sleep 0.1
   library_fresh && program_fresh
-  echo more >>made/crates/lib.rt
+  touch made/crates/lib.rt made/rust/main.rs
+  library_fresh && program_fresh
+  sleep 0.1
+  cp -p made/crates/lib.rt old && echo more >>made/crates/lib.rt && touch -r old made/crates/lib.rt
   run ! library_fresh
-  library_stamp >"$library.stamp" && echo foreign >"$library"
+  library_stamp >"$library.stamp" && sleep 0.1 && echo foreign >"$library"
   run ! library_fresh
   run ! program_fresh
   program_stamp >"$program.stamp" && program_fresh
+  sleep 0.1
   echo foreign >>"$program"
   run ! program_fresh
+  program_stamp >"$program.stamp" && sleep 0.1 && rm made/rust/main.rs
+  run ! program_fresh
+}
+
+@test "./run needs no kit where all is built, and says so where it is not" {
+  says "needlevale 0.1.0" env PATH=/usr/bin:/bin "$house/run" --version
+  mkdir -p made && cp -r "$house/run" "$house/scripts" "$house/crates.txt" made && mkdir made/crates
+  run -4 env PATH=/usr/bin:/bin made/run --version
+  [ "${lines[-1]}" = "run: the library is not built of these sources, and the Rattle kit's 'rt', which builds it, is not on the PATH" ]
 }

@@ -22,7 +22,7 @@ pub fn variants(asked: &AskedMany) -> Done<()> {
 fn reply(asked: &Asked, mode: Mode) -> Done<()> {
     let source = Source::read(&asked.table)?;
     let root = source.root(asked.root.sort.as_deref(), asked.root.class.as_deref())?;
-    let answer = match answer(&source, Query { mode, root }, asked.room) {
+    let answer = match answer(&source, Query::new(mode, root), asked.room) {
         Err(Stop { refusal: Some(refusal), status, sentence }) if asked.json => {
             say(format!("{}\n", refusal_json(refusal, &sentence)))?;
             return Err(Stop { status, sentence, refusal: Some(refusal) });

@@ -70,7 +70,7 @@ fn tables(folder: &str) -> Done<Vec<String>> {
 fn line_of(bench: &Bench, path: &str) -> Done<String> {
     let source = match path.ends_with(".json") {
         true => {
-            let bytes = read(path, crate::source::LONGEST_TEXT)?;
+            let bytes = read(path, import::LONGEST_JSON)?;
             Source::of_named(path, import::table_of(path, &bytes, 1.0)?.0)?
         }
         false => Source::read(path)?,

@@ -228,7 +228,7 @@ fn term(table: &Table, chosen: &Chosen, about: &str) -> String {
         }
     }
     let title = format!(
-        "{about}: {} as a tree, {} as a graph with shared parts paid once",
+        "{about}: {} as a tree, {} as a graph with shared parts paid once\na box is a part with its own cost",
         price(chosen.cost),
         chosen.graph_cost(table)
     );

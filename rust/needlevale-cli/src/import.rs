@@ -6,15 +6,18 @@
 //! Integers that cost 1 and whose type holds nothing else are literals of a base sort.
 
 use crate::args::Import;
-use crate::source::{titled, LONGEST_TEXT};
+use crate::source::titled;
 use crate::stop::{failed, refused, Done};
 use crate::streams::{read, write};
 use needlevale::{name_byte, text, verdict, Draft, Function, Named, Names, Root, Row, Sort, LONGEST_NAME};
 use serde_json::{Map, Value};
 use std::collections::{HashMap, HashSet};
 
+/// The longest JSON that is read.
+pub const LONGEST_JSON: usize = 256 << 20;
+
 pub fn run(import: &Import) -> Done<()> {
-    let bytes = read(&import.json, LONGEST_TEXT)?;
+    let bytes = read(&import.json, LONGEST_JSON)?;
     let path = titled(&import.json);
     let (named, notes) = table_of(&path, &bytes, f64::from(import.scale))?;
     for note in notes {
@@ -47,6 +50,9 @@ struct Node {
 
 /// The table of a JSON file, and what is to be said of it.
 pub fn table_of(path: &str, bytes: &[u8], scale: f64) -> Done<(Named, Vec<String>)> {
+    if bytes.len() > LONGEST_JSON {
+        return refused(format!("{path}: the JSON is longer than {LONGEST_JSON} bytes"));
+    }
     let value: Value = match serde_json::from_slice(bytes) {
         Ok(value) => value,
         Err(fault) => {

@@ -71,7 +71,7 @@ pub struct Asked {
 impl Asked {
     pub fn of(source: &Source, table: &Table, root: Root) -> Done<Asked> {
         let start = Instant::now();
-        let let_text = ask(&source.file, Query { mode: Mode::Best, root }, PROGRAM_OUTPUT);
+        let let_text = ask(&source.file, Query::new(Mode::Best, root), PROGRAM_OUTPUT);
         let time = start.elapsed();
         let proved = match let_text.and_then(|answer| answer.best()) {
             Ok(best) => Ok(best),
@@ -79,7 +79,7 @@ impl Asked {
             Err(other) => return Err(broken(other)),
         };
         if proved == Err(Refusal::BadRoot) {
-            crate::asking::answer(source, Query { mode: Mode::Best, root }, PROGRAM_OUTPUT)?;
+            crate::asking::answer(source, Query::new(Mode::Best, root), PROGRAM_OUTPUT)?;
         }
         let prices = Prices::of(table, root.sort);
         let chosen = Chosen::of(table, &prices, root);
@@ -93,7 +93,7 @@ impl Asked {
 
     /// The term itself is held to the plain text, where that has room.
     fn compare(source: &Source, table: &Table, root: Root, best: &Best, chosen: &Chosen) -> Done<Option<String>> {
-        match ask(&source.file, Query { mode: Mode::Plain, root }, 1 << 20).and_then(|answer| answer.best()) {
+        match ask(&source.file, Query::new(Mode::Plain, root), 1 << 20).and_then(|answer| answer.best()) {
             Ok(plain) => Ok(chosen.differs(table, &plain)),
             Err(Error::Refused(Refusal::NoRoom)) => {
                 let same =

@@ -34,6 +34,7 @@ pub struct Root {
 
 /// A question: document 01's query.
 #[derive(Clone, Copy, PartialEq, Eq, Debug)]
+#[non_exhaustive]
 pub struct Query {
     /// What is asked.
     pub mode: Mode,
@@ -42,13 +43,18 @@ pub struct Query {
 }
 
 impl Query {
+    /// A question about a root.
+    pub fn new(mode: Mode, root: Root) -> Query {
+        Query { mode, root }
+    }
+
     /// 'mode 2 bits, sort 5, value 9, n 8'
     ///
     /// A root that the fields cannot hold is asked for as sort 31, which no table has: both are BadRoot.
     ///
     /// ```
     /// use needlevale::{Mode, Query, Root};
-    /// let query = Query { mode: Mode::Variants(9), root: Root { sort: 0, value: 2 } };
+    /// let query = Query::new(Mode::Variants(9), Root { sort: 0, value: 2 });
     /// assert_eq!(query.bytes(), [0x40, 0x02, 0x09]);
     /// ```
     pub fn bytes(&self) -> [u8; 3] {
@@ -104,6 +110,7 @@ impl From<Refusal> for Error {
 
 /// The library's answer: exactly what document 01's program prints.
 #[derive(Clone, PartialEq, Eq, Debug)]
+#[non_exhaustive]
 pub struct Answer {
     /// The lines, each ended by a newline.
     pub output: String,
@@ -146,6 +153,7 @@ fn call(input: &[u8], output: &mut [u8]) -> i64 {
 
 /// A cheapest term.
 #[derive(Clone, PartialEq, Eq, Debug)]
+#[non_exhaustive]
 pub struct Best {
     /// Its cost.
     pub cost: u64,
@@ -159,6 +167,7 @@ pub struct Best {
 
 /// A row of the class, as a term.
 #[derive(Clone, PartialEq, Eq, Debug)]
+#[non_exhaustive]
 pub struct Variant {
     /// Its cost.
     pub cost: u64,
@@ -170,6 +179,7 @@ pub struct Variant {
 
 /// The cheapest rows of a class.
 #[derive(Clone, PartialEq, Eq, Debug)]
+#[non_exhaustive]
 pub struct Variants {
     /// The passes over the rows, the last and changeless one counted.
     pub passes: u64,
@@ -217,7 +227,7 @@ fn numbers<const N: usize>(line: &str, word: &str) -> Option<[u64; N]> {
 
 /// The cheapest term of a root, its shared parts bound by `let`, in the room that document 01's program has.
 pub fn best(file: &[u8], root: Root) -> Result<Best, Error> {
-    ask(file, Query { mode: Mode::Best, root }, PROGRAM_OUTPUT)?.best()
+    ask(file, Query::new(Mode::Best, root), PROGRAM_OUTPUT)?.best()
 }
 
 /// The cheapest term of a root as plain text.
@@ -232,7 +242,7 @@ pub fn best(file: &[u8], root: Root) -> Result<Best, Error> {
 /// # Ok::<(), Box<dyn std::error::Error>>(())
 /// ```
 pub fn plain(file: &[u8], root: Root) -> Result<Best, Error> {
-    ask(file, Query { mode: Mode::Plain, root }, PROGRAM_OUTPUT)?.best()
+    ask(file, Query::new(Mode::Plain, root), PROGRAM_OUTPUT)?.best()
 }
 
 /// The cheapest rows of a root, at most `n`.
@@ -247,7 +257,7 @@ pub fn plain(file: &[u8], root: Root) -> Result<Best, Error> {
 /// # Ok::<(), Box<dyn std::error::Error>>(())
 /// ```
 pub fn variants(file: &[u8], root: Root, n: u8) -> Result<Variants, Error> {
-    ask(file, Query { mode: Mode::Variants(n), root }, PROGRAM_OUTPUT)?.variants()
+    ask(file, Query::new(Mode::Variants(n), root), PROGRAM_OUTPUT)?.variants()
 }
 
 /// The proved reader's own verdict on a file: nothing where it is accepted, or its refusal.
@@ -260,7 +270,7 @@ pub fn variants(file: &[u8], root: Root, n: u8) -> Result<Variants, Error> {
 /// ```
 pub fn verdict(file: &[u8]) -> Result<Option<Refusal>, Error> {
     // Sort 31 is never below the number of sorts, so an accepted file is refused for its root, and for nothing else.
-    let query = Query { mode: Mode::Variants(0), root: Root { sort: 31, value: 0 } };
+    let query = Query::new(Mode::Variants(0), Root { sort: 31, value: 0 });
     match ask(file, query, 0) {
         Err(Error::Refused(Refusal::BadRoot)) => Ok(None),
         Err(Error::Refused(refusal)) => Ok(Some(refusal)),

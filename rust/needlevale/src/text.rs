@@ -1,4 +1,4 @@
-//! The text form of a table, which a person can write: read by [`parse`], written by [`write`].
+//! The text form of a table, which a person can write: read by [`parse`], written by [`write()`].
 //!
 //! ```text
 //! needlevale table 1

@@ -43,7 +43,7 @@ fn query_of(input: &[u8]) -> Option<Query> {
         2 => Mode::Plain,
         _ => return None,
     };
-    Some(Query { mode, root })
+    Some(Query::new(mode, root))
 }
 
 /// Our decoder and the proved reader say the same of a file, and what is accepted goes to text and back exactly.
