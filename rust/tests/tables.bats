@@ -92,6 +92,9 @@ setup() { cd "$BATS_TEST_TMPDIR" && cp "$house/examples/worked/table.bin" .; }
   [ "$(grep -c 'used 2 times' term.dot)" -eq 4 ]
   grep -q 'x16 of sort Word: 46 as a tree, 9 as a graph' term.dot
   stops 2 "a term is drawn of a class: say --class C" needlevale draw table.bin --term
+  printf 'needlevale table 1\nsort M eq 1\nfunction \\N<&> (M) -> M\nrow 0 = (\\N<&> 0)\nroot M 0\n' >odd.txt
+  needlevale draw odd.txt | grep -qF '\\N&lt;&amp;&gt; <FONT'
+  stops 1 "odd.txt: refused 11, NoTerm: no term derives 0 of sort M" needlevale draw odd.txt --term
 }
 
 @test "a picture in SVG comes from Graphviz, and its absence is said" {

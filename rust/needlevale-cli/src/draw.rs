@@ -1,12 +1,13 @@
 //! `draw`: a table or a term in Graphviz's DOT. The choice that is marked is computed, and held to the proved answer.
 
 use crate::args::Draw;
+use crate::asking::answer;
 use crate::source::Source;
 use crate::stats::Asked;
 use crate::stop::{failed, usage, Done};
 use crate::streams::{reason, write};
 use needlevale::compute::{children, head_cost, Chosen, Part, Prices};
-use needlevale::{Refusal, Root, Row, Sort, Table};
+use needlevale::{Mode, Query, Refusal, Root, Row, Sort, Table, PROGRAM_OUTPUT};
 use std::collections::HashSet;
 use std::io::Write;
 use std::process::{Command, Stdio};
@@ -28,13 +29,12 @@ pub fn run(draw: &Draw) -> Done<()> {
     let dot = match (draw.term, &asked) {
         (false, asked) => graph(&source, table, asked.as_ref()),
         (true, None) => return usage("a term is drawn of a class: say --class C"),
-        (true, Some(asked)) => match (&asked.chosen, &asked.proved) {
-            (Some(chosen), _) => term(table, chosen, &source.root_words(asked.root)),
-            (None, Err(refusal)) => {
-                let about = source.root_words(asked.root);
-                return crate::stop::refusal(*refusal, format!("{}: {refusal}: {about}", source.path));
+        (true, Some(asked)) => match &asked.chosen {
+            Some(chosen) => term(table, chosen, &source.root_words(asked.root)),
+            None => {
+                let query = Query::new(Mode::Best, asked.root);
+                return answer(&source, query, PROGRAM_OUTPUT).and_then(|_| failed("the computed choice has no term"));
             }
-            (None, Ok(_)) => return failed("the proved answer has a term and the computed choice has none"),
         },
     };
     let kind = draw.output.as_deref().and_then(|path| path.rsplit_once('.')).map(|(_, end)| end);
@@ -270,6 +270,7 @@ fn quoted(text: &str) -> String {
     format!("\"{}\"", text.replace('\\', "\\\\").replace('"', "\\\"").replace('\n', "\\n"))
 }
 
+/// A text in a label of Graphviz's HTML, where `\\N` would be the box's name.
 fn html(text: &str) -> String {
-    text.replace('&', "&amp;").replace('<', "&lt;").replace('>', "&gt;").replace('"', "&quot;")
+    text.replace('&', "&amp;").replace('\\', "\\\\").replace('<', "&lt;").replace('>', "&gt;").replace('"', "&quot;")
 }

@@ -64,7 +64,7 @@ pub fn parse(text: &str) -> Result<Named, TextFault> {
     let mut reader = Reader::default();
     let mut headed = false;
     for (at, line) in text.lines().enumerate() {
-        let line = Line { words: words(line, at + 1)?, number: at + 1, length: line.chars().count() };
+        let line = Line { words: words(line, at + 1)?, number: at + 1 };
         if line.words.is_empty() {
             continue;
         }
@@ -181,7 +181,6 @@ fn words(line: &str, number: usize) -> Result<Vec<Word>, TextFault> {
 struct Line {
     words: Vec<Word>,
     number: usize,
-    length: usize,
 }
 
 impl Line {
@@ -197,9 +196,9 @@ impl Line {
         self.fault(self.words.first().map_or(1, |word| word.column), format!("the first line must be '{HEADER}'"))
     }
 
-    /// Where the line ends, for what is missing there.
+    /// Where the last word ends, for what is missing there.
     fn end(&self) -> usize {
-        self.length + 1
+        self.words.last().map_or(1, |word| word.column + word.text.len())
     }
 }
 

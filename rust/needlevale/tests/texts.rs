@@ -13,6 +13,7 @@ fn fault(more: &str, wanted: &str) {
 #[test]
 fn faults_have_their_line_and_column() {
     fault("row a = (F b 7", "5:15: ')' or a cell is missing");
+    fault("row a = (F b 7   ; open", "5:15: ')' or a cell is missing");
     fault("row a = (F b)", "5:10: F takes 2 arguments, and here is 1");
     fault("row a = (F b 7 8)", "5:16: F takes 2 arguments, and here are 3");
     fault("row a = (G b 7)", "5:10: there is no function G above");
