@@ -1,0 +1,45 @@
+//! The wrapper beside `include/needlevale.h`: the same refusals and the same numbers.
+
+use needlevale::Refusal;
+
+fn header() -> String {
+    std::fs::read_to_string(concat!(env!("CARGO_MANIFEST_DIR"), "/../../include/needlevale.h")).expect("the header")
+}
+
+/// `BadVersion` as the header has it: `NEEDLEVALE_BAD_VERSION`.
+fn in_c(name: &str) -> String {
+    let mut out = "NEEDLEVALE".to_string();
+    for letter in name.chars() {
+        if letter.is_uppercase() {
+            out.push('_');
+        }
+        out.push(letter.to_ascii_uppercase());
+    }
+    out
+}
+
+#[test]
+fn refusals_are_the_headers() {
+    let header = header();
+    let start = header.find("enum needlevale_refusal").expect("the refusals");
+    let list = &header[start..start + header[start..].find("};").expect("their end")];
+    for refusal in Refusal::ALL {
+        let line = format!("{} = {}", in_c(refusal.name()), refusal.number());
+        assert!(list.contains(&format!("{line},")) || list.contains(&format!("{line} ")), "{line}");
+    }
+    assert_eq!(list.matches(" = ").count(), Refusal::ALL.len());
+    assert_eq!(Refusal::from_number(0), None);
+    assert_eq!(Refusal::from_number(Refusal::ALL.len() as u64 + 1), None);
+}
+
+#[test]
+fn numbers_are_the_headers() {
+    let header = header();
+    let defined = |name: &str| {
+        let line = header.lines().find(|line| line.starts_with(&format!("#define {name} "))).expect("a number");
+        line.rsplit(' ').next().expect("its value").trim_matches(['(', ')']).parse::<usize>().expect("a number")
+    };
+    assert_eq!(defined("NEEDLEVALE_LONGEST_INPUT"), needlevale::LONGEST_FILE);
+    assert_eq!(defined("NEEDLEVALE_PROGRAM_OUTPUT"), needlevale::PROGRAM_OUTPUT);
+    assert!(header.contains("#define NEEDLEVALE_LONGEST_INPUT (3 + 21385)"));
+}
