@@ -96,6 +96,33 @@ fn decoder_and_proved_reader_agree_on_every_bit_flip_and_cut_of_the_worked_examp
     assert!(!agree(&[&worked[..], &[0]].concat()));
 }
 
+/// Recorded files with one to three bits flipped, or cut: 1,000, or as many as `NEEDLEVALE_CASES` says.
+#[test]
+fn decoder_and_proved_reader_agree_on_damaged_files() {
+    let cases = std::env::var("NEEDLEVALE_CASES").map_or(1000, |n| n.parse().expect("a number of cases"));
+    let recorded = recorded();
+    let files: Vec<&[u8]> =
+        recorded.iter().filter(|(input, _)| input.len() > 3).map(|(input, _)| &input[3..]).collect();
+    let mut state: u64 = 20260;
+    let mut below = |most: usize| {
+        state = state.wrapping_mul(6364136223846793005).wrapping_add(1442695040888963407);
+        (state >> 33) as usize % most
+    };
+    let mut accepted = 0;
+    for _ in 0..cases {
+        let mut file = files[below(files.len())].to_vec();
+        for _ in 0..=below(3) {
+            let bit = below(file.len() * 8);
+            file[bit / 8] ^= 0x80 >> (bit % 8);
+        }
+        if below(8) == 0 {
+            file.truncate(below(file.len()));
+        }
+        accepted += usize::from(agree(&file));
+    }
+    assert!(accepted > cases / 10 && accepted < cases * 9 / 10, "{accepted} of {cases}");
+}
+
 #[test]
 fn wrapper_gives_the_recorded_answers() {
     let mut asked = 0;
