@@ -71,6 +71,8 @@ setup() { cd "$BATS_TEST_TMPDIR" && cp "$table" table.bin; }
 
 @test "a table without a root, a query before the table, and files that are none" {
   stops 2 "say which class of table.bin is asked for: --class C, 0 to 2" needlevale best table.bin
+  { cat "$tables/arithmetic.txt" && echo 'root Math one'; } >two.txt
+  stops 2 "two.txt has 2 roots, double of sort Math the first: say which by --class" needlevale best two.txt
   { printf '\000\002\000' && cat table.bin; } >input.bin
   stops 3 "input.bin: refused 2, BadVersion: version: 0, not 1 (bit 0); a query of three bytes stands before the table file, which takes none here: tail -c +4 cuts it off" \
     needlevale best input.bin --class 2

@@ -51,7 +51,7 @@ pub struct Rooted {
     /// The sort, by number or by the text's name (0, or the one that has the class)
     #[arg(long, value_name = "S")]
     pub sort: Option<String>,
-    /// The class, by number or by the text's name, or the literal's index in a base sort (the text's root)
+    /// The class, by number or by the text's name, or the literal's index in a base sort (the text's only root)
     #[arg(long, visible_alias = "value", value_name = "C")]
     pub class: Option<String>,
 }
@@ -160,7 +160,7 @@ pub struct Stats {
 
 #[derive(Args)]
 pub struct Bench {
-    /// The folder: its table files, texts and JSON files, in order of their names
+    /// The folder: its table files, texts and JSON files, in order of their names; each is asked for its first root, or class 0
     pub folder: String,
     #[command(flatten)]
     pub root: Rooted,

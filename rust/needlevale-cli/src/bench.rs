@@ -78,6 +78,7 @@ fn line_of(bench: &Bench, path: &str) -> Done<String> {
     let table = source.table()?;
     let root = match (&bench.root.class, source.names.roots.first()) {
         (None, None) => Root { sort: 0, value: 0 },
+        (None, Some(first)) => *first,
         _ => source.root(bench.root.sort.as_deref(), bench.root.class.as_deref())?,
     };
     let mut asked = Asked::of(&source, table, root)?;

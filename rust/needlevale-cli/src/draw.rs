@@ -78,7 +78,7 @@ fn graph(source: &Source, table: &Table, asked: Option<&Asked>) -> String {
     let title = match asked {
         Some(Asked { root, proved: Ok(best), .. }) => {
             format!(
-                "{}: {} costs {} (proved); its rows in green (computed)",
+                "{}: {} costs {} (proved); its rows in green, and all else, are computed",
                 short(&source.path),
                 source.root_words(*root),
                 best.cost

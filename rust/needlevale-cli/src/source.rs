@@ -102,8 +102,12 @@ impl Source {
     /// The root that the words say, by number or by name, or the text's own.
     pub fn root(&self, sort: Option<&str>, class: Option<&str>) -> Done<Root> {
         let Some(class) = class else {
-            return match (sort, self.names.roots.first()) {
-                (None, Some(root)) => Ok(*root),
+            return match (sort, &self.names.roots[..]) {
+                (None, [root]) => Ok(*root),
+                (None, [first, ..]) => {
+                    let (roots, first) = (self.names.roots.len(), self.root_words(*first));
+                    usage(format!("{} has {roots} roots, {first} the first: say which by --class", self.path))
+                }
                 _ if !self.whole() => Ok(Root { sort: 0, value: 0 }),
                 _ => usage(format!("say which class of {} is asked for: --class C{}", self.path, self.classes_words())),
             };

@@ -39,7 +39,7 @@ extern "C" {
         records_length: usize,
         literals: *mut i64,
         literals_length: usize,
-        names: *mut u8,
+        names: *const u8,
         names_length: usize,
         terms: usize,
         symbols: usize,

@@ -167,35 +167,44 @@ impl Chosen {
         }
         let mut chosen =
             Chosen { parts: Vec::new(), classes: HashMap::new(), rows: Vec::new(), cost, passes: prices.passes };
-        let mut known = HashMap::new();
-        chosen.build(table, prices, root, &mut known)?;
+        chosen.build(table, prices, root)?;
         Some(chosen)
     }
 
-    /// 'children first, left to right, then the term itself, once per sort and class'; ranks fall, so it ends.
-    fn build(&mut self, table: &Table, prices: &Prices, root: Root, known: &mut HashMap<Part, usize>) -> Option<usize> {
-        if let Some(number) = self.classes.get(&(root.sort, root.value)) {
-            return Some(*number);
-        }
-        let part = match table.sorts().get(root.sort)? {
-            Sort::Base => Part::Literal(*table.literals().get(root.value)?),
-            Sort::Eq(_) => {
-                let number = prices.edge(root.sort, root.value)?;
-                let row = table.rows().get(number)?;
-                let mut parts = Vec::new();
-                for (sort, value) in children(table, row) {
-                    parts.push(self.build(table, prices, Root { sort, value }, known)?);
-                }
-                self.rows.push(number);
-                Part::Application(row.function, parts)
+    /// 'children first, left to right, then the term itself, once per sort and class'; ranks fall, so it ends. What waits
+    /// for its children stands in a list and not on the caller's stack, since a term may be 512 deep.
+    fn build(&mut self, table: &Table, prices: &Prices, root: Root) -> Option<()> {
+        let mut known = HashMap::new();
+        let mut waiting = vec![(root, false)];
+        while let Some((Root { sort, value }, children_built)) = waiting.pop() {
+            if self.classes.contains_key(&(sort, value)) {
+                continue;
             }
-        };
-        let number = *known.entry(part.clone()).or_insert_with(|| {
-            self.parts.push(part);
-            self.parts.len() - 1
-        });
-        self.classes.insert((root.sort, root.value), number);
-        Some(number)
+            let part = match table.sorts().get(sort)? {
+                Sort::Base => Part::Literal(*table.literals().get(value)?),
+                Sort::Eq(_) => {
+                    let number = prices.edge(sort, value)?;
+                    let row = table.rows().get(number)?;
+                    if !children_built {
+                        waiting.push((Root { sort, value }, true));
+                        let below: Vec<(usize, usize)> = children(table, row).collect();
+                        waiting.extend(
+                            below.iter().rev().map(|(sort, value)| (Root { sort: *sort, value: *value }, false)),
+                        );
+                        continue;
+                    }
+                    self.rows.push(number);
+                    let parts = children(table, row).map(|child| self.classes.get(&child).copied());
+                    Part::Application(row.function, parts.collect::<Option<Vec<usize>>>()?)
+                }
+            };
+            let number = *known.entry(part.clone()).or_insert_with(|| {
+                self.parts.push(part);
+                self.parts.len() - 1
+            });
+            self.classes.insert((sort, value), number);
+        }
+        Some(())
     }
 
     /// The cost with every distinct part paid once: head costs, and 1 a literal.

@@ -10,7 +10,7 @@ macro_rules! refusals {
         /// use needlevale::Refusal;
         /// let refusal = Refusal::BadValue;
         /// assert_eq!(refusal.number(), 8);
-        /// assert_eq!(refusal.to_string(), "refused 8, BadValue: cell out of range");
+        /// assert_eq!(refusal.to_string(), "refused 8, BadValue: a cell is not below the bound of its column");
         /// assert_eq!(Refusal::from_number(8), Some(refusal));
         /// ```
         #[derive(Clone, Copy, PartialEq, Eq, Hash, Debug)]
@@ -38,21 +38,21 @@ macro_rules! refusals {
 
 refusals! {
     Short = 1, "the input ends before a field does";
-    BadVersion = 2, "version is not 1";
-    BadSize = 3, "class count or running total over 512; arity or child count over 8; row count over 1,024; let start count over 4,294,966,271";
-    BadName = 4, "length 0 or over 31, or a byte not allowed (a let prefix may be empty)";
-    DupName = 5, "a function name comes again";
-    BadSort = 6, "sort number not below the sort count, or a base output sort";
-    BadFunction = 7, "row's function not below the function count";
-    BadValue = 8, "cell out of range";
+    BadVersion = 2, "the version is not 1";
+    BadSize = 3, "a class count or the running total of classes is over 512; an arity or a count of children is over 8; a row count is over 1,024; a let start count is over 4,294,966,271";
+    BadName = 4, "a name's length is 0 or over 31, or a byte of it is not allowed; a let prefix may be empty";
+    DupName = 5, "a function's name comes again";
+    BadSort = 6, "a sort number is not below the number of sorts, or an output sort is a base sort";
+    BadFunction = 7, "a row's function is not below the number of functions";
+    BadValue = 8, "a cell is not below the bound of its column";
     Trailing = 9, "a pad bit is set, or bytes follow";
-    BadRoot = 10, "asked sort not below the sort count, or value out of its range";
-    NoTerm = 11, "no term derives the asked class";
-    TooDear = 12, "best: all that derive it cost 2^64-1 or more; variants: a kept one costs 2^64-1 after saturation";
-    NoRoom = 13, "new terms or names exceed the store's room (1,024 and 128), or the result its lent buffer";
-    BadTerm = 14, "a term number not in the store";
-    Absent = 15, "lookup: the term is not there";
-    BadMode = 16, "program query mode 3";
+    BadRoot = 10, "the sort that is asked for is not below the number of sorts, or the value is not below its bound: the class count of an eq sort, the number of literals of a base sort";
+    NoTerm = 11, "best only: no term derives the root";
+    TooDear = 12, "best: some term derives the root and each costs 2^64-1 or more; variants: the cost of a kept one is 2^64-1 after saturation";
+    NoRoom = 13, "the new terms or names are more than the store has room for, or the result is longer than the lent buffer";
+    BadTerm = 14, "a term number is not in the store: it is not below the count of terms";
+    Absent = 15, "lookup only: the term is not there";
+    BadMode = 16, "the program's query has mode 3";
     BadStore = 17, "the lent store is not well formed";
 }
 

@@ -96,6 +96,33 @@ fn decoder_and_proved_reader_agree_on_every_bit_flip_and_cut_of_the_worked_examp
     assert!(!agree(&[&worked[..], &[0]].concat()));
 }
 
+/// Recorded files with one to three bits flipped, or cut: 1,000, or as many as `NEEDLEVALE_CASES` says.
+#[test]
+fn decoder_and_proved_reader_agree_on_damaged_files() {
+    let cases = std::env::var("NEEDLEVALE_CASES").map_or(1000, |n| n.parse().expect("a number of cases"));
+    let recorded = recorded();
+    let files: Vec<&[u8]> =
+        recorded.iter().filter(|(input, _)| input.len() > 3).map(|(input, _)| &input[3..]).collect();
+    let mut state: u64 = 20260;
+    let mut below = |most: usize| {
+        state = state.wrapping_mul(6364136223846793005).wrapping_add(1442695040888963407);
+        (state >> 33) as usize % most
+    };
+    let mut accepted = 0;
+    for _ in 0..cases {
+        let mut file = files[below(files.len())].to_vec();
+        for _ in 0..=below(3) {
+            let bit = below(file.len() * 8);
+            file[bit / 8] ^= 0x80 >> (bit % 8);
+        }
+        if below(8) == 0 {
+            file.truncate(below(file.len()));
+        }
+        accepted += usize::from(agree(&file));
+    }
+    assert!(accepted > cases / 10 && accepted < cases * 9 / 10, "{accepted} of {cases}");
+}
+
 #[test]
 fn wrapper_gives_the_recorded_answers() {
     let mut asked = 0;
@@ -154,4 +181,42 @@ fn fault_tells_field_bit_and_value() {
     assert_eq!(fault.refusal, Some(Refusal::BadValue));
     assert_eq!(fault.value, Some(3));
     assert_eq!(fault.to_string(), "row 2, output cell: class 3, but sort 0 has 3 classes (bit 360)");
+}
+
+#[test]
+fn a_difference_of_computed_and_proved_is_told() {
+    use needlevale::compute::{Chosen, Prices};
+    let table = Table::decode(&example("worked/table.bin")).expect("the worked example");
+    let root = Root { sort: 0, value: 2 };
+    let chosen = Chosen::of(&table, &Prices::of(&table, 0), root).expect("a term");
+    let answer = needlevale::plain(table.encode(), root).expect("an answer");
+    assert_eq!(chosen.differs(&table, &answer), None);
+    let (mut cost, mut terms, mut text) = (answer.clone(), answer.clone(), answer);
+    cost.cost += 1;
+    assert_eq!(
+        chosen.differs(&table, &cost),
+        Some("the computed cost is 14, but the proved answer's is 15".to_string())
+    );
+    terms.terms -= 1;
+    assert!(chosen.differs(&table, &terms).is_some());
+    text.text = text.text.replace("5", "6");
+    assert!(chosen.differs(&table, &text).is_some());
+}
+
+/// The deepest table, a chain of 512 classes, from a thread that has next to no stack.
+#[test]
+fn a_small_stack_of_the_caller_is_enough() {
+    use needlevale::compute::{Chosen, Prices};
+    let rows: String = (1..512).map(|class| format!("row {class} = (S {})\n", class - 1)).collect();
+    let text =
+        format!("needlevale table 1\nsort M eq 512\nfunction Z () -> M\nfunction S (M) -> M\nrow 0 = (Z)\n{rows}");
+    let asked = move || {
+        let table = text::parse(&text).expect("a table").table;
+        let root = Root { sort: 0, value: 511 };
+        let answer = needlevale::plain(table.encode(), root).expect("an answer");
+        assert_eq!((answer.cost, answer.terms), (512, 512));
+        let chosen = Chosen::of(&table, &Prices::of(&table, 0), root).expect("a term");
+        assert_eq!((chosen.depth(), chosen.differs(&table, &answer)), (512, None));
+    };
+    std::thread::Builder::new().stack_size(64 * 1024).spawn(asked).expect("a thread").join().expect("no fault");
 }

@@ -32,6 +32,24 @@ fn refusals_are_the_headers() {
     assert_eq!(Refusal::from_number(Refusal::ALL.len() as u64 + 1), None);
 }
 
+/// The words of docs/RULES.md, where it is there: `| <a id="R-refusal-8"></a>8 | BadValue | a cell is .. |`.
+#[test]
+fn words_are_the_rules() {
+    let Ok(rules) = std::fs::read_to_string(concat!(env!("CARGO_MANIFEST_DIR"), "/../../docs/RULES.md")) else {
+        return;
+    };
+    for refusal in Refusal::ALL {
+        let row = format!("</a>{} | {} | ", refusal.number(), refusal.name());
+        let line = rules.lines().find_map(|line| line.split_once(&row)).expect("a row of the table").1;
+        let mut words = line.trim_end_matches(" |").to_string();
+        while let Some(start) = words.find(" (R-") {
+            let end = start + words[start..].find(')').expect("its end");
+            words.replace_range(start..=end, "");
+        }
+        assert_eq!(refusal.exactly_when(), words);
+    }
+}
+
 #[test]
 fn numbers_are_the_headers() {
     let header = header();
