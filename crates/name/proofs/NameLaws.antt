@@ -40,16 +40,25 @@ pub allAllowed-end : (s : List ℕ) (i : ℕ) → i ≤ length s → length s �
 unfolding allAllowed
 allAllowed-end s i h k = rw (drop-end s i h k)
 
+and-false : (p : Bool) → (p && false) ≡ false
+and-false true = refl
+and-false false = refl
+
 pub same-length : (a b : List ℕ) → length a ≢ length b → same a b ≡ false
 unfolding same
 same-length [] [] n = absurd (n refl)
 same-length [] (y ∷ b) n = refl
 same-length (x ∷ a) [] n = refl
 same-length (x ∷ a) (y ∷ b) n = rw (same-length a b (λ e. n (ap suc e))) (and-false (eqb x y))
-  where
-    and-false : (p : Bool) → (p && false) ≡ false
-    and-false true = refl
-    and-false false = refl
+
+-- Two bytes that differ, wherever they stand.
+pub same-apart : (a b : List ℕ) (i : ℕ) → i < length a → i < length b → getD a i 0 ≢ getD b i 0 → same a b ≡ false
+unfolding same
+same-apart [] b i h k n = absurd (omega arith)
+same-apart (x ∷ a) [] i h k n = absurd (omega arith)
+same-apart (x ∷ a) (y ∷ b) zero h k n = rw (ne-eqb x y n)
+same-apart (x ∷ a) (y ∷ b) (suc i) h k n =
+    rw (same-apart a b i (omega arith) (omega arith) n) (and-false (eqb x y))
 
 module _ (a b : List ℕ) (i : ℕ) where
   pub same-drop :

@@ -63,19 +63,19 @@ pub fn is_valid(s: &[u8]) -> bool
     all_allowed(s)
 }
 
-// Whether `a` and `b` have the same bytes.
+// Whether `a` and `b` have the same bytes. From the last byte on: names often begin alike and differ at the end.
 pub fn are_same(a: &[u8], b: &[u8]) -> bool
     ensures { λ r. ⌜ r ≡ same (now (a .entry)) (now (b .entry)) ⌝ }
 {
     if a.len() != b.len() {
         return false;
     }
-    let mut i = 0;
-    while i < a.len() {
+    let mut i = a.len();
+    while i > 0 {
+        i -= 1;
         if a[i] != b[i] {
             return false;
         }
-        i += 1;
     }
     true
 }
