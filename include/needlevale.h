@@ -2,13 +2,14 @@
  *
  * Proved, for every content of the buffers: a call returns, reads and writes nothing outside them, and gives exactly
  * the answer that the definitions written from document 01 give (crates/program_rules/specs/Reply.antt, `replied`;
- * crates/term/specs/Calls.antt, `addLiteral`). A refusal changes no buffer, and bytes past a text's length stay: these
- * and the rest in crates/needlevale_c/specs/Promises.antt.
+ * crates/term/specs/Calls.antt, `addLiteral`). A refusal changes no buffer and comes back as one of -1 to -17, and bytes
+ * past a text's length stay: these and the rest in crates/needlevale_c/specs/Promises.antt and
+ * crates/program/specs/Promises.antt.
  *
  * Not proved, and the caller's part: each pointer stands for as many readable elements as its length says, those that
  * are not const writable too; no two buffers of a call overlap; a null pointer goes with length 0; no length in bytes
- * is over 2^63-1; there is stack for the call. Not proved either: this header, the C compiler, the linker, and the C
- * library's memory functions.
+ * is over 2^63-1; there is stack for the call, for which 640 KiB were enough wherever it was measured
+ * (docs/BENCHMARKS.md). Not proved either: this header, the C compiler, the linker, and the C library's memory functions.
  *
  * A call keeps nothing between calls and may run in several threads at once, on buffers of their own. */
 #ifndef NEEDLEVALE_H
@@ -65,7 +66,7 @@ int64_t needlevale_answer(const uint8_t *input, size_t input_length, uint8_t *ou
  * refusal's number, 17 before 13. Where the number is terms, the store has one term more after the call. Lengths count
  * elements: NEEDLEVALE_RECORD numbers and one literal a term, NEEDLEVALE_NAME bytes a symbol. */
 int64_t needlevale_add_literal(uint64_t *records, size_t records_length, int64_t *literals, size_t literals_length,
-                               uint8_t *names, size_t names_length, size_t terms, size_t symbols, int64_t value);
+                               const uint8_t *names, size_t names_length, size_t terms, size_t symbols, int64_t value);
 
 /* The name of a refusal in document 01's table, for what a call returned below 0. */
 static inline const char *needlevale_name(int64_t returned)
