@@ -1,13 +1,8 @@
 -- An answer that is a value or a refusal, with the store on return. Assumes nothing: definitions.
-use Prim.Native.Nat.{ℕ}
 use Rattle.refusal.specs.declared.Refusal.{Refusal}
 use Rattle.refusal.specs.Numbers.{refusalNo}
+pub use Rattle.refusal.specs.Answer.{Answer, value, refusal}
 use Rattle.term_rules.specs.Lent.{Store}
-
--- "`Option` becomes an answer that is a value or a refusal": a refusal is its number alone.
-pub data Answer (A : Type 0) : Type 0 where
-  value : A → Answer A
-  refusal : ℕ → Answer A
 
 -- What a call gives back: its answer, and the lent store as it is then.
 pub record After (A : Type 0) : Type 0 where

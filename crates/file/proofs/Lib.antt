@@ -1,4 +1,4 @@
 -- The laws of the crate `file`.
-pub mod Encoding
 pub mod ReadLaws
+pub mod AnswerLaws
 pub mod Promises

@@ -12,7 +12,7 @@ use Rattle.file_rules.specs.Reading.{OnGot}
 use Rattle.file_reader.specs.declared.Outcome.{Outcome}
 use Rattle.file_reader.specs.declared.Outcome.the-variants.{Read, Refused}
 use Rattle.file_reader.specs.Outcome.{outcomeOf, Answers}
-use Rattle.file.specs.Lent.{Arrays, lent, arraysOf, answer, readOf}
+use Rattle.file.specs.Lent.{Arrays, lent, arraysOf, seen, readOf}
 
 -- Arrays that hold a table are its arrays.
 pub arrays-held : {kinds classes : List ℕ} {literals : List ℤ}
@@ -40,17 +40,17 @@ arrays-held h =
     )
 
 refuse-by : (g : Got Table) {x : Refusal} (before : Arrays) → Refused x ≡ outcomeOf g
-    → answer (Refused x) before ≡ readOf g before
+    → seen (Refused x) before ≡ readOf g before
 refuse-by (got t k) before e = cc
-refuse-by (refused y) before e = ap (λ (o : Outcome). answer o before) e
+refuse-by (refused y) before e = ap (λ (o : Outcome). seen o before) e
 
 pub read-refuses : {P : Table → Type 0} {g : Got Table} {r : Outcome} {x : Refusal} (before : Arrays) → Answers g r P
     → r ≡ Refused x
-    → answer r before ≡ readOf g before
+    → seen r before ≡ readOf g before
 read-refuses {g = g} before h e = rw e (refuse-by g before (sym e ∙ h .answer))
 
 accept-by : (g : Got Table) {r : Outcome} {n l m k : ℕ} (own before : Arrays) → r ≡ outcomeOf g → r ≡ Read n l m k
-    → OnGot g (λ t. own ≡ arraysOf t) → answer r own ≡ readOf g before
+    → OnGot g (λ t. own ≡ arraysOf t) → seen r own ≡ readOf g before
 unfolding OnGot
 accept-by (got t k) own before e d h = rw (e, h)
 accept-by (refused x) {r} {n} {l} {m} {k} own before e d h =
@@ -70,7 +70,7 @@ module _ {kinds classes : List ℕ} {literals : List ℤ}
       → Answers g r (Holds kinds classes literals names declared costs unextractable hidden outputs arities arguments
       functions subsumed cells)
       → r ≡ Read n l m k
-      → answer r (lent kinds classes literals names declared costs unextractable hidden outputs arities arguments
+      → seen r (lent kinds classes literals names declared costs unextractable hidden outputs arities arguments
       functions subsumed cells)
       ≡ readOf g before
   read-accepts {g} before h e = accept-by g _ before (h .answer) e (on-map g (λ t o. arrays-held o) (h .filled))

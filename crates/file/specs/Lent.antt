@@ -3,13 +3,14 @@ use Prim.Native.Nat.{ℕ}
 use mathlib.Core.List.{List, map}
 use lib.IntN.{ℤ, pos}
 use lib.ListN.{length}
+use Rattle.refusal.specs.Answer.{Answer, value, refuse}
 use Rattle.name.specs.Entries.{entry}
 use Rattle.bits.specs.Got.{Got, got, refused}
 use Rattle.file_rules.specs.Table.{Sort, Function, Row, Table}
 use Rattle.file_rules.specs.Sorts.{kindsOf}
 use Rattle.file_rules.specs.Arrays.{padWith, pad, blocks}
 use Rattle.file_reader.specs.declared.Outcome.{Outcome}
-use Rattle.file_reader.specs.Outcome.{outcomeOf}
+use Rattle.file_reader.specs.declared.Outcome.the-variants.{Read, Refused}
 
 -- The contents of the fourteen arrays.
 pub record Arrays : Type 0 where
@@ -69,16 +70,34 @@ arraysOf t =
       cells = pad 9216 (blocks (λ (r : Row). pad 9 (r .cells)) (t .rows));
     }
 
+-- How many sorts, literals, functions and rows a table has.
+pub record Counts : Type 0 where
+  pub sorts : ℕ
+  pub literals : ℕ
+  pub functions : ℕ
+  pub rows : ℕ
+
+abbrev pub counts : ℕ → ℕ → ℕ → ℕ → Counts
+counts s l f r = record { sorts = s; literals = l; functions = f; rows = r }
+
+abbrev pub countsOf : Table → Counts
+countsOf t = counts (length (t .sorts)) (length (t .literals)) (length (t .functions)) (length (t .rows))
+
 -- What a call answers, and the arrays as it returns.
-pub record Answer : Type 0 where
-  pub outcome : Outcome
+pub record After : Type 0 where
+  pub answer : Answer Counts
   pub arrays : Arrays
 
-abbrev pub answer : Outcome → Arrays → Answer
-answer r a = record { outcome = r; arrays = a }
+-- The code's answer, in document 01's numbers.
+abbrev pub answerOf : Outcome → Answer Counts
+answerOf (Read s l f r) = value (counts s l f r)
+answerOf (Refused r) = refuse r
 
--- The answer for a file: its table's counts and the table in the arrays, or the first fault and the arrays as they
--- were.
-abbrev pub readOf : Got Table → Arrays → Answer
-readOf (got t k) before = answer (outcomeOf (got t k)) (arraysOf t)
-readOf (refused r) before = answer (outcomeOf (refused r)) before
+abbrev pub seen : Outcome → Arrays → After
+seen r a = record { answer = answerOf r; arrays = a }
+
+-- The answer for a file: its table's counts and the table in the arrays, or the number of the first fault and the arrays
+-- as they were.
+abbrev pub readOf : Got Table → Arrays → After
+readOf (got t k) before = record { answer = value (countsOf t); arrays = arraysOf t }
+readOf (refused r) before = record { answer = refuse r; arrays = before }

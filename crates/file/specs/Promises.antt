@@ -1,30 +1,39 @@
--- What the reader of table files promises, beside the contract of `read`: document 01, 'The table file'.
--- `tableAt` is the definition that `read` equals. Assumes nothing: definitions.
+-- What the reader of table files promises, beside the contract of `read`: document 01, 'The table file' and 'Refusal
+-- numbers'. `tableAt` is the definition that `read` equals, `readOf` what it answers and leaves in the lent arrays.
+-- Assumes nothing: definitions.
 use Prim.Native.Nat.{ℕ, _≤_, _<_}
-use mathlib.Core.Logic.{_⊎_}
 use mathlib.Core.Path.{_≡_}
 use mathlib.Core.List.{List, _∷_, _++_}
 use lib.ListN.{length}
 use Rattle.refusal.specs.declared.Refusal.{Refusal}
+use Rattle.refusal.specs.Numbers.{refusalNo}
+use Rattle.refusal.specs.Answer.{value, refusal}
 use Rattle.refusal.specs.declared.Refusal.the-variants.{Short, Trailing}
 use Rattle.bits.specs.Bits.{bitsOf}
-use Rattle.bits.specs.Got.{Got, got, refused}
+use Rattle.bits.specs.Got.{Got, got}
 use Rattle.file_rules.specs.Table.{Table}
 use Rattle.file_rules.specs.Every.{Every}
 use Rattle.file_rules.specs.File.{tableAt}
 use Rattle.file_rules.specs.Accepted.{Accepted}
 use Rattle.file_rules.specs.Code.{codeFile}
+use Rattle.file_rules.specs.Bytes.{fileOf}
 use Rattle.file_reader.specs.declared.Outcome.{Outcome}
-use Rattle.file.specs.Lent.{Arrays, answer, readOf}
+use Rattle.file.specs.Lent.{Arrays, seen, readOf, countsOf, arraysOf}
 
 -- The file holds the table.
 pub record Holding (s : List ℕ) (t : Table) : Type 0 where
   pub end : ℕ
   pub is : tableAt s ≡ got t end
 
--- The file's first fault.
-abbrev pub Fault : List ℕ → Refusal → Type 0
-Fault s x = tableAt s ≡ refused x
+-- The number that the file is refused with, whatever was lent; "Nothing lent is changed."
+pub record Refused (s : List ℕ) (k : ℕ) : Type 0 where
+  pub number : (before : Arrays) → readOf (tableAt s) before .answer ≡ refusal k
+  pub unchanged : (before : Arrays) → readOf (tableAt s) before .arrays ≡ before
+
+-- The table is told by its counts, and stands in the arrays, whatever was lent.
+pub record Read (s : List ℕ) (t : Table) : Type 0 where
+  pub told : (before : Arrays) → readOf (tableAt s) before .answer ≡ value (countsOf t)
+  pub stands : (before : Arrays) → readOf (tableAt s) before .arrays ≡ arraysOf t
 
 abbrev pub Bytes : List ℕ → Type 0
 Bytes s = Every (λ b. b < 256) s
@@ -38,30 +47,35 @@ pub record Attained : Type 0 where
   pub size : length file ≡ 21385
 
 pub record Promises : Type 0 where
-  -- "A file without a fault is accepted, and no other."
-  pub accepted-or-refused : (s : List ℕ) → ((t : Table) × Holding s t) ⊎ ((x : Refusal) × Fault s x)
-  pub not-both : (s : List ℕ) (t : Table) (x : Refusal) → Holding s t → Fault s x → ⊥
-  -- Any two results that the contract of `read` allows coincide, and so do the lent contents.
-  pub one-answer : (g : Got Table) (before a b : Arrays) (r q : Outcome) → answer r a ≡ readOf g before → answer q b
-      ≡ readOf g before
-      → (r ≡ q) × (a ≡ b)
-  -- An accepted table is as `Accepted` says.
+  -- "A file without a fault is accepted, and no other.": what is accepted is the bits of a table that is as `Accepted`
+  -- says, so two different files never hold the same table;
   pub accepted : (s : List ℕ) (t : Table) → Holding s t → Accepted t
-  -- The table is determined by the file, and the fault too.
-  pub one-table : (s : List ℕ) (t u : Table) → Holding s t → Holding s u → t ≡ u
-  pub one-fault : (s : List ℕ) (x y : Refusal) → Fault s x → Fault s y → x ≡ y
-  -- A file is its table's bits, so two different files never hold the same table.
   pub file-is-code : (s : List ℕ) (t : Table) → Holding s t → bitsOf s ≡ codeFile t
   pub one-file : (s u : List ℕ) (t : Table) → Bytes s → Bytes u → Holding s t → Holding u t → s ≡ u
-  -- And back: the bits of a table that is as `Accepted` says are a file that holds it, so that each such table has a
-  -- file.
+  -- and the bits of such a table are accepted, so that each has a file, which `fileOf` makes.
   pub code-is-file : (s : List ℕ) (t : Table) → Accepted t → bitsOf s ≡ codeFile t → Holding s t
-  pub every-table : (t : Table) → Accepted t → (s : List ℕ) × (Bytes s × Holding s t)
+  pub every-table : (t : Table) → Accepted t → Holding (fileOf t) t
+  pub every-file : (t : Table) → Bytes (fileOf t)
+  -- Any other file is refused, with a number of the table.
+  pub refused-otherwise :
+      (s : List ℕ) →
+      ((t : Table) → Accepted t → bitsOf s ≡ codeFile t → ⊥) →
+      (x : Refusal) × Refused s (refusalNo x)
+  -- An accepted file is read as its table.
+  pub read : (s : List ℕ) (t : Table) → Holding s t → Read s t
   -- "The longest valid file has 21,385 bytes.": none is longer, and one is as long.
   pub longest : (s : List ℕ) (t : Table) → Holding s t → length s ≤ 21385
   pub attained : Attained
-  -- Reading looks at no byte past the first fault's field: whatever follows a fault other than Short, the fault stays.
-  pub fault-stays : (s rest : List ℕ) (x : Refusal) → Fault s x → (x ≡ Short → ⊥) → Fault (s ++ rest) x
+  -- "Fields are read in order .. and the first fault decides.": reading looks at no byte past the first fault's field, so
+  -- whatever follows a fault other than Short, the refusal stays.
+  pub fault-stays :
+      (s rest : List ℕ) (k : ℕ) → Refused s k → (k ≡ refusalNo Short → ⊥) → Refused (s ++ rest) k
   -- "then the file ends": an accepted file with bytes after it is Trailing.
-  pub nothing-follows : (s : List ℕ) (t : Table) (b : ℕ) (rest : List ℕ) → Holding s t → Fault (s ++ (b ∷ rest))
-      Trailing
+  pub nothing-follows :
+      (s : List ℕ) (t : Table) (b : ℕ) (rest : List ℕ) → Holding s t → Refused (s ++ (b ∷ rest)) (refusalNo Trailing)
+  -- Any two results that the contract of `read` allows coincide, and so do the lent contents.
+  pub one-answer :
+      (s : List ℕ) (before a b : Arrays) (r q : Outcome) →
+      seen r a ≡ readOf (tableAt s) before →
+      seen q b ≡ readOf (tableAt s) before →
+      (r ≡ q) × (a ≡ b)

@@ -1,7 +1,7 @@
 // The public reader of a table file: document 01, 'The table file'.
 ghost use mathlib.Core.Path.{_≡_};
 ghost use Rattle.file_rules.specs.File.{tableAt};
-ghost use Rattle.file.specs.Lent.{lent, answer, readOf};
+ghost use Rattle.file.specs.Lent.{lent, seen, readOf};
 use file_reader::Outcome;
 
 // Reads the table file `file` into the lent arrays, or tells its first fault and leaves them as they are. It works on
@@ -23,7 +23,7 @@ pub fn read(
     subsumed: &mut [u64; 1024],
     cells: &mut [u64; 9216],
 ) -> Outcome
-    ensures { λ r. ⌜ answer r (lent (now (kinds .exit)) (now (classes .exit)) (now (literals .exit)) (now (names .exit))
+    ensures { λ r. ⌜ seen r (lent (now (kinds .exit)) (now (classes .exit)) (now (literals .exit)) (now (names .exit))
         (now (declared .exit)) (now (costs .exit)) (now (unextractable .exit)) (now (hidden .exit))
         (now (outputs .exit)) (now (arities .exit)) (now (arguments .exit)) (now (functions .exit))
         (now (subsumed .exit)) (now (cells .exit)))

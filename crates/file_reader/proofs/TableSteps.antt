@@ -22,10 +22,10 @@ use Rattle.file_rules.proofs.ReadingLaws.{Read-to}
 use Rattle.file_rules.proofs.ArraysLaws.{padWith-length}
 use Rattle.file_rules.proofs.TableLaws.{version-end, sorts-in, literals-in, FunctionsIn, functions-in}
 use Rattle.file_rows.proofs.InLaws.{rows-are}
-use Rattle.file_reader.specs.Parts.{rowsPartIn}
+use Rattle.file_reader.specs.Parts.{rowsPartIn, tailIn}
 use Rattle.file_reader.specs.declared.Outcome.{Outcome}
 use Rattle.file_reader.specs.declared.Outcome.the-variants.{Read, Refused}
-use Rattle.file_reader.specs.Outcome.{Answers, tailIn}
+use Rattle.file_reader.specs.Outcome.{Answers}
 
 -- The rows and the end of the file.
 module _ (s kinds classes : List ℕ) (l count : ℕ) (outputs arities arguments : List ℕ) (at : ℕ) where

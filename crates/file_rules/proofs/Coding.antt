@@ -1,5 +1,4 @@
--- The laws of `coding`. How a table is written as a file: definitions and laws alone, for what `file` promises of its
--- reader.
+-- The laws of how a table is written in bits: an accepted file is its table's bits, and no other.
 pub mod SpellLaws
 pub mod PartsSpell
 pub mod FileSpell

@@ -10,3 +10,4 @@ pub mod DifferLaws
 pub mod RowLaws
 pub mod TableLaws
 pub mod Coding
+pub mod Encoding

@@ -10,3 +10,5 @@ pub mod Accepted
 pub mod Arrays
 pub mod Reading
 pub mod Code
+pub mod Bytes
+pub mod Longest

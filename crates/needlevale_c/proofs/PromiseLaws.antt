@@ -1,15 +1,15 @@
 -- What the promises of the library for C rest on. Assumes nothing.
 use mathlib.Core.Path.{_≡_, refl, sym, ap, subst, _∙_}
 use mathlib.Core.Bool.{Bool, true, false}
-use mathlib.Core.List.{List, [], _∷_, _++_}
-use mathlib.Core.Logic.{_⊎_, inl, inr, _↔_}
-use Prim.Native.Nat.{ℕ, _+_, _≤_, _<_}
+use mathlib.Core.List.{List}
+use mathlib.Core.Logic.{_⊎_, inl, inr}
+use Prim.Native.Nat.{ℕ, _+_, _<_}
 use native.Mathlib.Omega.{arith}
-use borrow.Author.Tests.{lt-leb, leb-false}
-use lib.Dec.{leb}
-use lib.IntN.{ℤ}
-use lib.ListN.{length, drop}
+use lib.IntN.{ℤ, pos, negℤ}
+use lib.ListN.{length}
 use Rattle.refusal.specs.declared.Refusal.{Refusal}
+use Rattle.refusal.specs.declared.Refusal.the-variants.{NoRoom}
+use Rattle.refusal.specs.Answer.{Answer, value, refusal, refuse}
 use Rattle.name.specs.declared.Found.{Found}
 use Rattle.name.specs.declared.Found.the-variants.{At, Missing}
 use Rattle.term_rules.specs.Lent.{Store}
@@ -18,105 +18,35 @@ use Rattle.term_rules.specs.Adding.{Adds, at, noRoom, add, append, withRecord, 
 use Rattle.term_rules.proofs.SearchLaws.{first-at}
 use Rattle.term.specs.Answers as terms
 use Rattle.term.specs.Calls.{Faults, fine, fault, literalFaults, adding, added, addLiteral}
-use Rattle.answer_rules.specs.Answers.{Answer, value, refusal}
-use Rattle.program_rules.specs.Reply.{answerTo, inRoom, putIn, replied, Replied}
-use Rattle.needlevale_c.specs.Promises.{Stands, TooLong, Counts}
+use Rattle.program_rules.specs.Reply.{answerTo, inRoom, putIn, replied}
+use Rattle.program_rules.proofs.replies.KnownLaws.{Known, answer-known, room-known}
+use Rattle.needlevale_c.specs.Below.{belowZero}
+use Rattle.needlevale_c.specs.Coded.{coded, Replies, codedTerm, Adds as Wanted}
+use Rattle.needlevale_c.specs.Promises.{ReplyTold, AddTold, Counts}
 
--- which case an answer is, and its number
-isText : Answer ℕ → ℕ
-isText (value n) = 1
-isText (refusal k) = 0
+-- What `needlevale_answer` gives is told by one number.
+reply-by :
+    (a : Answer ℕ) (z : ℤ) →
+    Known a →
+    z ≡ coded a →
+    ((n : ℕ) × ((z ≡ pos n) × (a ≡ value n))) ⊎ ((x : Refusal) × ((z ≡ belowZero x) × (a ≡ refuse x)))
+reply-by (value n) z h e = inl (n, (e, refl))
+reply-by (refusal k) z h e = inr (h .0, (e ∙ ap (λ (m : ℕ). negℤ (pos m)) (h .1), ap refusal (h .1)))
 
-numberIn : Answer ℕ → ℕ
-numberIn (value n) = n
-numberIn (refusal k) = k
+put-known : (a : Answer (List ℕ)) (out : List ℕ) → Known a → Known (putIn a out .answer)
+unfolding putIn
+put-known (value text) out h = tt
+put-known (refusal k) out h = h
 
-not-both : (n k : ℕ) → _≡_ {A = Answer ℕ} (value n) (refusal k) → ⊥
-unfolding isText
-not-both n k e =
-    let z : _≡_ {A = ℕ} 1 0 = ap isText e in
-    omega (arith, z)
+replied-known : (input out : List ℕ) → Known (replied input out .answer)
+unfolding replied
+replied-known input out =
+    put-known (inRoom (length out) (answerTo input)) out
+    (room-known (length out) (answerTo input) (answer-known input))
 
--- The answer in a buffer, by what answers the input and whether it has room.
-module _ (input out : List ℕ) where
-  roomed : List ℕ → Bool → Answer (List ℕ)
-  roomed text b = elim b [ true ↦ value text | false ↦ refusal 13 ]
-
-  of-text :
-      (text : List ℕ) (b : Bool) →
-      answerTo input ≡ value text →
-      leb (length text) (length out) ≡ b →
-      replied input out ≡ putIn (roomed text b) out
-  unfolding replied inRoom roomed
-  of-text text b e l =
-      ap (λ (x : Answer (List ℕ)). putIn (inRoom (length out) x) out) e
-      ∙ ap (λ (x : Bool). putIn (roomed text x) out) l
-
-  of-refusal : (k : ℕ) → answerTo input ≡ refusal k → replied input out ≡ record { answer = refusal k; out = out }
-  unfolding replied inRoom putIn
-  of-refusal k e = rw e
-
-  pub refusal-told : (k : ℕ) → answerTo input ≡ refusal k → replied input out .answer ≡ refusal k
-  refusal-told k e = ap (λ (x : Replied). x .answer) (of-refusal k e)
-
-  long-refused : TooLong input out → replied input out .answer ≡ refusal 13
-  unfolding roomed putIn
-  long-refused t =
-      ap (λ (x : Replied). x .answer)
-      (of-text (t .text) false (t .answers) (lt-leb (length (t .text)) (length out) (t .long)))
-
-  -- all that can be, by cases
-  Cases : Replied → Type 0
-  Cases x =
-      ((n : ℕ) → x .answer ≡ value n → Stands input out n (x .out))
-      × ((k : ℕ) → x .answer ≡ refusal k → x .out ≡ out)
-      × (x .answer ≡ refusal 13 → (answerTo input ≡ refusal 13) ⊎ TooLong input out)
-
-  text-cases :
-      (text : List ℕ) (b : Bool) →
-      answerTo input ≡ value text →
-      leb (length text) (length out) ≡ b →
-      Cases (putIn (roomed text b) out)
-  unfolding roomed putIn Cases numberIn
-  text-cases text true e l = (
-    (λ n h. record { text = text; answers = e; long = sym (ap numberIn h); bytes = refl }),
-    (λ k h. absurd (not-both (length text) k h)),
-    λ h. absurd (not-both (length text) 13 h),
-  )
-  text-cases text false e l = (
-    (λ n h. absurd (not-both n 13 (sym h))),
-    (λ k h. refl),
-    λ h. inr (record { text = text; answers = e; long = leb-false (length text) (length out) l }),
-  )
-
-  refusal-cases : (k : ℕ) → answerTo input ≡ refusal k → Cases (record { answer = refusal k; out = out })
-  unfolding Cases numberIn
-  refusal-cases k e = (
-    (λ n h. absurd (not-both n k (sym h))),
-    (λ j h. refl),
-    λ h. inl (e ∙ ap refusal (ap numberIn h)),
-  )
-
-  all-cases : (a : Answer (List ℕ)) → answerTo input ≡ a → Cases (replied input out)
-  all-cases (value text) e =
-      subst Cases (sym (of-text text (leb (length text) (length out)) e refl))
-      (text-cases text (leb (length text) (length out)) e refl)
-  all-cases (refusal k) e = subst Cases (sym (of-refusal k e)) (refusal-cases k e)
-
-  pub written-stands : (n : ℕ) → replied input out .answer ≡ value n → Stands input out n (replied input out .out)
-  unfolding Cases
-  written-stands = all-cases (answerTo input) refl .0
-
-  pub refused-stays : (k : ℕ) → replied input out .answer ≡ refusal k → replied input out .out ≡ out
-  unfolding Cases
-  refused-stays = all-cases (answerTo input) refl .1
-
-  pub no-room-when : (replied input out .answer ≡ refusal 13) ↔ ((answerTo input ≡ refusal 13) ⊎ TooLong input out)
-  unfolding Cases
-  no-room-when = (
-    all-cases (answerTo input) refl .2,
-    λ x. elim x [ inl e ↦ refusal-told 13 e | inr t ↦ long-refused t ],
-  )
+pub reply-told :
+    (input out after : List ℕ) (z : ℤ) → Replies (replied input out) z after → ReplyTold (replied input out) z
+reply-told input out after z r = reply-by (replied input out .answer) z (replied-known input out) (r .number)
 
 -- A literal's number and the count of terms then.
 module _ (s : Store) (v : ℤ) where
@@ -189,3 +119,20 @@ module _ (s : Store) (v : ℤ) where
   pub literal-stays : (k : ℕ) → addLiteral s v .0 ≡ terms.refused k → addLiteral s v .1 ≡ s
   unfolding After addLiteral
   literal-stays = adding-after (literalFaults s) .1
+
+  TermKnown : terms.Answer ℕ × Store → Type 0
+  TermKnown x = (z : ℤ) → z ≡ codedTerm (x .0) → AddTold (x .0) z
+
+  added-known : (x : Adds) → TermKnown (added s x)
+  unfolding TermKnown added
+  added-known (at i t) = λ z e. inl (i, (e, refl))
+  added-known noRoom = λ z e. inr (NoRoom, (e, refl))
+
+  adding-known : (f : Faults) → TermKnown (adding s (literal v) f)
+  unfolding TermKnown adding
+  adding-known fine = added-known (add s (literal v))
+  adding-known (fault r) = λ z e. inr (r, (e, refl))
+
+  pub add-told : (z : ℤ) (rs : List ℕ) (ls : List ℤ) → Wanted (addLiteral s v) z rs ls → AddTold (addLiteral s v .0) z
+  unfolding TermKnown addLiteral
+  add-told z rs ls h = adding-known (literalFaults s) z (h .number)

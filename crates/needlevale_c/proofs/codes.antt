@@ -1,4 +1,3 @@
 -- The laws of `codes`.
 pub mod BelowLaws
 pub mod CodeLaws
-pub mod Promises

@@ -1,4 +1,4 @@
 -- The definitions of the crate `needlevale_c`.
-pub mod Codes
+pub mod Below
 pub mod Coded
 pub mod Promises

@@ -1,6 +1,6 @@
 // A refusal as one number below zero, for callers that get one number back.
 ghost use mathlib.Core.Path.{_≡_};
-ghost use Rattle.needlevale_c.specs.Codes.Below.{belowZero};
+ghost use Rattle.needlevale_c.specs.Below.{belowZero};
 use refusal::Refusal;
 
 // Document 01's number of a refusal, below zero.

@@ -11,13 +11,12 @@ use Rattle.refusal.specs.declared.Refusal.{Refusal}
 use Rattle.refusal.specs.Numbers.{refusalNo}
 use Rattle.bits.specs.Got.{Got, got, refused as fault}
 use Rattle.answer_rules.specs.Answers.{Answer, value, refusal}
-use Rattle.program_rules.specs.Query.{Query, queryAt}
+use Rattle.program_rules.specs.Query.{Query, asked, queryAt}
 use Rattle.program_rules.proofs.queries.QueryLaws.{query-long}
-use Rattle.program_rules.specs.Reply.{emptyStore, emptyLending, callOf, answerTo, inRoom, putIn, replied, Replied}
+use Rattle.program_rules.specs.Reply.{bestCall, variantsCall, callOf, answerTo, inRoom, putIn, replied}
 use Rattle.program_rules.specs.Seen.{seen}
 use Rattle.program_rules.specs.declared.replies.Answered.{Answered}
 use Rattle.program_rules.specs.declared.replies.Answered.the-variants.{Written, Refused}
-use Rattle.program.specs.Calls.{asked, bestTold, bestCall, variantsTold, variantsCall}
 use Rattle.program.proofs.CallLaws.{refusal-stays}
 
 module _ (input out : List ℕ) where
@@ -60,12 +59,12 @@ module _ (m s v n : ℕ) (file out : List ℕ) (r : Answered) (after : List ℕ)
       eqb m 1 ≡ false →
       seen r after ≡ putIn (inRoom (length out) (bestCall (eqb m 2) file s v)) out →
       seen r after ≡ putIn (inRoom (length out) (callOf (asked m s v n) file)) out
-  unfolding callOf bestCall bestTold
+  unfolding callOf
   best-by-mode b h = h ∙ ap (λ (x : Answer (List ℕ)). putIn (inRoom (length out) x) out) (sym (rw (b, callOf) refl))
 
   pub variants-by-mode :
       eqb m 1 ≡ true →
       seen r after ≡ putIn (inRoom (length out) (variantsCall file s v n)) out →
       seen r after ≡ putIn (inRoom (length out) (callOf (asked m s v n) file)) out
-  unfolding callOf variantsCall variantsTold
+  unfolding callOf
   variants-by-mode b h = h ∙ ap (λ (x : Answer (List ℕ)). putIn (inRoom (length out) x) out) (sym (rw (b, callOf) refl))

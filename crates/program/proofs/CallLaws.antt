@@ -11,12 +11,11 @@ use Rattle.term_rules.specs.Lent.{Store, store}
 use Rattle.term_rules.specs.WellFormed.{wellFormed}
 use Rattle.answer_rules.specs.Answers.{Answer, value, refusal, After, found, refused}
 use Rattle.answer_rules.specs.Best.{BestTerm, bestTerm, bestAt}
-use Rattle.program_rules.specs.Reply.{emptyStore, bestReply, bestAnswer, inRoom, putIn, Replied}
+use Rattle.program_rules.specs.Reply.{emptyStore, bestReply, bestAnswer, bestTold, bestCall, inRoom, putIn}
 use Rattle.program_rules.specs.Seen.{seen}
 use Rattle.program_rules.specs.declared.replies.Answered.{Answered}
 use Rattle.program_rules.specs.declared.replies.Answered.the-variants.{Written, Refused}
 use Rattle.extract.proofs.WayLaws.{value-returned}
-use Rattle.program.specs.Calls.{bestTold, bestCall}
 
 -- the store that the program starts with
 abbrev pub start : Store

@@ -3,3 +3,5 @@ pub mod CallLaws
 pub mod VariantLaws
 pub mod AnswerLaws
 pub mod RespondLaws
+pub mod PromiseLaws
+pub mod Promises

@@ -7,18 +7,21 @@ use native.Mathlib.Omega.{arith}
 use lib.Dec.{leb}
 use lib.ListN.{length, take, drop, length-append, length-drop, take-append-drop}
 use lib.Seq.{length-take-le, take-at, drop-append-le}
-use borrow.Author.Tests.{le-leb, lt-leb, leb-true}
+use borrow.Author.Tests.{leb-true}
 use Rattle.refusal.specs.declared.Refusal.{Refusal}
+use Rattle.refusal.specs.declared.Refusal.the-variants.{NoRoom}
 use Rattle.refusal.specs.Numbers.{refusalNo}
+use Rattle.refusal.specs.Answer.{refuse}
 use Rattle.decimal.specs.Written.{Wrote}
 use Rattle.answer_rules.specs.Answers.{Answer, value, refusal}
 use Rattle.program_rules.specs.Lines.{refusedLine}
 use Rattle.program_rules.specs.Step.{Step}
 use Rattle.program_rules.proofs.headlines.StepLaws.{step-whole}
-use Rattle.program_rules.specs.Reply.{answerTo, inRoom, putIn, replied, written, reply, Replied}
+use Rattle.program_rules.proofs.replies.RoomLaws.{fits, no-room}
+use Rattle.program_rules.specs.Reply.{answerTo, inRoom, putIn, replied, written, reply, responded, Replied}
 use Rattle.program_rules.specs.Seen.{seen}
+use Rattle.program_rules.specs.declared.replies.Answered.{Answered}
 use Rattle.program_rules.specs.declared.replies.Answered.the-variants.{Written, Refused}
-use Rattle.program.specs.Calls.{Nothing, RespondsBy, Responds}
 
 isValue : Answer ℕ → ℕ
 isValue (value n) = 1
@@ -84,7 +87,7 @@ in-room-fits n (value t) text e = by (leb (length t) n) refl e
     by :
         (b : Bool) →
         leb (length t) n ≡ b →
-        _≡_ {A = Answer (List ℕ)} (elim b [ true ↦ value t | false ↦ refusal 13 ]) (value text) →
+        _≡_ {A = Answer (List ℕ)} (elim b [ true ↦ value t | false ↦ refuse NoRoom ]) (value text) →
         length text ≤ n
     by true l h = subst (λ (x : List ℕ). length x ≤ n) (ap textIn h) (leb-true (length t) n l)
     by false l h =
@@ -142,24 +145,59 @@ module _ (input out : List ℕ) (room : ℕ) (er : room ≡ 16384) (l : room ≤
       (subst (λ (x : List ℕ). Step (refusedLine (refusalNo r)) 0 z x o₂) back s) in
       subst (λ (x : List ℕ). Wrote x z out o₂) (sym same) (record { long = q .0; bytes = q .1 })
 
--- By whether there is room at all.
-pub with-room :
-    (input before after : List ℕ) (r : ℕ) →
-    16384 ≤ length before →
-    Wrote (reply input) r before after →
-    Responds input r before after
-with-room input before after r l w = rw (le-leb 16384 (length before) l) w
-
-pub without-room : (input before : List ℕ) → length before < 16384 → Responds input 0 before before
-without-room input before l = rw (lt-leb 16384 (length before) l) (record { none = refl; stays = refl })
-
--- What was written is part of the buffer.
+-- What was written is part of the buffer ..
 pub wrote-inside :
-    (text before after : List ℕ) (r : ℕ) →
-    Wrote text r before after →
-    (r ≤ length after) × (r ≡ length (take r after))
+    (text before after : List ℕ) (r : ℕ) → Wrote text r before after → (r ≤ length after) × (length text ≤ length after)
 wrote-inside text before after r w =
     let long : length after ≡ length text + length (drop (length text) before) =
     ap length (w .bytes) ∙ length-append text (drop (length text) before) in
-    let l : r ≤ length after = omega (arith, long, w .long) in
-    (l, sym (length-take-le r after l))
+    (omega (arith, long, w .long), omega (arith, long))
+
+-- .. and stands at its front.
+pub wrote-front : (text before after : List ℕ) (r : ℕ) → Wrote text r before after → take r after ≡ text
+wrote-front text before after r w = rw (w .bytes) (take-at text (drop (length text) before) r (sym (w .long)))
+
+-- What the program writes, in a buffer that has room for it ..
+pub responds :
+    (input before after : List ℕ) (r : ℕ) →
+    Wrote (reply input) r before after →
+    length after ≡ length before →
+    seen (Written r) after ≡ responded input before
+unfolding responded
+responds input before after r w e =
+    fits (reply input) before after r
+    (subst (λ (n : ℕ). length (reply input) ≤ n) e (wrote-inside (reply input) before after r w .1)) (w .long) (w .bytes)
+
+-- .. as a piece of text at its start ..
+pub responds-piece :
+    (input before after piece : List ℕ) (r : ℕ) →
+    piece ≡ reply input →
+    Step piece 0 r before after →
+    length after ≡ length before →
+    seen (Written r) after ≡ responded input before
+responds-piece input before after piece r e s same =
+    let q = step-whole before (reply input) after r (subst (λ (x : List ℕ). Step x 0 r before after) e s) in
+    responds input before after r (record { long = q .0; bytes = q .1 }) same
+
+-- .. and in one that has not.
+pub responds-not :
+    (input before : List ℕ) (n : ℕ) →
+    n ≡ length (reply input) →
+    length before < n →
+    seen (Refused NoRoom) before ≡ responded input before
+unfolding responded
+responds-not input before n e l = no-room (reply input) before (subst (λ (x : ℕ). length before < x) e l)
+
+-- What is told to be written is part of the buffer.
+pub response-inside :
+    (input before after : List ℕ) (r : Answered) (k : ℕ) →
+    seen r after ≡ responded input before →
+    r ≡ Written k →
+    k ≤ length after
+unfolding responded
+response-inside input before after r k e is =
+    let w = when-written before (inRoom (length before) (value (reply input))) k after
+    (subst (λ (x : Answered). seen x after ≡ putIn (inRoom (length before) (value (reply input))) before) is e) in
+    let long : length after ≡ length (w .text) + length (drop (length (w .text)) before) =
+    ap length (w .bytes) ∙ length-append (w .text) (drop (length (w .text)) before) in
+    omega (arith, long, w .long)

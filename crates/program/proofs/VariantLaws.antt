@@ -13,12 +13,20 @@ use Rattle.answer_rules.specs.Variants.{Kept, VariantsAfter, Lending, variantsA
 use Rattle.program.specs.Replies.{Within}
 use Rattle.extract.specs.Returned.{Returned}
 use Rattle.extract.proofs.VariantFacts.CallLaws.{variants-returned}
-use Rattle.program.specs.VariantsReply.Text.{variantsText}
-use Rattle.program_rules.specs.Reply.{emptyStore, emptyLending, variantsReply, variantsAnswer, inRoom, putIn}
+use Rattle.program_rules.specs.Reply.{
+  emptyStore,
+  emptyLending,
+  variantsText,
+  variantsReply,
+  variantsAnswer,
+  variantsTold,
+  variantsCall,
+  inRoom,
+  putIn,
+}
 use Rattle.program_rules.specs.Seen.{seen}
 use Rattle.program_rules.specs.declared.replies.Answered.{Answered}
 use Rattle.program_rules.specs.declared.replies.Answered.the-variants.{Refused}
-use Rattle.program.specs.Calls.{variantsTold, variantsCall}
 use Rattle.program.proofs.CallLaws.{start, refusal-stays}
 
 -- the store and the lists that the program starts with

@@ -2,4 +2,4 @@
 pub mod Replies
 pub mod BestReply
 pub mod VariantsReply
-pub mod Calls
+pub mod Promises

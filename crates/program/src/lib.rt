@@ -1,15 +1,17 @@
 // The program as a function: from its whole input and a lent buffer to the length of its answer, or a refusal.
 ghost use mathlib.Core.Path.{_≡_};
 ghost use Prim.Native.Nat.{_≤_};
-ghost use lib.ListN.{length, take};
-ghost use Rattle.program_rules.specs.Reply.{callOf, replied, inRoom, putIn};
+ghost use lib.ListN.{length};
+ghost use Rattle.decimal.specs.Written.{Wrote};
+ghost use Rattle.program_rules.specs.Query.{asked};
+ghost use Rattle.program_rules.specs.Reply.{bestCall, variantsCall, callOf, reply, replied, responded, inRoom, putIn};
 ghost use Rattle.program_rules.specs.Seen.{seen};
-ghost use Rattle.program.specs.Calls.{asked, bestCall, variantsCall, Responds};
 use best_root::BestAnswer;
 use program_rules::headlines;
 use program_rules::queries;
 use program_rules::queries::Asked;
 use program_rules::replies::Answered;
+use refusal::Refusal;
 use variants_root::VariantsAnswer;
 
 pub mod variant_lines; // variant_lines.rt: the answers of variants, one after the other: their length, and their bytes
@@ -123,16 +125,11 @@ pub fn answer(input: &[u8], out: &mut [u8]) -> Answered
     }
 }
 
-// What the program writes, at the start of a buffer of at least 16,384 bytes: the text, or `refused K`. A shorter
-// buffer is left as it is.
-pub fn respond(input: &[u8], out: &mut [u8]) -> usize
-    ensures { λ r. ⌜ Responds (now (input .entry)) r (now (out .entry)) (now (out .exit)) ⌝ }
-    ensures { λ r. ⌜ r ≤ length (now (out .exit)) ⌝ }
-    ensures { λ r. ⌜ r ≡ length (take r (now (out .exit))) ⌝ }
+// What the program writes, at the start of a buffer of at least 16,384 bytes: the text, or `refused K`.
+fn write(input: &[u8], out: &mut [u8]) -> usize
+    requires { ⌜ 16384 ≤ length (now out) ⌝ }
+    ensures { λ r. ⌜ Wrote (reply (now (input .entry))) r (now (out .entry)) (now (out .exit)) ⌝ }
 {
-    if out.len() < 16384 {
-        return 0;
-    }
     let answered = answer(input, &mut out[..16384]);
     match answered {
         Answered::Written(n) => n,
@@ -141,4 +138,22 @@ pub fn respond(input: &[u8], out: &mut [u8]) -> usize
             headlines::put_refused(out, k)
         }
     }
+}
+
+// What the program writes, at the start of `out`: NoRoom where that is longer, and then nothing changes. A buffer below
+// 16,384 bytes gets it from one of the call's own.
+pub fn respond(input: &[u8], out: &mut [u8]) -> Answered
+    ensures { λ r. ⌜ seen r (now (out .exit)) ≡ responded (now (input .entry)) (now (out .entry)) ⌝ }
+{
+    if 16384 <= out.len() {
+        let n = write(input, out);
+        return Answered::Written(n);
+    }
+    let mut own = [0u8; 16384];
+    let n = write(input, &mut own);
+    if out.len() < n {
+        return Answered::Refused(Refusal::NoRoom);
+    }
+    let k = headlines::put_word(out, 0, &own[..n]);
+    Answered::Written(k)
 }

@@ -1,3 +1,3 @@
 -- The laws of `replies`.
-pub mod Cases
 pub mod RoomLaws
+pub mod KnownLaws

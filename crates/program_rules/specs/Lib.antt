@@ -5,5 +5,4 @@ pub mod Lines
 pub mod Step
 pub mod Reply
 pub mod Seen
-pub mod Cases
 pub mod Promises

@@ -15,6 +15,9 @@ pub record Query : Type 0 where
   pub value : ℕ
   pub most : ℕ
 
+abbrev pub asked : ℕ → ℕ → ℕ → ℕ → Query
+asked mode sort value most = record { mode = mode; sort = sort; value = value; most = most }
+
 -- "mode 2 bits .., sort 5, value 9, n 8; then the table file": each checked as it is read, BadMode at mode 3. The
 -- four fields are three bytes, so the file starts at the fourth.
 unfoldable pub queryAt : List ℕ → Got Query
@@ -24,4 +27,4 @@ queryAt input =
     (then (field input a 5) (λ sort b.
     then (field input b 9) (λ value c.
     then (field input c 8) (λ most d.
-    got (record { mode = mode; sort = sort; value = value; most = most }) d)))))
+    got (asked mode sort value most) d)))))

@@ -5,7 +5,8 @@ use Prim.Native.Nat.{ℕ, suc}
 use lib.Dec.{eqb, leb}
 use lib.IntN.{ℤ, pos}
 use lib.ListN.{length, getD, drop, take, replicate}
-use Rattle.refusal.specs.Numbers.{refusalNo}
+use Rattle.refusal.specs.Answer.{refuse}
+use Rattle.refusal.specs.declared.Refusal.the-variants.{NoRoom}
 use Rattle.bits.specs.Got.{Got, got, refused as fault}
 use Rattle.program_rules.specs.Lines.{bestLine, variantsLine, variantLine, refusedLine}
 use Rattle.term_rules.specs.Lent.{Store, store}
@@ -49,10 +50,11 @@ variantReplies s i (w ∷ ws) [] = []
 variantReplies s i (w ∷ ws) (t ∷ ts) = variantReply s i w t ++ variantReplies s (suc i) ws ts
 
 -- "`variants K P`, then K times .."
+unfoldable pub variantsText : Store → List ℕ → List ℕ → ℕ → ℕ → List ℕ
+variantsText s costs terms k p = variantsLine k p ++ variantReplies s 1 (take k costs) (take k terms)
+
 unfoldable pub variantsReply : VariantsAfter → Kept → List ℕ
-variantsReply a k =
-    variantsLine (k .count) (k .passes)
-    ++ variantReplies (a .store) 1 (take (k .count) (a .costs)) (take (k .count) (a .terms))
+variantsReply a k = variantsText (a .store) (a .costs) (a .terms) (k .count) (k .passes)
 
 unfoldable pub bestAnswer : Bool → Store → Answer BestTerm → Answer (List ℕ)
 bestAnswer plain s (value b) = value (bestReply plain s b)
@@ -62,14 +64,25 @@ unfoldable pub variantsAnswer : VariantsAfter → Answer Kept → Answer (List �
 variantsAnswer a (value k) = value (variantsReply a k)
 variantsAnswer a (refusal k) = refusal k
 
--- What a query on a file is answered: a text or a refusal.
+-- The two calls that a query can make, on a store that starts empty: a text or a refusal.
+unfoldable pub bestTold : Bool → After BestTerm → Answer (List ℕ)
+bestTold plain a = bestAnswer plain (a .store) (a .answer)
+
+unfoldable pub bestCall : Bool → List ℕ → ℕ → ℕ → Answer (List ℕ)
+bestCall plain file sort v = bestTold plain (bestAt file sort v emptyStore)
+
+unfoldable pub variantsTold : VariantsAfter → Answer (List ℕ)
+variantsTold a = variantsAnswer a (a .answer)
+
+unfoldable pub variantsCall : List ℕ → ℕ → ℕ → ℕ → Answer (List ℕ)
+variantsCall file sort v most = variantsTold (variantsAt file sort v most emptyLending)
+
+-- "0 best with let text, 1 variants, 2 best with plain text"
 unfoldable pub callOf : Query → List ℕ → Answer (List ℕ)
 callOf q file =
     elim (eqb (q .mode) 1) [
-      | true ↦
-          (let a = variantsAt file (q .sort) (q .value) (q .most) emptyLending in variantsAnswer a (a .answer))
-      | false ↦
-          (let a = bestAt file (q .sort) (q .value) emptyStore in bestAnswer (eqb (q .mode) 2) (a .store) (a .answer))
+      | true ↦ variantsCall file (q .sort) (q .value) (q .most)
+      | false ↦ bestCall (eqb (q .mode) 2) file (q .sort) (q .value)
     ]
 
 -- "The program reads its query fields first, in order, each checked as it is read (1, or 16 at the mode), then makes
@@ -77,13 +90,13 @@ callOf q file =
 unfoldable pub answerTo : List ℕ → Answer (List ℕ)
 answerTo input =
     elim (queryAt input) [
-      | fault r ↦ refusal (refusalNo r)
+      | fault r ↦ refuse r
       | got q p ↦ callOf q (drop 3 input)
     ]
 
 -- "Output in at most .. bytes, else NoRoom": a text where there is room for n bytes.
 unfoldable pub inRoom : ℕ → Answer (List ℕ) → Answer (List ℕ)
-inRoom n (value text) = elim (leb (length text) n) [ true ↦ value text | false ↦ refusal 13 ]
+inRoom n (value text) = elim (leb (length text) n) [ true ↦ value text | false ↦ refuse NoRoom ]
 inRoom n (refusal k) = refusal k
 
 -- What is written: the text, or "`refused K`".
@@ -108,3 +121,7 @@ putIn (refusal k) out = record { answer = refusal k; out = out }
 -- The answer to an input in a lent buffer: NoRoom exactly where the text is longer than the buffer.
 unfoldable pub replied : List ℕ → List ℕ → Replied
 replied input out = putIn (inRoom (length out) (answerTo input)) out
+
+-- What the program writes, in a lent buffer: NoRoom exactly where that is longer than the buffer.
+unfoldable pub responded : List ℕ → List ℕ → Replied
+responded input out = putIn (inRoom (length out) (value (reply input))) out

@@ -1,2 +1,3 @@
 -- The definitions of the crate `refusal`.
 pub mod Numbers
+pub mod Answer

@@ -4,6 +4,7 @@
 ghost use Prim.Native.Nat.{_≤_, _<_};
 use libc::STDIN_FILENO;
 use libc::STDOUT_FILENO;
+use program_rules::replies::Answered;
 
 fn wide(x: u8) -> usize
     ensures { λ r. ⌜ r ≤ 255 ⌝ }
@@ -45,11 +46,17 @@ fn answer_item(input: &[u8], n: usize) -> bool {
         return false;
     }
     let mut out = [0u8; 16384];
-    let k = program::respond(&input[..n], &mut out);
-    if !write_length(k) {
-        return false;
+    let answered = program::respond(&input[..n], &mut out);
+    match answered {
+        Answered::Written(k) => {
+            if !write_length(k) {
+                return false;
+            }
+            io::write_all(STDOUT_FILENO, &out[..k])
+        }
+        // None: the buffer has room for every output.
+        Answered::Refused(_) => false,
     }
-    io::write_all(STDOUT_FILENO, &out[..k])
 }
 
 // Answers the next item; whether there was one.

@@ -1,4 +1,5 @@
--- The edges of document 01 and its worked example, computed. Assumes nothing.
+-- Let texts at which a slip of document 01 would show, computed; its (P) cases are in cases/specs/Cases.antt. Assumes
+-- nothing.
 use Prim.Native.Nat.{ℕ}
 use mathlib.Core.Path.{_≡_, refl}
 use mathlib.Core.Bool.{true, false}
@@ -53,90 +54,7 @@ t = record { prefix = []; hint = 116 ∷ []; start = 0; bareZero = false }
 bare : Naming
 bare = record { prefix = 112 ∷ []; hint = 116 ∷ []; start = 0; bareZero = true }
 
--- document 01's worked example
-worked-terms : List Node
-worked-terms =
-    literal (pos 5) ∷ application (78 ∷ 117 ∷ 109 ∷ []) (0 ∷ []) ∷
-    application (65 ∷ 100 ∷ 100 ∷ []) (1 ∷ 1 ∷ []) ∷ application (65 ∷ 100 ∷ 100 ∷ []) (2 ∷ 2 ∷ []) ∷ []
-
-worked : letLayout (term worked-terms) t 3 ≡
-    40 ∷ 108 ∷ 101 ∷ 116 ∷ 32 ∷ 116 ∷ 48 ∷ 32 ∷ 40 ∷ 65 ∷ 100 ∷ 100 ∷ 32 ∷ 40 ∷ 78 ∷ 117 ∷ 109 ∷ 32 ∷
-    53 ∷ 41 ∷ 32 ∷ 40 ∷ 78 ∷ 117 ∷ 109 ∷ 32 ∷ 53 ∷ 41 ∷ 41 ∷ 41 ∷ 10 ∷ 10 ∷ 40 ∷ 65 ∷ 100 ∷ 100 ∷ 32 ∷
-    116 ∷ 48 ∷ 32 ∷ 116 ∷ 48 ∷ 41 ∷ []
-unfolding worked-terms term t letLayout bindingsOf textWith letLines letLine bodyGap own ownIn breaks newLine
-    anySeveral several called calledAt letName countText bindings meetIn bind toBind find size sizeIn sumOf count
-    placesIn places reached reachIn member inTurn line lineIn childText shown form each digits digitsIn literalText
-worked = refl
-
--- F of three variables of 31, 31 and 12 bytes: 80 characters, one line
-width-80-terms : List Node
-width-80-terms =
-    variable (97 ∷ 97 ∷ 97 ∷ 97 ∷ 97 ∷ 97 ∷ 97 ∷ 97 ∷ 97 ∷ 97 ∷ 97 ∷ 97 ∷ 97 ∷ 97 ∷ 97 ∷ 97 ∷ 97 ∷ 97 ∷ 97 ∷ 97 ∷ 97 ∷
-    97 ∷ 97 ∷ 97 ∷ 97 ∷ 97 ∷ 97 ∷ 97 ∷ 97 ∷ 97 ∷ 97 ∷ []) ∷
-    variable (98 ∷ 98 ∷ 98 ∷ 98 ∷ 98 ∷ 98 ∷ 98 ∷ 98 ∷ 98 ∷ 98 ∷ 98 ∷ 98 ∷ 98 ∷ 98 ∷ 98 ∷ 98 ∷ 98 ∷ 98 ∷ 98 ∷ 98 ∷ 98 ∷
-    98 ∷ 98 ∷ 98 ∷ 98 ∷ 98 ∷ 98 ∷ 98 ∷ 98 ∷ 98 ∷ 98 ∷ []) ∷
-    variable (99 ∷ 99 ∷ 99 ∷ 99 ∷ 99 ∷ 99 ∷ 99 ∷ 99 ∷ 99 ∷ 99 ∷ 99 ∷ 99 ∷ []) ∷
-    application (70 ∷ []) (0 ∷ 1 ∷ 2 ∷ []) ∷ []
-
-width-80 : letLayout (term width-80-terms) t 3 ≡
-    10 ∷ 40 ∷ 70 ∷ 32 ∷ 97 ∷ 97 ∷ 97 ∷ 97 ∷ 97 ∷ 97 ∷ 97 ∷ 97 ∷ 97 ∷ 97 ∷ 97 ∷ 97 ∷ 97 ∷ 97 ∷ 97 ∷ 97 ∷
-    97 ∷ 97 ∷ 97 ∷ 97 ∷ 97 ∷ 97 ∷ 97 ∷ 97 ∷ 97 ∷ 97 ∷ 97 ∷ 97 ∷ 97 ∷ 97 ∷ 97 ∷ 32 ∷ 98 ∷ 98 ∷ 98 ∷ 98 ∷
-    98 ∷ 98 ∷ 98 ∷ 98 ∷ 98 ∷ 98 ∷ 98 ∷ 98 ∷ 98 ∷ 98 ∷ 98 ∷ 98 ∷ 98 ∷ 98 ∷ 98 ∷ 98 ∷ 98 ∷ 98 ∷ 98 ∷ 98 ∷
-    98 ∷ 98 ∷ 98 ∷ 98 ∷ 98 ∷ 98 ∷ 98 ∷ 32 ∷ 99 ∷ 99 ∷ 99 ∷ 99 ∷ 99 ∷ 99 ∷ 99 ∷ 99 ∷ 99 ∷ 99 ∷ 99 ∷ 99 ∷
-    41 ∷ []
-unfolding width-80-terms term t letLayout bindingsOf textWith letLines letLine bodyGap own ownIn breaks newLine
-    anySeveral several called calledAt letName countText bindings meetIn bind toBind find size sizeIn sumOf count
-    placesIn places reached reachIn member inTurn line lineIn childText shown form each digits digitsIn literalText
-width-80 = refl
-
--- 31, 31, 13: broken
-width-81-terms : List Node
-width-81-terms =
-    variable (97 ∷ 97 ∷ 97 ∷ 97 ∷ 97 ∷ 97 ∷ 97 ∷ 97 ∷ 97 ∷ 97 ∷ 97 ∷ 97 ∷ 97 ∷ 97 ∷ 97 ∷ 97 ∷ 97 ∷ 97 ∷ 97 ∷ 97 ∷ 97 ∷
-    97 ∷ 97 ∷ 97 ∷ 97 ∷ 97 ∷ 97 ∷ 97 ∷ 97 ∷ 97 ∷ 97 ∷ []) ∷
-    variable (98 ∷ 98 ∷ 98 ∷ 98 ∷ 98 ∷ 98 ∷ 98 ∷ 98 ∷ 98 ∷ 98 ∷ 98 ∷ 98 ∷ 98 ∷ 98 ∷ 98 ∷ 98 ∷ 98 ∷ 98 ∷ 98 ∷ 98 ∷ 98 ∷
-    98 ∷ 98 ∷ 98 ∷ 98 ∷ 98 ∷ 98 ∷ 98 ∷ 98 ∷ 98 ∷ 98 ∷ []) ∷
-    variable (99 ∷ 99 ∷ 99 ∷ 99 ∷ 99 ∷ 99 ∷ 99 ∷ 99 ∷ 99 ∷ 99 ∷ 99 ∷ 99 ∷ 99 ∷ []) ∷
-    application (70 ∷ []) (0 ∷ 1 ∷ 2 ∷ []) ∷ []
-
-width-81 : letLayout (term width-81-terms) t 3 ≡
-    10 ∷ 40 ∷ 70 ∷ 10 ∷ 32 ∷ 32 ∷ 97 ∷ 97 ∷ 97 ∷ 97 ∷ 97 ∷ 97 ∷ 97 ∷ 97 ∷ 97 ∷ 97 ∷ 97 ∷ 97 ∷ 97 ∷ 97 ∷
-    97 ∷ 97 ∷ 97 ∷ 97 ∷ 97 ∷ 97 ∷ 97 ∷ 97 ∷ 97 ∷ 97 ∷ 97 ∷ 97 ∷ 97 ∷ 97 ∷ 97 ∷ 97 ∷ 97 ∷ 10 ∷ 32 ∷ 32 ∷
-    98 ∷ 98 ∷ 98 ∷ 98 ∷ 98 ∷ 98 ∷ 98 ∷ 98 ∷ 98 ∷ 98 ∷ 98 ∷ 98 ∷ 98 ∷ 98 ∷ 98 ∷ 98 ∷ 98 ∷ 98 ∷ 98 ∷ 98 ∷
-    98 ∷ 98 ∷ 98 ∷ 98 ∷ 98 ∷ 98 ∷ 98 ∷ 98 ∷ 98 ∷ 98 ∷ 98 ∷ 10 ∷ 32 ∷ 32 ∷ 99 ∷ 99 ∷ 99 ∷ 99 ∷ 99 ∷ 99 ∷
-    99 ∷ 99 ∷ 99 ∷ 99 ∷ 99 ∷ 99 ∷ 99 ∷ 41 ∷ []
-unfolding width-81-terms term t letLayout bindingsOf textWith letLines letLine bodyGap own ownIn breaks newLine
-    anySeveral several called calledAt letName countText bindings meetIn bind toBind find size sizeIn sumOf count
-    placesIn places reached reachIn member inTurn line lineIn childText shown form each digits digitsIn literalText
-width-81 = refl
-
--- a shared term of size 3: no binding
-size-3-terms : List Node
-size-3-terms =
-    variable (120 ∷ []) ∷ application (70 ∷ []) (0 ∷ 0 ∷ []) ∷ application (71 ∷ []) (1 ∷ 1 ∷ []) ∷ []
-
-size-3 : letLayout (term size-3-terms) t 2 ≡
-    10 ∷ 40 ∷ 71 ∷ 32 ∷ 40 ∷ 70 ∷ 32 ∷ 120 ∷ 32 ∷ 120 ∷ 41 ∷ 32 ∷ 40 ∷ 70 ∷ 32 ∷ 120 ∷ 32 ∷ 120 ∷ 41 ∷
-    41 ∷ []
-unfolding size-3-terms term t letLayout bindingsOf textWith letLines letLine bodyGap own ownIn breaks newLine
-    anySeveral several called calledAt letName countText bindings meetIn bind toBind find size sizeIn sumOf count
-    placesIn places reached reachIn member inTurn line lineIn childText shown form each digits digitsIn literalText
-size-3 = refl
-
--- size 4: bound
-size-4-terms : List Node
-size-4-terms =
-    variable (120 ∷ []) ∷ application (70 ∷ []) (0 ∷ 0 ∷ 0 ∷ []) ∷ application (71 ∷ []) (1 ∷ 1 ∷ []) ∷ []
-
-size-4 : letLayout (term size-4-terms) t 2 ≡
-    40 ∷ 108 ∷ 101 ∷ 116 ∷ 32 ∷ 116 ∷ 48 ∷ 32 ∷ 40 ∷ 70 ∷ 32 ∷ 120 ∷ 32 ∷ 120 ∷ 32 ∷ 120 ∷ 41 ∷ 41 ∷
-    10 ∷ 10 ∷ 40 ∷ 71 ∷ 32 ∷ 116 ∷ 48 ∷ 32 ∷ 116 ∷ 48 ∷ 41 ∷ []
-unfolding size-4-terms term t letLayout bindingsOf textWith letLines letLine bodyGap own ownIn breaks newLine
-    anySeveral several called calledAt letName countText bindings meetIn bind toBind find size sizeIn sumOf count
-    placesIn places reached reachIn member inTurn line lineIn childText shown form each digits digitsIn literalText
-size-4 = refl
-
--- a broken binding: its term was met at indent 2, so its children stand at 2 + 2 + 2
+-- "Laying out a let body as if met at indent 2": its term was met at indent 2, so its children stand at 2 + 2 + 2
 broken-body-terms : List Node
 broken-body-terms =
     variable (97 ∷ 97 ∷ 97 ∷ 97 ∷ 97 ∷ 97 ∷ 97 ∷ 97 ∷ 97 ∷ 97 ∷ 97 ∷ 97 ∷ 97 ∷ 97 ∷ 97 ∷ 97 ∷ 97 ∷ 97 ∷ 97 ∷ 97 ∷ 97 ∷
@@ -159,7 +77,7 @@ unfolding broken-body-terms term t letLayout bindingsOf textWith letLines letLin
     placesIn places reached reachIn member inTurn line lineIn childText shown form each digits digitsIn literalText
 broken-body = refl
 
--- a child of a shared term is not bound for being under it twice in the tree
+-- "Counting occurrences in the tree": a child of a shared term is not bound for being under it twice in the tree
 child-of-shared-terms : List Node
 child-of-shared-terms =
     variable (120 ∷ []) ∷ application (70 ∷ []) (0 ∷ 0 ∷ 0 ∷ []) ∷ application (72 ∷ []) (1 ∷ []) ∷

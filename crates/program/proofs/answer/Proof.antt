@@ -3,11 +3,10 @@ use Prim.Native.Nat.{ℕ, _-_}
 use mathlib.Core.Path.{_≡_, subst}
 use lib.ListN.{length, take, drop}
 use Rattle.bits.specs.Got.{got}
-use Rattle.program_rules.specs.Query.{queryAt}
+use Rattle.program_rules.specs.Query.{asked, queryAt}
 use Rattle.program_rules.specs.Asked.{gotQuery}
 use Rattle.program_rules.specs.declared.queries.Asked.{Asked}
 use Rattle.program_rules.specs.declared.queries.Asked.the-variants.{Query as Queried}
-use Rattle.program.specs.Calls.{asked}
 use Rattle.program.proofs.AnswerLaws.{query-refused, file-is, query-replied}
 use native.Mathlib.Omega.{arith}
 use borrow.Author.Needs.{needs}

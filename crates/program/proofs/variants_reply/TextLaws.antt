@@ -13,8 +13,8 @@ use Rattle.text_pieces.specs.Readable.{nodes}
 use Rattle.text.proofs.ToldLaws.{plain-text-nodes}
 use Rattle.program_rules.specs.Lines.{variantsLine, variantLine}
 use Rattle.program.specs.Replies.{replyText, replyTexts}
-use Rattle.program_rules.specs.Reply.{variantReply, variantReplies}
-use Rattle.program.specs.VariantsReply.Text.{variantsText, linesText}
+use Rattle.program_rules.specs.Reply.{variantReply, variantReplies, variantsText}
+use Rattle.program.specs.VariantsReply.Text.{linesText}
 
 module _ (rs : List ℕ) (ls : List ℤ) (ns : List ℕ) (n m : ℕ) where
   one : (i c t : ℕ) → variantReply (store rs ls ns n m) i c t ≡ replyText (nodes rs ls ns) n i c t

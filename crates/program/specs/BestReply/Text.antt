@@ -3,6 +3,8 @@ use Prim.Native.Nat.{ℕ}
 use mathlib.Core.Bool.{Bool, true, false}
 use mathlib.Core.List.{List}
 use lib.ListN.{length}
+use Rattle.refusal.specs.Numbers.{refusalNo}
+use Rattle.refusal.specs.declared.Refusal.the-variants.{NoRoom}
 use Rattle.term_rules.specs.Lent.{Store}
 use Rattle.text_rules.specs.PlainText.{plainText}
 use Rattle.text_rules.specs.LetText.{letText}
@@ -14,10 +16,10 @@ unfoldable pub bestText : Bool → Store → ℕ → List ℕ
 bestText true s t = plainText s t
 bestText false s t = letText s letNaming t
 
--- The text in its place, or 13.
+-- The text in its place, or NoRoom.
 abbrev pub bestPlaced : Bool → Store → ℕ → List ℕ → Told Answer
 bestPlaced plain s t out =
-    placed (bestText plain s t) (written (length (bestText plain s t))) (refusal 13) out
+    placed (bestText plain s t) (written (length (bestText plain s t))) (refusal (refusalNo NoRoom)) out
 
 -- The answer for let text without the next unused count.
 abbrev pub uncounted : LetAnswer → Answer

@@ -14,15 +14,19 @@ use Rattle.program_rules.specs.Lines.{refusedLine}
 use Rattle.term_rules.specs.Lent.{Store}
 use Rattle.file_rules.specs.File.{tableAt}
 use Rattle.file_rules.proofs.Coding.ExtendLaws.{Ext, ext-same, ext-short, ext-then, ext-must, ext-got, ext-field}
-use Rattle.answer_rules.specs.Answers.{Answer, refusal, After, refused as refusedAfter}
-use Rattle.answer_rules.specs.Best.{BestTerm, bestAt}
-use Rattle.answer_rules.specs.Variants.{VariantsAfter, Lending, variantsRefused, variantsAt}
+use Rattle.answer_rules.specs.Answers.{Answer, refusal, refused as refusedAfter}
+use Rattle.answer_rules.specs.Best.{bestAt}
+use Rattle.answer_rules.specs.Variants.{Lending, variantsRefused, variantsAt}
 use Rattle.program_rules.specs.Query.{Query, queryAt}
 use Rattle.program_rules.specs.Reply.{
   emptyStore,
   emptyLending,
   bestAnswer,
+  bestTold,
+  bestCall,
   variantsAnswer,
+  variantsTold,
+  variantsCall,
   callOf,
   answerTo,
   inRoom,
@@ -58,22 +62,15 @@ same-of-ext w (ext-short e) = absurd (within-not-short (rw e at w))
 query-same : (s rest : List ℕ) → 3 ≤ length s → queryAt s ≡ queryAt (s ++ rest)
 query-same s rest h = same-of-ext (query-within s h) (query-ext s rest)
 
--- The answer by whether the mode is variants, from what the two calls give.
-abbrev chosen : Query → VariantsAfter → After BestTerm → Bool → Answer (List ℕ)
-chosen q v b variants =
+-- The answer by whether the mode is variants.
+abbrev chosen : Query → List ℕ → Bool → Answer (List ℕ)
+chosen q file variants =
     elim variants [
-      | true ↦ variantsAnswer v (v .answer)
-      | false ↦ bestAnswer (eqb (q .mode) 2) (b .store) (b .answer)
+      | true ↦ variantsCall file (q .sort) (q .value) (q .most)
+      | false ↦ bestCall (eqb (q .mode) 2) file (q .sort) (q .value)
     ]
 
-abbrev variantsCall : Query → List ℕ → VariantsAfter
-variantsCall q file = variantsAt file (q .sort) (q .value) (q .most) emptyLending
-
-abbrev bestCall : Query → List ℕ → After BestTerm
-bestCall q file = bestAt file (q .sort) (q .value) emptyStore
-
-call-chosen : (q : Query) (file : List ℕ)
-    → callOf q file ≡ chosen q (variantsCall q file) (bestCall q file) (eqb (q .mode) 1)
+call-chosen : (q : Query) (file : List ℕ) → callOf q file ≡ chosen q file (eqb (q .mode) 1)
 unfolding callOf
 call-chosen q file = refl
 
@@ -87,12 +84,13 @@ module _ (a b : List ℕ) (e : tableAt a ≡ tableAt b) where
   unfolding bestAt
   best-same root v s = rw (e, bestAt) refl
 
+  chosen-same : (q : Query) (variants : Bool) → chosen q a variants ≡ chosen q b variants
+  unfolding variantsCall bestCall
+  chosen-same q true = ap variantsTold (variants-same _ _ _ emptyLending)
+  chosen-same q false = ap (bestTold (eqb (q .mode) 2)) (best-same _ _ emptyStore)
+
   call-same : (q : Query) → callOf q a ≡ callOf q b
-  call-same q =
-      call-chosen q a
-      ∙ ap (λ (x : VariantsAfter). chosen q x (bestCall q a) (eqb (q .mode) 1)) (variants-same _ _ _ emptyLending)
-      ∙ ap (λ (x : After BestTerm). chosen q (variantsCall q b) x (eqb (q .mode) 1)) (best-same _ _ emptyStore)
-      ∙ sym (call-chosen q b)
+  call-same q = call-chosen q a ∙ chosen-same q (eqb (q .mode) 1) ∙ sym (call-chosen q b)
 
 -- A call on a file with a fault is refused with it.
 module _ (file : List ℕ) (x : Refusal) (e : tableAt file ≡ refused x) where
@@ -104,11 +102,10 @@ module _ (file : List ℕ) (x : Refusal) (e : tableAt file ≡ refused x) where
   unfolding bestAt
   best-refused root v s = rw (e, bestAt) refl
 
-  refused-by : (q : Query) (variants : Bool)
-      → chosen q (variantsCall q file) (bestCall q file) variants ≡ refusal (refusalNo x)
-  unfolding variantsAnswer bestAnswer
-  refused-by q true = rw (variants-refused (q .sort) (q .value) (q .most) emptyLending)
-  refused-by q false = rw (best-refused (q .sort) (q .value) emptyStore)
+  refused-by : (q : Query) (variants : Bool) → chosen q file variants ≡ refusal (refusalNo x)
+  unfolding variantsCall variantsTold variantsAnswer bestCall bestTold bestAnswer
+  refused-by q true = ap variantsTold (variants-refused (q .sort) (q .value) (q .most) emptyLending)
+  refused-by q false = ap (bestTold (eqb (q .mode) 2)) (best-refused (q .sort) (q .value) emptyStore)
 
   call-refused : (q : Query) → callOf q file ≡ refusal (refusalNo x)
   call-refused q = call-chosen q file ∙ refused-by q (eqb (q .mode) 1)

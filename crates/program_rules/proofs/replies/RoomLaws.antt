@@ -6,16 +6,17 @@ use lib.ListN.{length, drop}
 use borrow.Author.Tests.{le-leb, lt-leb}
 use Rattle.refusal.specs.declared.Refusal.{Refusal}
 use Rattle.refusal.specs.declared.Refusal.the-variants.{NoRoom}
-use Rattle.answer_rules.specs.Answers.{value, refusal}
+use Rattle.refusal.specs.Answer.{refuse}
+use Rattle.answer_rules.specs.Answers.{value}
 use Rattle.program_rules.specs.Reply.{inRoom, putIn}
 use Rattle.program_rules.specs.Seen.{seen}
 use Rattle.program_rules.specs.declared.replies.Answered.the-variants.{Written, Refused}
 
-in-room : (text : List ℕ) (n : ℕ) → length text ≤ n → inRoom n (value text) ≡ value text
+pub in-room : (text : List ℕ) (n : ℕ) → length text ≤ n → inRoom n (value text) ≡ value text
 unfolding inRoom
 in-room text n l = rw (le-leb _ _ l, inRoom) refl
 
-not-in-room : (text : List ℕ) (n : ℕ) → n < length text → inRoom n (value text) ≡ refusal 13
+pub not-in-room : (text : List ℕ) (n : ℕ) → n < length text → inRoom n (value text) ≡ refuse NoRoom
 unfolding inRoom
 not-in-room text n l = rw (lt-leb _ _ l, inRoom) refl
 

@@ -11,19 +11,19 @@ use borrow.Author.Tests.{le-leb, eq-eqb}
 use Rattle.bits.specs.Bits.{bitsOf}
 use Rattle.bits.specs.Got.{got, then, must}
 use Rattle.bits.proofs.BitsLaws.{bitsOf-length}
 use Rattle.file_rules.specs.Table.{Sort, Function, Row, Table}
 use Rattle.file_rules.specs.Every.{Every}
 use Rattle.file_rules.specs.Sorts.{kindsOf, classesOf}
 use Rattle.file_rules.specs.File.{versionAt, sortsPart, literalsPart, functionsPart, rowsPart, padBits, endAt, tableAt}
 use Rattle.file_rules.specs.Accepted.{Accepted, SortOk, FunctionOk, RowOk, Differ}
 use Rattle.file_rules.specs.Code.{code, codeMany, codeSort, codeLiteral, codeFunction, codeRow, codeTable, codeFile}
 use Rattle.file_rules.proofs.Coding.SpellLaws.{Spells}
 use Rattle.file_rules.proofs.Coding.FileSpell.{code-zero}
 use lib.Pow.{pow-pos}
-use Rattle.file.proofs.Encoding.BackLaws.{spells-left, spells-right, field-back}
-use Rattle.file.proofs.Encoding.SortsBack.{sorts-back, literals-back}
-use Rattle.file.proofs.Encoding.FunctionsBack.{functions-back}
-use Rattle.file.proofs.Encoding.RowsBack.{rows-back}
+use Rattle.file_rules.proofs.Encoding.BackLaws.{spells-left, spells-right, field-back}
+use Rattle.file_rules.proofs.Encoding.SortsBack.{sorts-back, literals-back}
+use Rattle.file_rules.proofs.Encoding.FunctionsBack.{functions-back}
+use Rattle.file_rules.proofs.Encoding.RowsBack.{rows-back}
 
 version-back : {s : List ℕ} {at q : ℕ} → Spells s at q (code 4 1) → versionAt s at ≡ got 1 q
 unfolding versionAt then must

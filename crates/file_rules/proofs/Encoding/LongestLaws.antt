@@ -28,11 +28,11 @@ use Rattle.file_rules.specs.Code.{
   codeRow,
   codeTable,
 }
 use Rattle.file_rules.proofs.Coding.SpellLaws.{code-length}
-use Rattle.file.specs.Bytes.{fileOf}
-use Rattle.file.specs.Longest.{longSorts, longName, longFunction, longFunctions, longRow, large, longest}
-use Rattle.file.proofs.Encoding.BackLaws.{codes-long}
-use Rattle.file.proofs.Encoding.BytesLaws.{fileOf-length}
+use Rattle.file_rules.specs.Bytes.{fileOf}
+use Rattle.file_rules.specs.Longest.{longSorts, longName, longFunction, longFunctions, longRow, large, longest}
+use Rattle.file_rules.proofs.Encoding.BackLaws.{codes-long}
+use Rattle.file_rules.proofs.Encoding.BytesLaws.{fileOf-length}
 
 every-replicate : {A : Type 0} {P : A → Type 0} (n : ℕ) (x : A) → P x → Every P (replicate n x)
 every-replicate zero x p = every-nil

@@ -9,15 +9,15 @@ use lib.ListN.{length, getD, length-append}
 use lib.Seq.{getD-append-seam}
 use borrow.Author.Tests.{lt-ltb}
 use Rattle.bits.specs.Got.{got, then, must, pick}
 use Rattle.file_rules.specs.Table.{Sort, Function, Row}
 use Rattle.file_rules.specs.Every.{Every}
 use Rattle.file_rules.specs.Arrays.{blocks}
 use Rattle.file_rules.specs.Sorts.{classesOf}
 use Rattle.file_rules.specs.Rows.{sortNo, functionNo, columns, range, cellAt, cellsAt, rowAt, rowsAt}
 use Rattle.file_rules.specs.Accepted.{CellsOk, RowOk}
 use Rattle.file_rules.specs.Code.{code, codeRow}
 use Rattle.file_rules.proofs.Coding.SpellLaws.{Spells}
-use Rattle.file.proofs.Encoding.BackLaws.{spells-left, spells-right, field-back, every-mid, many-back}
+use Rattle.file_rules.proofs.Encoding.BackLaws.{spells-left, spells-right, field-back, every-mid, many-back}
 
 -- A sort has no more classes than all together.
 classes-le : (sorts : List Sort) (k : ℕ) → sortNo sorts k .classes ≤ classesOf sorts

@@ -1,16 +1,21 @@
--- The worked cases compute. Assumes nothing.
+-- The worked cases compute, from the table's bits on. Assumes nothing.
 use mathlib.Core.Path.{refl}
 use Rattle.program_rules.specs.Query.{queryAt}
 use Rattle.program_rules.specs.Lines.{numberText, bestLine, variantsLine, variantLine, refusedLine}
 use Rattle.program_rules.specs.Reply.{
   emptyStore,
   emptyLending,
   bestReply,
   variantReply,
   variantReplies,
+  variantsText,
   variantsReply,
   bestAnswer,
   variantsAnswer,
+  bestTold,
+  bestCall,
+  variantsTold,
+  variantsCall,
   callOf,
   answerTo,
   inRoom,
@@ -23,6 +28,8 @@ use Rattle.bits.specs.Bits.{bitsOf, value, number}
 use Rattle.bits.specs.Field.{holds, field}
 use Rattle.bits.specs.Got.{then, must, pick, many}
 use Rattle.file_rules.specs.Arrays.{padWith, blocks}
+use Rattle.file_rules.specs.Bytes.{packed, fileOf}
+use Rattle.file_rules.specs.Code.{code, codeSort, unsigned, codeLiteral, codeFunction, codeRow, codeTable, codeFile}
 use Rattle.file_rules.specs.File.{versionAt, sortsPart, literalsPart, functionsPart, rowsPart, endAt, tableAt}
 use Rattle.file_rules.specs.Functions.{
   bytesAt,
@@ -146,11 +153,24 @@ use Rattle.text_rules.specs.LetText.{
   nextCount,
 }
 use Rattle.text_rules.specs.PlainText.{plainLine, plainText}
-use Rattle.program_rules.specs.Cases.{Cases}
+use Rattle.cases.specs.Words.{bytes}
+use Rattle.cases.specs.Tables.{numberOf, rowOf, table, adding}
+use Rattle.cases.specs.Cases.{
+  Cases,
+  inputOf,
+  numAdd,
+  wrapLeaf,
+  onlyWrap,
+  oneNum,
+  twoLeaves,
+  oneLiteral,
+  sharedThree,
+  sharedFour,
+}
 
 pub cases : Cases
 unfolding queryAt emptyStore emptyLending numberText bestLine variantsLine variantLine refusedLine bestReply
-    variantReply variantReplies variantsReply bestAnswer variantsAnswer callOf answerTo inRoom written reply nameAt
+    variantReply variantReplies variantsReply bestAnswer variantsAnswer bestTold bestCall variantsTold variantsCall variantsText callOf answerTo inRoom written reply nameAt
     entry putName findFrom findName allowed allAllowed valid same bitsOf value number holds field then must pick many
     padWith blocks versionAt sortsPart literalsPart functionsPart rowsPart endAt tableAt bytesAt nameAt-format-Functions
     taken newNameAt costAt flagsAt outputAt argumentAt argumentsAt functionAt functionsAt signed literalAt literalsAt
@@ -168,19 +188,25 @@ unfolding queryAt emptyStore emptyLending numberText bestLine variantsLine varia
     inTurn-text-rules-Counts member reachIn reached places placesIn count-text-rules-Counts sumOf-text-rules-Counts
     sizeIn size each form shown childText lineIn line countText letName calledAt called several anySeveral newLine
     breaks ownIn-text-rules-LetText own bodyGap letLine letLines textWith bindingsOf letLayout letText nextCount
-    plainLine plainText
+    plainLine plainText packed fileOf code codeSort unsigned codeLiteral codeFunction codeRow codeTable codeFile bytes
+    numberOf rowOf table adding inputOf numAdd wrapLeaf onlyWrap oneNum twoLeaves oneLiteral sharedThree sharedFour
 cases = record {
+  given-file = refl;
+  given-size = refl;
   given-whole = refl;
-  zero-cost-loop = refl;
-  zero-cost-loop-variants = refl;
-  only-a-loop = refl;
-  only-a-loop-variants = refl;
-  dearest = refl;
-  too-dear = refl;
-  two-leaves = refl;
-  base-root = refl;
-  size-three = refl;
-  size-four = refl;
-  eighty-wide = refl;
-  eighty-one-wide = refl;
+  given-table = record { query = refl; file = refl; output = refl };
+  zero-cost-loop = record { query = refl; file = refl; output = refl };
+  zero-cost-loop-variants = record { query = refl; file = refl; output = refl };
+  only-a-loop = record { query = refl; file = refl; output = refl };
+  only-a-loop-variants = record { query = refl; file = refl; output = refl };
+  dearest = record { query = refl; file = refl; output = refl };
+  too-dear = record { query = refl; file = refl; output = refl };
+  two-leaves = record { query = refl; file = refl; output = refl };
+  base-root = record { query = refl; file = refl; output = refl };
+  eighty-wide = record { formed = refl; count = refl; output = refl };
+  eighty = refl;
+  eighty-one-wide = record { formed = refl; count = refl; output = refl };
+  size-three = record { query = refl; file = refl; output = refl };
+  size-four = record { query = refl; file = refl; output = refl };
+  least-literal = record { query = refl; file = refl; output = refl };
 }

@@ -28,12 +28,12 @@ use Rattle.file_rules.specs.Functions.{
   functionAt,
   functionsAt,
 }
 use Rattle.file_rules.specs.Rows.{functionNo}
 use Rattle.file_rules.specs.Accepted.{FunctionOk, Differ}
 use Rattle.file_rules.proofs.BlockLaws.{blocks-length}
 use Rattle.file_rules.specs.Code.{code, codeMany, codeCost, codeFunction}
 use Rattle.file_rules.proofs.Coding.SpellLaws.{Spells, code-length}
-use Rattle.file.proofs.Encoding.BackLaws.{
+use Rattle.file_rules.proofs.Encoding.BackLaws.{
   spells-left,
   spells-right,
   spells-end,

@@ -26,9 +26,9 @@ use Rattle.file_rules.specs.Code.{
   codeTable,
   codeFile,
 }
 use Rattle.file_rules.proofs.Coding.SpellLaws.{Bit, every-take, every-drop, value-lt, code-value}
-use Rattle.file.specs.Bytes.{packed, fileOf}
-use Rattle.file.proofs.Encoding.FileBack.{code-is-file}
+use Rattle.file_rules.specs.Bytes.{packed, fileOf}
+use Rattle.file_rules.proofs.Encoding.FileBack.{code-is-file}
 
 bits-cons : (b : ℕ) (s : List ℕ) → bitsOf (b ∷ s) ≡ code 8 b ++ bitsOf s
 unfolding bitsOf code

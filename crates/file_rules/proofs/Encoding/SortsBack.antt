@@ -9,16 +9,16 @@ use lib.ListN.{length}
 use lib.Signed.{mag}
 use borrow.Author.Tests.{le-leb}
 use Rattle.bits.specs.Got.{got, then, must, pick}
 use Rattle.file_rules.specs.Table.{Sort}
 use Rattle.file_rules.specs.Every.{Every}
 use Rattle.file_rules.specs.Arrays.{blocks}
 use Rattle.file_rules.specs.Sorts.{classesOf, sortAt, sortsAt}
 use Rattle.file_rules.specs.Literals.{signed, literalAt, literalsAt}
 use Rattle.file_rules.specs.Accepted.{SortOk}
 use Rattle.file_rules.proofs.SignedLaws.{signed-when-small, signed-when-large}
 use Rattle.file_rules.specs.Code.{code, codeSort, unsigned, codeLiteral}
 use Rattle.file_rules.proofs.Coding.SpellLaws.{Spells}
-use Rattle.file.proofs.Encoding.BackLaws.{spells-left, spells-right, spells-end, field-back, every-mid, many-back}
+use Rattle.file_rules.proofs.Encoding.BackLaws.{spells-left, spells-right, spells-end, field-back, every-mid, many-back}
 
 sort-by : {s : List ℕ} {at q : ℕ} (t k n : ℕ) → k < 2 → (k ≡ 0 → n ≡ 0) → t + n ≤ 512
     → Spells s at q (code 1 k ++ pick (eqb k 0) [] (code 10 n))
