@@ -17,12 +17,12 @@ fn long_name(number: usize) -> Vec<u8> {
     format!("{number:A>31}").into_bytes()
 }
 
-/// 31 sorts of 16 classes, 511 literals and 127 functions with long names, the first `leaves` of them without arguments
-/// and the others with eight; no rows yet.
-fn wide(leaves: usize) -> Table {
+/// 31 sorts of 16 classes, `literals` literals and `functions` functions with long names, the first `leaves` of them
+/// without arguments and the others with eight; no rows yet.
+fn wide(literals: usize, functions: usize, leaves: usize) -> Table {
     let mut table = Table { sorts: vec![Sort::Eq(16); 31], ..Table::default() };
-    table.literals = (0..511).map(|k| mixed(k, 1 << 30) as i64).collect();
-    for f in 0..127 {
+    table.literals = (0..literals).map(|k| mixed(k, 1 << 30) as i64).collect();
+    for f in 0..functions {
         let arguments: Vec<usize> = (0..8).map(|k| mixed(9 * f + k, 31)).collect();
         let arguments = if f < leaves { &[] } else { &arguments[..] };
         table.functions.push(function(&long_name(f), Some(1 + mixed(f, 4) as u64), arguments, f % 31));
@@ -37,16 +37,22 @@ fn cells(r: usize, limit: usize, output: usize) -> Vec<usize> {
 
 /// The longest file there is, 21,385 bytes. Every function of it has arguments, so that no class has a term.
 pub fn longest() -> Vec<u8> {
-    let mut table = wide(0);
-    table.rows = (0..1024).map(|r| row(r % 127, &cells(r, 16, r % 16))).collect();
-    let case = ask(BEST_PLAIN, 0, &table);
+    let case = long_of(8);
     assert_eq!(case.len(), 3 + 21_385);
     case
 }
 
+/// The same with so many eighths of its literals, functions and rows.
+fn long_of(eighths: usize) -> Vec<u8> {
+    let functions = 127 * eighths / 8;
+    let mut table = wide(511 * eighths / 8, functions, 0);
+    table.rows = (0..128 * eighths).map(|r| row(r % functions, &cells(r, 16, r % 16))).collect();
+    ask(BEST_PLAIN, 0, &table)
+}
+
 /// A long file with terms: the lower half of each sort's classes are leaves, the others stand on lower classes.
 pub fn long() -> Vec<u8> {
-    let mut table = wide(31);
+    let mut table = wide(511, 127, 31);
     table.rows = (0..8 * 31).map(|r| row(r % 31, &[r / 31])).collect();
     for r in 8 * 31..1024 {
         let output = 8 + r / 96 % 8;
@@ -59,46 +65,55 @@ pub fn long() -> Vec<u8> {
 
 /// 512 classes and 1,024 rows; children come before their parents, so that few passes are needed.
 pub fn few_passes() -> Vec<u8> {
-    let mut table = Table { sorts: vec![Sort::Eq(512), Sort::Base], literals: vec![1, 2], ..Table::default() };
+    forward(512)
+}
+
+fn forward(classes: usize) -> Vec<u8> {
+    let mut table =
+        Table { sorts: vec![Sort::Eq(classes as u64), Sort::Base], literals: vec![1, 2], ..Table::default() };
     table.functions =
         vec![function(b"Num", None, &[1], 0), function(b"Add", None, &[0, 0], 0), function(b"Mul", None, &[0, 0], 0)];
     table.rows = vec![row(0, &[0, 0]), row(0, &[1, 1])];
-    for class in 1..512 {
+    for class in 1..classes {
         table.rows.push(row(1, &[class / 2, class / 3, class]));
         table.rows.push(row(2, &[class - 1, mixed(class, class), class]));
     }
-    ask(BEST_LET, 511, &table)
+    ask(BEST_LET, classes - 1, &table)
 }
 
 /// 512 classes and 1,024 rows in reverse, so that each pass prices one class more: 513 passes.
 pub fn reversed_chain() -> Vec<u8> {
-    chain(BEST_PLAIN)
+    chain(BEST_PLAIN, 512)
 }
 
 /// The deepest term there is: each of its 512 classes stands on the next lower one. In each mode of the program.
 pub fn deepest() -> [(&'static str, Vec<u8>); 3] {
-    [("plain text", chain(BEST_PLAIN)), ("let text", chain(BEST_LET)), ("variants", chain(VARIANTS))]
+    [("plain text", chain(BEST_PLAIN, 512)), ("let text", chain(BEST_LET, 512)), ("variants", chain(VARIANTS, 512))]
 }
 
-fn chain(mode: u64) -> Vec<u8> {
-    let mut table = Table { sorts: vec![Sort::Eq(512)], ..Table::default() };
+fn chain(mode: u64, classes: usize) -> Vec<u8> {
+    let mut table = Table { sorts: vec![Sort::Eq(classes as u64)], ..Table::default() };
     table.functions =
         vec![function(b"S", None, &[0], 0), function(b"T", Some(3), &[0], 0), function(b"Z", None, &[], 0)];
     for f in 0..2 {
-        table.rows.extend((1..512).rev().map(|class| row(f, &[class - 1, class])));
+        table.rows.extend((1..classes).rev().map(|class| row(f, &[class - 1, class])));
     }
     table.rows.extend([row(2, &[0]), row(2, &[0])]);
-    ask(mode, 511, &table)
+    ask(mode, classes - 1, &table)
 }
 
 /// 1,024 rows of one class, of which 255 are kept.
 pub fn variants() -> Vec<u8> {
+    rows_of_one_class(1024)
+}
+
+fn rows_of_one_class(rows: usize) -> Vec<u8> {
     let mut table = Table { sorts: vec![Sort::Eq(1), Sort::Base], ..Table::default() };
     table.literals = (0..511).map(|k| k - 255).collect();
     for f in 0..16 {
         table.functions.push(function(format!("F{f}").as_bytes(), Some(f % 5), &[1, 1], 0));
     }
-    for r in 0..1024 {
+    for r in 0..rows {
         table.rows.push(row(mixed(r, 16), &[mixed(3 * r, 511), mixed(5 * r, 511), 0]));
     }
     ask(VARIANTS, 0, &table)
@@ -125,6 +140,16 @@ pub fn sharing() -> Vec<u8> {
     }
     table.rows.push(row(2, &[&tops[..], &[root]].concat()));
     ask(BEST_LET, root, &table)
+}
+
+/// Questions that reach a limit, with so many eighths of it.
+pub fn growing(eighths: usize) -> [(&'static str, Vec<u8>); 4] {
+    [
+        ("literals, functions and rows read", long_of(eighths)),
+        ("classes, few passes", forward(64 * eighths)),
+        ("classes, a pass for each", chain(BEST_PLAIN, 64 * eighths)),
+        ("rows of one class, 255 variants", rows_of_one_class(128 * eighths)),
+    ]
 }
 
 /// As many literals as a store holds, all different.

@@ -1,11 +1,15 @@
 //! Times the proved library and the crate's Rust in one process on the same inputs, and measures the library's stack;
-//! prints two tables in Markdown.
+//! prints three tables in Markdown.
 //!
-//! Usage: bench ROUNDS. Both sides must give the same answer first; if they do not, one sentence and exit status 1.
+//! Usage: bench ROUNDS KIND [FOLDER]. KIND, `native` or `emulated`, says how the program is run; an emulated row says
+//! so. With a FOLDER two plots are written there, KIND in their names. Both sides must give the same answer first; if
+//! they do not, one sentence and exit status 1.
 
 mod inputs;
 mod library;
 mod original;
+mod plot;
+mod recorded;
 mod rounds;
 mod stack;
 
@@ -21,10 +25,12 @@ be handed any (demand 1), and then looks at each term for the one; the Rust trus
 its hash";
 
 const READING: &str = "Needlevale's time has the reading of the file in it, the Rust's second time has not";
+const SMALL_WHY: &str = "whatever the table's size, the call clears all arrays of its own, which takes most of its \
+time here";
 const UNKNOWN: &str = "why is not known yet";
 
 struct Row {
-    name: &'static str,
+    name: String,
     answer: String,
     took: Vec<Took>,
     /// Why the library is slower, where that is known.
@@ -36,13 +42,10 @@ fn first_line(text: &str) -> String {
 }
 
 /// Times a question: the library, the Rust, and the Rust's calls without the file's reading.
-fn question(count: usize, name: &'static str, input: &[u8]) -> Result<Row, String> {
+fn question(count: usize, name: &str, input: &[u8]) -> Result<Row, String> {
     let mut output = vec![0; ROOM];
     let length = library::answer(input, &mut output);
-    let ours = match usize::try_from(length) {
-        Ok(length) => String::from_utf8_lossy(&output[..length]).into_owned(),
-        Err(_) => format!("refused {}\n", -length),
-    };
+    let ours = text_of(length, &output);
     let answer = original::answer(input);
     if ours != answer {
         let (ours, rust) = (first_line(&ours), first_line(&answer));
@@ -60,11 +63,38 @@ fn question(count: usize, name: &'static str, input: &[u8]) -> Result<Row, Strin
             black_box(original::calls(black_box(&read)));
         }),
     ];
-    Ok(Row { name, answer: first_line(&answer), took: rounds(count, sides), why: None })
+    Ok(Row { name: name.to_string(), answer: first_line(&answer), took: rounds(count, sides), why: None })
+}
+
+/// Times many questions, which both sides answer alike, one after the other: the library, and the Rust.
+fn many(count: usize, name: &str, inputs: &[Vec<u8>]) -> Row {
+    let mut output = vec![0; ROOM];
+    let sides: Vec<Side> = vec![
+        Box::new(|| {
+            for input in inputs {
+                black_box(library::answer(black_box(input), black_box(&mut output)));
+            }
+        }),
+        Box::new(|| {
+            for input in inputs {
+                black_box(original::answer(black_box(input)));
+            }
+        }),
+    ];
+    let answer = format!("{} answers", inputs.len());
+    Row { name: name.to_string(), answer, took: rounds(count, sides), why: None }
+}
+
+/// What the library's call answered, as the program writes it.
+fn text_of(length: i64, output: &[u8]) -> String {
+    match usize::try_from(length) {
+        Ok(length) => String::from_utf8_lossy(&output[..length]).into_owned(),
+        Err(_) => format!("refused {}\n", -length),
+    }
 }
 
 /// Times as many adds as a store has room for, from an empty one.
-fn adds(count: usize, name: &'static str) -> Result<Row, String> {
+fn adds(count: usize, name: &str) -> Result<Row, String> {
     let values = inputs::literals();
     let dag = original::store(&values);
     let mut store = library::Store::new();
@@ -85,7 +115,7 @@ fn adds(count: usize, name: &'static str) -> Result<Row, String> {
         }),
     ];
     let answer = format!("{} terms", dag.size());
-    Ok(Row { name, answer, took: rounds(count, sides), why: Some(STORE_WHY) })
+    Ok(Row { name: name.to_string(), answer, took: rounds(count, sides), why: Some(STORE_WHY) })
 }
 
 fn time(seconds: f64) -> String {
@@ -97,16 +127,16 @@ fn ratio(ratio: f64) -> String {
 }
 
 impl Row {
-    fn line(&self) -> String {
+    fn line(&self, kind: &str) -> String {
         let Row { name, answer, took, .. } = self;
         let side = |at: usize| took.get(at).map(|took| format!("{} | {}", time(took.seconds), ratio(took.ratio)));
-        let (rust, read) = (side(1).unwrap_or_default(), side(2).unwrap_or("no file | ".into()));
+        let (rust, read) = (side(1).unwrap_or_default(), side(2).unwrap_or("not timed | ".into()));
         let verdict = match self.fault() {
             None => "faster",
             Some(READING) => "faster with the reading, slower without",
             Some(_) => "slower",
         };
-        format!("| {name} | `{answer}` | {} | {rust} | {read} | {verdict} |", time(took[0].seconds))
+        format!("| {name}{} | `{answer}` | {} | {rust} | {read} | {verdict} |", said(kind), time(took[0].seconds))
     }
 
     /// Why the library is not faster on both counts, if it is not.
@@ -118,8 +148,38 @@ impl Row {
     }
 }
 
-fn table(count: usize) -> Result<(), String> {
-    let rows = [
+/// What each row of an emulated run says.
+fn said(kind: &str) -> &'static str {
+    if kind == "emulated" { " (emulated)" } else { "" }
+}
+
+/// The rows for small tables: document 01's worked example, which is the first recorded input, the recorded one of
+/// middle length, and all of them in a row. Of the recorded inputs those that are answered and not refused, where the
+/// Rust answers the same (docs/DIFFERENCES.md says where it does not).
+fn small(count: usize) -> Result<Vec<Row>, String> {
+    let mut output = vec![0; ROOM];
+    let mut answered = recorded::all()?;
+    answered.retain(|input| {
+        let length = library::answer(input, &mut output);
+        length >= 0 && text_of(length, &output) == original::answer(input)
+    });
+    let mut by_length = answered.clone();
+    by_length.sort_by_key(Vec::len);
+    let (first, middle) = (answered.first(), by_length.get(by_length.len() / 2));
+    let (Some(first), Some(middle)) = (first, middle) else {
+        return Err("no recorded input is answered".into());
+    };
+    let rows = vec![
+        question(count, &format!("the worked example, {} bytes", first.len()), first)?,
+        question(count, &format!("the recorded input of middle length, {} bytes", middle.len()), middle)?,
+        many(count, &format!("all {} recorded inputs that both answer alike, in a row", answered.len()), &answered),
+    ];
+    Ok(rows.into_iter().map(|row| Row { why: Some(SMALL_WHY), ..row }).collect())
+}
+
+fn table(count: usize, kind: &str, folder: Option<&str>) -> Result<(), String> {
+    let mut rows = small(count)?;
+    rows.extend([
         question(count, "the longest file, 21,385 bytes", &inputs::longest())?,
         question(count, "a file of 18,998 bytes, with terms", &inputs::long())?,
         question(count, "512 classes, 1,024 rows, few passes", &inputs::few_passes())?,
@@ -127,41 +187,82 @@ fn table(count: usize) -> Result<(), String> {
         question(count, "variants, n = 255 of 1,024 rows", &inputs::variants())?,
         question(count, "let text with deep sharing", &inputs::sharing())?,
         adds(count, "1,024 adds into a store")?,
-    ];
+    ]);
     println!("| Input | Answer | Needlevale | Rust | ratio | Rust, file read before | ratio | Needlevale is |");
     println!("|---|---|---|---|---|---|---|---|");
-    rows.iter().for_each(|row| println!("{}", row.line()));
+    rows.iter().for_each(|row| println!("{}", row.line(kind)));
     println!();
     for (row, why) in rows.iter().filter_map(|row| Some((row, row.fault()?))) {
         println!("- Not faster on '{}': {why}.", row.name);
     }
     println!();
-    stacks()
+    let bars: Vec<(String, f64)> = rows.iter().map(|row| (row.name.clone(), row.took[1].ratio)).collect();
+    let lines = growth(count, kind)?;
+    if let Some(folder) = folder {
+        let title = format!("The Rust's time over Needlevale's, the reading included{}", said(kind));
+        write(folder, &format!("ratios-{kind}.svg"), &plot::ratios(&title, &bars))?;
+        let title = format!("Needlevale's time at parts of a limit{}", said(kind));
+        write(folder, &format!("growth-{kind}.svg"), &plot::growth(&title, &PARTS.map(|part| part.0), &lines))?;
+    }
+    stacks(kind)
+}
+
+fn write(folder: &str, name: &str, text: &str) -> Result<(), String> {
+    let path = format!("{folder}/{name}");
+    std::fs::write(&path, text).map_err(|fault| format!("{path} cannot be written: {fault}"))
+}
+
+/// Parts of a limit, by name and in eighths.
+const PARTS: [(&str, usize); 4] = [("1/8", 1), ("1/4", 2), ("1/2", 4), ("all", 8)];
+
+/// Times questions at parts of the limits; of each limit the library's times.
+fn growth(count: usize, kind: &str) -> Result<Vec<(String, Vec<f64>)>, String> {
+    let mut lines: Vec<(String, Vec<f64>)> = Vec::new();
+    let mut cells: Vec<String> = Vec::new();
+    for (part, eighths) in PARTS {
+        for (at, (name, input)) in inputs::growing(eighths).into_iter().enumerate() {
+            let took = question(count, &format!("{name}, {part}"), &input)?.took;
+            if at == lines.len() {
+                lines.push((name.to_string(), Vec::new()));
+                cells.push(String::new());
+            }
+            lines[at].1.push(took[0].seconds);
+            cells[at] += &format!(" {} ({}) |", time(took[0].seconds), ratio(took[1].ratio));
+        }
+    }
+    println!("| Of this limit: Needlevale's time (ratio) | 1/8 | 1/4 | 1/2 | all |");
+    println!("|---|---|---|---|---|");
+    lines.iter().zip(&cells).for_each(|((name, _), cells)| println!("| {name}{} |{cells}", said(kind)));
+    println!();
+    Ok(lines)
 }
 
 /// The stack of the call on the deepest term, on the longest file and on no input.
-fn stacks() -> Result<(), String> {
+fn stacks(kind: &str) -> Result<(), String> {
     let deep = inputs::deepest().map(|(mode, input)| (format!("the deepest term, 512 classes: {mode}"), input));
     let others = [("the longest file", inputs::longest()), ("no input", Vec::new())];
     println!("| Input | Stack of `needlevale_answer`, bytes |");
     println!("|---|---|");
     for (name, input) in deep.into_iter().chain(others.map(|(name, input)| (name.to_string(), input))) {
-        println!("| {name} | {} |", stack::used(&input)?);
+        println!("| {name}{} | {} |", said(kind), stack::used(&input)?);
     }
     Ok(())
 }
 
 fn main() -> ExitCode {
     let words: Vec<String> = std::env::args().skip(1).collect();
-    let count = match &words[..] {
-        [count] => count.parse().ok().filter(|count| (1..=1000).contains(count)),
-        _ => None,
+    let words: Vec<&str> = words.iter().map(String::as_str).collect();
+    let (count, kind, folder) = match words[..] {
+        [count, kind] => (count, kind, None),
+        [count, kind, folder] => (count, kind, Some(folder)),
+        _ => ("", "", None),
     };
-    let Some(count) = count else {
-        eprintln!("bench: give the number of rounds, 1 to 1,000");
+    let count = count.parse().ok().filter(|count| (1..=1000).contains(count));
+    let (Some(count), "native" | "emulated") = (count, kind) else {
+        eprintln!("bench: give the number of rounds, 1 to 1,000, then native or emulated, then perhaps a folder");
         return ExitCode::from(2);
     };
-    match table(count) {
+    match table(count, kind, folder) {
         Ok(()) => ExitCode::SUCCESS,
         Err(fault) => {
             eprintln!("bench: {fault}");

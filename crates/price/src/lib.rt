@@ -28,7 +28,7 @@ pub fn solve(
         (now (starts .entry)) (now (children .entry)) (now (order .entry)) (now (functions .entry))
         (now (costs .exit)) (now (ranks .exit)) (now (marks .exit)) (now (known .exit)) (now (plan .exit)) ⌝ }
 {
-    let run = price_passes::passes::repeat(costs, ranks, outputs, heads, starts, children);
+    let run = price_marks::run::repeat(costs, ranks, outputs, heads, starts, children);
     edges::fill(marks, costs, ranks, outputs, heads, starts, children);
     plans::fill(
         plan,

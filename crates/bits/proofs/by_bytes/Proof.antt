@@ -92,7 +92,11 @@ mul-result c =
     let a = c .before .before .before .before .before .before .before .args in
     let l = c .before .before .before .loop in
     let n = a .width - l .i in
-    rw (c .power .ensures, l .inv .2) (omega (arith, number-split-lt (a .s .now) (a .at) (l .i) n (omega arith) (omega arith)))
+    rw (c .power .ensures, l .inv .2) (omega (
+      arith,
+      number-split-lt (a .s .now) (a .at) (l .i) n (omega arith)
+          (omega arith),
+    ))
 
 add-result : tie.Need-add-result Inv-loop μ-loop
 add-result c =

@@ -1,4 +1,5 @@
--- `bits::read` meets its contract: the bits are in the two bytes that are there, or they are there or not as `has` says.
+-- `bits::read` meets its contract: the bits are in the two bytes that are there, or they are there or not as `has`
+-- says.
 -- Assumes nothing.
 use mathlib.Core.Path.{sym, _∙_}
 use native.Mathlib.Omega.{arith}
