@@ -204,8 +204,9 @@ cases = record {
   two-leaves = record { query = refl; file = refl; output = refl };
   base-root = record { query = refl; file = refl; output = refl };
   eighty-wide = record { formed = refl; count = refl; output = refl };
-  eighty = refl;
+  eighty = (refl, (refl, (refl, refl)));
   eighty-one-wide = record { formed = refl; count = refl; output = refl };
+  eighty-one = refl;
   size-three = record { query = refl; file = refl; output = refl };
   size-four = record { query = refl; file = refl; output = refl };
   least-literal = record { query = refl; file = refl; output = refl };

@@ -96,11 +96,21 @@ sharedFour =
     (plain "Num" (1 ∷ []) ∷ plain "Up" (0 ∷ []) ∷ plain "Add" (0 ∷ 0 ∷ []) ∷ [])
     (line "Num" (0 ∷ []) 0 ∷ line "Up" (0 ∷ []) 1 ∷ line "Up" (1 ∷ []) 2 ∷ line "Add" (2 ∷ 2 ∷ []) 3 ∷ [])
 
--- F of three variables, the last of this name.
-abbrev pub threeVariables : String → List Node
-threeVariables c =
-    variable (bytes "aaaaaaaaaaaaaaaaaaaaaaaaaaaaaaa") ∷ variable (bytes "bbbbbbbbbbbbbbbbbbbbbbbbbbbbbbb")
-    ∷ variable (bytes c) ∷ application (bytes "F") (0 ∷ 1 ∷ 2 ∷ []) ∷ []
+-- Names of 31, 31, 12 and 13 bytes, and F of three variables, the last of the name that is given.
+abbrev pub a31 : List ℕ
+a31 = bytes "aaaaaaaaaaaaaaaaaaaaaaaaaaaaaaa"
+
+abbrev pub b31 : List ℕ
+b31 = bytes "bbbbbbbbbbbbbbbbbbbbbbbbbbbbbbb"
+
+abbrev pub c12 : List ℕ
+c12 = bytes "cccccccccccc"
+
+abbrev pub c13 : List ℕ
+c13 = bytes "ccccccccccccc"
+
+abbrev pub threeVariables : List ℕ → List Node
+threeVariables c = variable a31 ∷ variable b31 ∷ variable c ∷ application (bytes "F") (0 ∷ 1 ∷ 2 ∷ []) ∷ []
 
 abbrev pub lineOf80 : List ℕ
 lineOf80 = bytes "(F aaaaaaaaaaaaaaaaaaaaaaaaaaaaaaa bbbbbbbbbbbbbbbbbbbbbbbbbbbbbbb cccccccccccc)"
@@ -130,12 +140,13 @@ pub record Cases : Type 0 where
   -- "A base root with n = 0: one variant, cost 1."
   pub base-root : Writes (variants 0 0) (oneLiteral (pos 7)) "variants 1 1\nvariant 1 1 1\n7\n"
   -- "F of three variables of 31, 31 and 12 bytes: 80 characters, one line."
-  pub eighty-wide : Shows (threeVariables "cccccccccccc") (bytes "\n" ++ lineOf80)
-  pub eighty : length lineOf80 ≡ 80
+  pub eighty-wide : Shows (threeVariables c12) (bytes "\n" ++ lineOf80)
+  pub eighty : (length a31 ≡ 31) × ((length b31 ≡ 31) × ((length c12 ≡ 12) × (length lineOf80 ≡ 80)))
   -- "31, 31, 13: broken."
   pub eighty-one-wide :
-      Shows (threeVariables "ccccccccccccc")
+      Shows (threeVariables c13)
       (bytes "\n(F\n  aaaaaaaaaaaaaaaaaaaaaaaaaaaaaaa\n  bbbbbbbbbbbbbbbbbbbbbbbbbbbbbbb\n  ccccccccccccc)")
+  pub eighty-one : length c13 ≡ 13
   -- "A shared term of size 3: no binding."
   pub size-three : Writes (bestLet 2) sharedThree "best 7 4 2\n\n(Add (Up (Num 5)) (Up (Num 5)))\n"
   -- "Size 4: bound."
