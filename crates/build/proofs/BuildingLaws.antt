@@ -12,12 +12,12 @@ use lib.Seq.{getD-set-same, getD-set-other, set-out}
 use lib.Dec.{ltb}
 use lib.IntN.{ℤ}
 use borrow.Author.Tests.{ltb-true, ltb-false}
-use Rattle.term_rules.specs.Lent.{Store}
+use Rattle.term_rules.specs.Lent.{Store, recordsLength}
 use Rattle.term_rules.specs.WellFormed.{wellFormed}
 use Rattle.term_rules.specs.Nodes.{Node, literal, application, number, applied, isNumber, isApplied}
 use Rattle.term_rules.specs.Adding.{Adds, at, noRoom, add}
 use Rattle.term_rules.specs.Growing.{Beyond, Grows, Takes, Gives}
-use Rattle.term_rules.proofs.Adding.PasteLaws.{getD-zeros}
+use Rattle.name.proofs.PasteLaws.{getD-zeros}
 use Rattle.term_rules.proofs.Adding.AddingLaws.{grows-refl, grows-trans, add-gives}
 use Rattle.build.specs.Plan.{Child, class, value, Plan, ofRow, ofClass, ofValue}
 use Rattle.build.specs.Building.{State, state, Out, done, full, added, kept, childIn, childrenIn, ownIn, buildIn}
@@ -249,7 +249,7 @@ module _ (p : Plan) where
 -- where a term had no room, nothing changed past the limits
 pub stuck-beyond : {s : Store} {rs ns : List ℕ} {ls : List ℤ} → Stuck s rs ls ns → Beyond s rs ls ns
 stuck-beyond k = record {
-  records = ap (drop 11264) (k .records) ∙ k .grows .beyond .records;
+  records = ap (drop (recordsLength 1024)) (k .records) ∙ k .grows .beyond .records;
   literals = ap (drop 1024) (k .literals) ∙ k .grows .beyond .literals;
   names = ap (drop 4096) (k .names) ∙ k .grows .beyond .names;
 }

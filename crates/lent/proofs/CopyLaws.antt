@@ -1,5 +1,5 @@
 -- Laws on copying the records into flat arrays and back, one record at a time. Assumes nothing.
-use Prim.Native.Nat.{ℕ, zero, suc, _+_, _*_, _-_, _≤_, _<_, min}
+use Prim.Native.Nat.{ℕ, zero, suc, _+_, _-_, _≤_, _<_, min}
 use mathlib.Core.Path.{_≡_, refl, ap, sym, _∙_, subst}
 use mathlib.Core.Logic.{_⊎_, inl, inr}
 use mathlib.Core.List.{List, [], _∷_, _++_, append-assoc, append-nil}
@@ -7,18 +7,19 @@ use native.Mathlib.Nat.{eq-or-lt-of-le}
 use native.Mathlib.Numerals.{add-one}
 use native.Mathlib.Omega.{arith}
 use lib.ListN.{length, getD, take, drop, set, length-append, length-take, length-drop}
-use lib.Seq.{paste, take-all, take-suc, take-paste, take-suc-set, take-nil, drop-cons, getD-take, set-at}
+use lib.Seq.{take-suc, take-suc-set, take-nil, drop-cons, getD-take, set-at}
 use lib.IntN.{ℤ, pos}
 use Rattle.term_rules.specs.declared.Term.{Term}
-use Rattle.term_rules.specs.Lent.{recordIn, numbers as numbersOf}
+use Rattle.term_rules.specs.Lent.{recordsLength, HasRecord, recordIn, numbers as numbersOf, putRecord}
+use Rattle.term_rules.proofs.LayoutLaws.{take-put}
 use Rattle.lent.specs.declared.Flat.{Flat}
 use Rattle.lent.specs.Records.{noTerm, Eight, flat, literalsOf, recordsIn}
 use Rattle.lent.specs.Copies.{AllEight, Loaded, Whole}
-use Rattle.lent.proofs.RecordLaws.{numbers-length, flat-append, literalsOf-append, recordsIn-length}
+use Rattle.lent.proofs.RecordLaws.{flat-append, literalsOf-append, recordsIn-length}
 
 -- the first i records are copied
 pub record Copied (ys : List Term) (i : ℕ) (rs : List ℕ) (ls : List ℤ) : Type 0 where
-  pub numbers : take (i * 11) rs ≡ flat (take i ys)
+  pub numbers : take (recordsLength i) rs ≡ flat (take i ys)
   pub literals : take i ls ≡ literalsOf (take i ys)
   pub eight : AllEight (take i ys)
 
@@ -55,16 +56,14 @@ module _ (ys : List Term) (i : ℕ) (l : i < length ys) where
 
 pub copied-more :
     (ys : List Term) (i : ℕ) (rs : List ℕ) (ls : List ℤ) (t : Term) →
-    i < length ys → t ≡ getD ys i noTerm → Eight t → i * 11 + 11 ≤ length rs → i < length ls → Copied ys i rs ls →
-    Copied ys (i + 1) (paste rs (i * 11) (numbersOf t) 11) (set ls i (t .literal))
+    i < length ys → t ≡ getD ys i noTerm → Eight t → HasRecord rs i → i < length ls → Copied ys i rs ls →
+    Copied ys (i + 1) (putRecord rs i t) (set ls i (t .literal))
 copied-more ys i rs ls t l is e long wide c =
-    let m : (i + 1) * 11 ≡ i * 11 + 11 = omega arith in
     let n : i + 1 ≡ suc i = add-one i in
     record {
       numbers =
-          ap (λ (k : ℕ). take k (paste rs (i * 11) (numbersOf t) 11)) m
-          ∙ take-paste rs (i * 11) (numbersOf t) 11 (omega arith) (omega (arith, numbers-length t e))
-          ∙ ap (λ (k : List ℕ). take (i * 11) rs ++ k) (take-all 11 (numbersOf t) (omega (arith, numbers-length t e)))
+          ap (λ (k : ℕ). take (recordsLength k) (putRecord rs i t)) n
+          ∙ take-put rs i t (omega arith) e
           ∙ ap (λ (k : List ℕ). k ++ numbersOf t) (c .numbers)
           ∙ ap (λ (u : Term). flat (take i ys) ++ numbersOf u) is
           ∙ sym (flat-more ys i l)
@@ -89,7 +88,7 @@ take-min (suc a) (x ∷ l) =
 
 pub copied-whole :
     (ys : List Term) (rs : List ℕ) (ls : List ℤ) (n : ℕ) (f : Flat) →
-    n ≡ min 1024 (length ys) → length rs ≡ 11264 → length ls ≡ 1024 → Copied ys n rs ls →
+    n ≡ min 1024 (length ys) → length rs ≡ recordsLength 1024 → length ls ≡ 1024 → Copied ys n rs ls →
     f ≡ record { records = rs; literals = ls; room = n } → Loaded ys f
 copied-whole ys rs ls n f e long wide c is =
     let same : take n ys ≡ take 1024 ys = ap (λ (k : ℕ). take k ys) e ∙ take-min 1024 ys in

@@ -19,7 +19,8 @@ use Rattle.lent_entries.proofs.EntriesLaws.{
   drop-min,
 }
 use Rattle.term_rules.specs.declared.Term.{Term}
-use Rattle.term_rules.specs.Lent.{Store, store, recordIn, recordAt, symbolAt, termRoom, symbolRoom}
+use Rattle.term_rules.specs.Lent.{Store, store, recordsLength, recordRoom, recordAt, symbolAt, termRoom, symbolRoom}
+use Rattle.term_layout.proofs.TakeLaws.{record-take, room-whole}
 use Rattle.lent.specs.declared.Flat.{Flat}
 use Rattle.lent.specs.Records.{noTerm, flat, literalsOf, lentStore, recordsIn, recordsAfter}
 use Rattle.lent.specs.Copies.{AllEight, Loaded, storeIn}
@@ -49,7 +50,7 @@ loaded-fits ts f g l e = (omega (arith, e, l .room), omega (arith, e, l .room))
 -- the same with the names copied too
 pub storeIn-is :
     (f : Flat) (ns : List (List ℕ)) (n m : ℕ) (bs : List ℕ) → bs ≡ entriesOf (take 128 ns) →
-    store (take (f .room * 11) (f .records)) (take (f .room) (f .literals)) bs n m ≡ storeIn f ns n m
+    store (take (recordsLength (f .room)) (f .records)) (take (f .room) (f .literals)) bs n m ≡ storeIn f ns n m
 unfolding storeIn
 storeIn-is f ns n m bs e = rw e
 
@@ -108,7 +109,7 @@ take-front {X = X} a l p e = cases (leb a (length l)) refl
 
 -- the lent lists after a call are the store after it, where its lists are as long as those of the lent store
 pub lentStore-after :
-    (ts : List Term) (ns : List (List ℕ)) (s : Store) (n m : ℕ) → length (s .records) ≡ min 1024 (length ts) * 11 →
+    (ts : List Term) (ns : List (List ℕ)) (s : Store) (n m : ℕ) → length (s .records) ≡ recordsLength (min 1024 (length ts)) →
     length (s .literals) ≡ min 1024 (length ts) → length (s .names) ≡ min 128 (length ns) * 32 →
     lentStore (recordsAfter ts s) (entriesAfter ns (s .names)) n m ≡ store (s .records) (s .literals) (s .names) n m
 unfolding lentStore recordsAfter entriesAfter
@@ -122,7 +123,7 @@ lentStore-after ts ns s n m long wide named =
     let numbers : flat (take 1024 (rs ++ drop 1024 ts)) ≡ s .records =
     ap flat records
     ∙ flat-recordsIn (s .records) (s .literals) (min 1024 (length ts)) (omega arith)
-    ∙ take-all (min 1024 (length ts) * 11) (s .records) (omega arith) in
+    ∙ take-all (recordsLength (min 1024 (length ts))) (s .records) (omega arith) in
     let literals : literalsOf (take 1024 (rs ++ drop 1024 ts)) ≡ s .literals =
     ap literalsOf records
     ∙ literalsOf-recordsIn (s .records) (s .literals) (min 1024 (length ts)) (omega arith)
@@ -133,30 +134,12 @@ lentStore-after ts ns s n m long wide named =
     ∙ take-all (min 128 (length ns) * 32) (s .names) (omega arith) in
     λ i. store (numbers i) (literals i) (names i) n m
 
--- what stands within the first m numbers stands there still when the rest is cut off
-part-take : (l : List ℕ) (m a n : ℕ) → a + n ≤ m → take n (drop a (take m l)) ≡ take n (drop a l)
-part-take l m zero n h = take-take n m l (omega arith)
-part-take [] m (suc a) n h = ap (λ (k : List ℕ). take n (drop (suc a) k)) (take-nil m)
-part-take (x ∷ l) zero (suc a) n h = absurd (omega arith)
-part-take (x ∷ l) (suc m) (suc a) n h = part-take l m a n (omega arith)
-
-recordIn-take :
-    (rs : List ℕ) (ls : List ℤ) (n k : ℕ) → k < n → recordIn (take (n * 11) rs) (take n ls) k ≡ recordIn rs ls k
-unfolding recordIn
-recordIn-take rs ls n k h =
-    same-fields (getD (take n ls) k (pos 0)) (getD-take (n * 11) rs (k * 11) 0 (omega arith))
-    (getD-take (n * 11) rs (k * 11 + 1) 0 (omega arith)) (getD-take (n * 11) rs (k * 11 + 2) 0 (omega arith))
-    (part-take rs (n * 11) (k * 11 + 3) 8 (omega arith))
-    ∙ ap (λ (z : ℤ). term (getD rs (k * 11) 0) (getD rs (k * 11 + 1) 0) (getD rs (k * 11 + 2) 0) z (take 8 (drop (k *
-    11 + 3) rs)))
-    (getD-take n ls k (pos 0) h)
-
 -- the first k records need no more than their numbers and literals
 pub recordsIn-take :
-    (rs : List ℕ) (ls : List ℤ) (n k : ℕ) → k ≤ n → recordsIn (take (n * 11) rs) (take n ls) k ≡ recordsIn rs ls k
+    (rs : List ℕ) (ls : List ℤ) (n k : ℕ) → k ≤ n → recordsIn (take (recordsLength n) rs) (take n ls) k ≡ recordsIn rs ls k
 unfolding recordsIn
 recordsIn-take rs ls n zero h = refl
-recordsIn-take rs ls n (suc k) h = rw (recordsIn-take rs ls n k (omega arith), recordIn-take rs ls n k (omega arith))
+recordsIn-take rs ls n (suc k) h = rw (recordsIn-take rs ls n k (omega arith), record-take rs ls n k (omega arith))
 
 -- what is put back from the arrays is the store that they hold
 pub recordsAfter-storeIn :
@@ -166,15 +149,15 @@ unfolding recordsAfter storeIn
 recordsAfter-storeIn ts ns f n m e =
     ap (λ (l : List Term). l ++ drop (f .room) ts) (sym (recordsIn-take (f .records) (f .literals) (f .room) (f
     .room) (omega arith)))
-    ∙ ap (λ (k : ℕ). recordsIn (take (f .room * 11) (f .records)) (take (f .room) (f .literals)) k ++ drop k ts) e
-    ∙ ap (λ (l : List Term). recordsIn (take (f .room * 11) (f .records)) (take (f .room) (f .literals)) (min 1024
+    ∙ ap (λ (k : ℕ). recordsIn (take (recordsLength (f .room)) (f .records)) (take (f .room) (f .literals)) k ++ drop k ts) e
+    ∙ ap (λ (l : List Term). recordsIn (take (recordsLength (f .room)) (f .records)) (take (f .room) (f .literals)) (min 1024
     (length ts)) ++ l)
     (drop-min 1024 ts)
 
 -- what is put back depends on the numbers and the literals alone
 pub recordsAfter-lists :
     (ts : List Term) (f : Flat) (ns : List (List ℕ)) (n m : ℕ) (s : Store) →
-    take (f .room * 11) (f .records) ≡ s .records → take (f .room) (f .literals) ≡ s .literals →
+    take (recordsLength (f .room)) (f .records) ≡ s .records → take (f .room) (f .literals) ≡ s .literals →
     recordsAfter ts (storeIn f ns n m) ≡ recordsAfter ts s
 unfolding recordsAfter storeIn
 recordsAfter-lists ts f ns n m s p q = λ i. recordsIn (p i) (q i) (min 1024 (length ts)) ++ drop 1024 ts
@@ -189,8 +172,8 @@ pub lentStore-room :
 unfolding termRoom lentStore
 lentStore-room ts ns n m all =
     let k : ℕ = length (take 1024 ts) in
-    let numbers : length (flat (take 1024 ts)) / 11 ≡ length (take 1024 ts) =
-    ap (λ (l : ℕ). l / 11) (flat-length (take 1024 ts) all) ∙ times-over (length (take 1024 ts)) 11 (omega arith) in
+    let numbers : recordRoom (length (flat (take 1024 ts))) ≡ length (take 1024 ts) =
+    ap recordRoom (flat-length (take 1024 ts) all) ∙ room-whole (length (take 1024 ts)) in
     rw numbers (omega (arith, literalsOf-length (take 1024 ts), length-take 1024 ts))
 
 pub lentStore-nameRoom :

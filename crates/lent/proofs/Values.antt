@@ -11,6 +11,7 @@ use denote.Laws.{Is}
 use denote.Plain.{uint-vals}
 use denote.Signed.{sint-vals}
 use denote.Struct.Laws as LL
+use Rattle.term_rules.specs.Lent.{recordsLength}
 use Rattle.term_rules.specs.declared.Term.{Term}
 use Rattle.term_rules.proofs.Term as T
 use Rattle.term_rules.proofs.Term.Laws as T′
@@ -28,9 +29,9 @@ map-same (x ∷ xs) = ap (_∷_ x) (map-same xs)
 
 module _ (f : Flat) (vs : List Val) (is : Is F.the-row f vs) where
   -- its numbers are an array of 11,264
-  pub numbers-of : Is (Array u64 11264) (f .records) (array-vals (uint-vals w64) (f .records))
+  pub numbers-of : Is (Array u64 (recordsLength 1024)) (f .records) (array-vals (uint-vals w64) (f .records))
   numbers-of =
-      subst (λ (xs : List ℕ). Is (Array u64 11264) xs (array-vals (uint-vals w64) xs)) (map-same (f .records))
+      subst (λ (xs : List ℕ). Is (Array u64 (recordsLength 1024)) xs (array-vals (uint-vals w64) xs)) (map-same (f .records))
       (LL.owed F.the-type F′.the-laws f vs is .0)
 
   -- its literals an array of 1,024

@@ -6,7 +6,7 @@ use mathlib.Core.List.{List, []}
 use lib.ListN.{length, getD, take}
 use Rattle.lent_entries.specs.Entries.{AllWide, nameOf, entriesOf, entriesAfter}
 use Rattle.term_rules.specs.declared.Term.{Term}
-use Rattle.term_rules.specs.Lent.{Store, store, recordAt, symbolAt, termRoom, symbolRoom}
+use Rattle.term_rules.specs.Lent.{Store, store, recordAt, symbolAt, termRoom, symbolRoom, recordsLength}
 use Rattle.lent.specs.Records.{noTerm, lentStore, recordsAfter}
 use Rattle.lent.specs.Copies.{AllEight}
 
@@ -35,7 +35,7 @@ pub record Promises : Type 0 where
   pub unchangedNames : (ns : List (List ℕ)) → AllWide (take 128 ns) → entriesAfter ns (entriesOf (take 128 ns)) ≡ ns
   -- The lists that a store leaves mean that store, where its lists are as long as those that were lent.
   pub after :
-      (ts : List Term) (ns : List (List ℕ)) (s : Store) (n m : ℕ) → length (s .records) ≡ min 1024 (length ts) * 11 →
+      (ts : List Term) (ns : List (List ℕ)) (s : Store) (n m : ℕ) → length (s .records) ≡ recordsLength (min 1024 (length ts)) →
       length (s .literals) ≡ min 1024 (length ts) → length (s .names) ≡ min 128 (length ns) * 32 →
       lentStore (recordsAfter ts s) (entriesAfter ns (s .names)) n m ≡ store (s .records) (s .literals) (s .names) n m
   -- No two lent lists mean one store: they agree in their first 1,024 records and 128 entries, which are the store.

@@ -1,11 +1,9 @@
 // The term store as a lent slice of term records, with its symbol table as a lent slice of name entries.
 ghost use mathlib.Core.Path.{_≡_};
-ghost use Prim.Native.Nat.{_<_, _≤_, _*_, _+_, _-_, min};
-ghost use mathlib.Core.List.{_∷_, _++_};
-ghost use lib.ListN.{length, getD, set, take, drop};
-ghost use lib.Seq.{paste};
-ghost use Rattle.term_rules.specs.Lent.{numbers};
-ghost use Rattle.term_record.specs.Flat.{InRecords};
+ghost use Prim.Native.Nat.{_<_, _≤_, min};
+ghost use mathlib.Core.List.{_++_};
+ghost use lib.ListN.{length, getD, set, drop};
+ghost use Rattle.term_rules.specs.Lent.{InRecords, putRecord};
 ghost use Rattle.lent.specs.Records.{noTerm, Eight, recordsIn};
 ghost use Rattle.lent.specs.Copies.{Loaded};
 use term_rules::Term;
@@ -26,51 +24,36 @@ pub fn put_at(ts: &mut [Term], i: usize, t: Term)
     ts[i] = t;
 }
 
-// A call's own copy of the records: eleven numbers and a literal each, and how many there are.
+// A call's own copy of the records: their numbers and a literal each, and how many there are.
 pub struct Flat {
-    pub records: [u64; 11264],
+    pub records: [u64; term_layout::RECORDS],
     pub literals: [i64; 1024],
     pub room: usize,
-}
-
-// Number `j` of the eleven of a record.
-fn number_of(kind: u64, symbol: u64, count: u64, children: &[u64], j: usize) -> u64
-    requires { ⌜ j < 3 + length (now children) ⌝ }
-    ensures { λ r. ⌜ r ≡ getD (kind ∷ symbol ∷ count ∷ (now (children .entry))) j 0 ⌝ }
-{
-    if j == 0 {
-        return kind;
-    }
-    if j == 1 {
-        return symbol;
-    }
-    if j == 2 {
-        return count;
-    }
-    children[j - 3]
 }
 
 // Puts the record at `i` of the flat arrays.
 fn put_flat(records: &mut [u64], literals: &mut [i64], i: usize, t: Term)
     requires { ⌜ InRecords (now records) (now literals) i × Eight t ⌝ }
     ensures { λ _. ⌜
-        (now (records .exit) ≡ paste (now (records .entry)) (i * 11) (numbers t) 11)
+        (now (records .exit) ≡ putRecord (now (records .entry)) i t)
         × (now (literals .exit) ≡ set (now (literals .entry)) i (t .literal))
         ⌝ }
 {
-    let literal = t.literal;
-    literals[i] = literal;
     let children = t.children;
-    let at = i * 11;
-    let mut j = 0;
-    while j < 11 {
-        records[at + j] = number_of(t.kind, t.symbol, t.count, &children, j);
-        j += 1;
-    }
+    term_layout::put_record(
+        records,
+        literals,
+        i,
+        t.kind,
+        t.symbol,
+        t.count,
+        t.literal,
+        &children,
+    );
 }
 
-fn no_numbers() -> [u64; 11264] {
-    [0; 11264]
+fn no_numbers() -> [u64; term_layout::RECORDS] {
+    [0; term_layout::RECORDS]
 }
 
 fn no_literals() -> [i64; 1024] {
@@ -87,7 +70,7 @@ fn room_of(n: usize) -> usize
     1024
 }
 
-fn packed(records: [u64; 11264], literals: [i64; 1024], room: usize) -> Flat
+fn packed(records: [u64; term_layout::RECORDS], literals: [i64; 1024], room: usize) -> Flat
     ensures { λ r. ⌜ r ≡ record { records = records; literals = literals; room = room } ⌝ }
 {
     Flat {

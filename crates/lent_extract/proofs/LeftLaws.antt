@@ -8,7 +8,7 @@ use lib.IntN.{ℤ}
 use Rattle.lent_entries.specs.Entries.{entriesOf, entriesAfter, AllWide}
 use Rattle.lent_entries.proofs.EntriesLaws.{entriesAfter-front}
 use Rattle.term_rules.specs.declared.Term.{Term}
-use Rattle.term_rules.specs.Lent.{Store, store}
+use Rattle.term_rules.specs.Lent.{Store, store, recordsLength}
 use Rattle.lent.specs.declared.Flat.{Flat}
 use Rattle.lent.specs.Records.{lentStore, recordsIn, recordsAfter}
 use Rattle.lent.specs.Copies.{Loaded, storeIn}
@@ -56,17 +56,17 @@ variants-faithful (NotKept r) n m ws us =
 
 -- the store that the flat call is lent
 abbrev Given : Flat → List ℕ → ℕ → ℕ → Store
-Given f bs n m = store (take (f .room * 11) (f .records)) (take (f .room) (f .literals)) bs n m
+Given f bs n m = store (take (recordsLength (f .room)) (f .records)) (take (f .room) (f .literals)) bs n m
 
 module _ (A : Type 0) (storeOf : A → Store) (seen : Seen A) (faith : Faithful A storeOf seen) where
   -- the work answers as the flat call does, whose lists rs, ls and bs stand in front of the rest of the arrays
   worked-in :
       (f : Flat) (ns ns′ : List (List ℕ)) (wanted : A) (rs bs : List ℕ) (ls : List ℤ) →
-      length rs ≡ f .room * 11 → length ls ≡ f .room → length bs ≡ min 128 (length ns) * 32 → AllWide (take 128 ns) →
+      length rs ≡ recordsLength (f .room) → length ls ≡ f .room → length bs ≡ min 128 (length ns) * 32 → AllWide (take 128 ns) →
       ns′ ≡ entriesAfter ns bs →
       seen rs ls bs ≡ wanted →
       Worked A storeOf f ns wanted seen record {
-        records = rs ++ drop (f .room * 11) (f .records);
+        records = rs ++ drop (recordsLength (f .room)) (f .records);
         literals = ls ++ drop (f .room) (f .literals);
         room = f .room;
       } ns′
@@ -83,7 +83,7 @@ module _ (A : Type 0) (storeOf : A → Store) (seen : Seen A) (faith : Faithful 
             subst (λ (k : List ℕ). seen k (storeOf wanted .literals) (storeOf wanted .names) ≡ wanted) records
             (subst (λ (k : List ℤ). seen rs k (storeOf wanted .names) ≡ wanted) literals
             (subst (λ (k : List ℕ). seen rs ls k ≡ wanted) names e));
-        records = take-at rs (drop (f .room * 11) (f .records)) (f .room * 11) long ∙ records;
+        records = take-at rs (drop (recordsLength (f .room)) (f .records)) (recordsLength (f .room)) long ∙ records;
         literals = take-at ls (drop (f .room) (f .literals)) (f .room) wide ∙ literals;
         entries = after ∙ ap (entriesAfter ns) names;
         kept = λ same. after ∙ ap (entriesAfter ns) (names ∙ same) ∙ entriesAfter-same ns all;
@@ -95,11 +95,11 @@ module _ (A : Type 0) (storeOf : A → Store) (seen : Seen A) (faith : Faithful 
   -- a call that leaves the bytes bs′ in front of the rest of its own
   pub worked :
       (f : Flat) (ns : List (List ℕ)) (n m : ℕ) (model : Store → A) (rs bs : List ℕ) (ls : List ℤ) →
-      length rs ≡ f .room * 11 → length ls ≡ f .room → bs ≡ entriesOf (take 128 ns) → AllWide (take 128 ns) →
+      length rs ≡ recordsLength (f .room) → length ls ≡ f .room → bs ≡ entriesOf (take 128 ns) → AllWide (take 128 ns) →
       (bs′ rest : List ℕ) (ns′ : List (List ℕ)) → length bs′ ≡ min 128 (length ns) * 32 →
       ns′ ≡ entriesAfter ns (bs′ ++ rest) → seen rs ls bs′ ≡ model (Given f bs n m) →
       Worked A storeOf f ns (model (storeIn f ns n m)) seen record {
-        records = rs ++ drop (f .room * 11) (f .records);
+        records = rs ++ drop (recordsLength (f .room)) (f .records);
         literals = ls ++ drop (f .room) (f .literals);
         room = f .room;
       } ns′

@@ -6,7 +6,7 @@ use lib.ListN.{length, take}
 use lib.IntN.{ℤ}
 use Rattle.lent_entries.specs.Entries.{entriesOf, entriesAfter}
 use Rattle.term_rules.specs.declared.Term.{Term}
-use Rattle.term_rules.specs.Lent.{Store}
+use Rattle.term_rules.specs.Lent.{Store, recordsLength}
 use Rattle.lent.specs.Records.{lentStore, recordsAfter}
 use Rattle.lent.specs.declared.Flat.{Flat}
 use Rattle.answer_rules.specs.Answers.{After}
@@ -40,7 +40,7 @@ pub record Worked (A : Type 0) (storeOf : A → Store) (f : Flat) (ns : List (Li
   pub room : g .room ≡ f .room
   pub answer :
       seen (storeOf wanted .records) (storeOf wanted .literals) (storeOf wanted .names) ≡ wanted
-  pub records : take (g .room * 11) (g .records) ≡ storeOf wanted .records
+  pub records : take (recordsLength (g .room)) (g .records) ≡ storeOf wanted .records
   pub literals : take (g .room) (g .literals) ≡ storeOf wanted .literals
   pub entries : ns′ ≡ entriesAfter ns (storeOf wanted .names)
   pub kept : storeOf wanted .names ≡ entriesOf (take 128 ns) → ns′ ≡ ns

@@ -44,7 +44,7 @@ fn best_in(
     let mut records = f.records;
     let mut literals = f.literals;
     let room = f.room;
-    let e = room * 11;
+    let e = room * term_layout::WIDTH;
     let mut names = [0u8; 4096];
     let k = lent_entries::load_names(ns, &mut names);
     let b = k * 32;
@@ -112,7 +112,7 @@ fn variants_in(
     let mut records = f.records;
     let mut literals = f.literals;
     let room = f.room;
-    let e = room * 11;
+    let e = room * term_layout::WIDTH;
     let mut names = [0u8; 4096];
     let k = lent_entries::load_names(ns, &mut names);
     let b = k * 32;

@@ -8,7 +8,7 @@ use lib.IntN.{ℤ}
 use Rattle.lent_entries.specs.Entries.{entriesOf, entriesAfter, AllWide}
 use Rattle.lent_entries.proofs.EntriesLaws.{entriesOf-length, entriesAfter-front}
 use Rattle.term_rules.specs.declared.Term.{Term}
-use Rattle.term_rules.specs.Lent.{Store, store}
+use Rattle.term_rules.specs.Lent.{Store, store, recordsLength}
 use Rattle.lent.specs.declared.Flat.{Flat}
 use Rattle.lent.specs.Records.{lentStore, recordsIn, recordsAfter}
 use Rattle.lent.specs.Copies.{Loaded, storeIn}
@@ -43,18 +43,18 @@ module _ (rs : List ℕ) (ls : List ℤ) (ns : List ℕ) (n m : ℕ) where
 
 -- the store that the flat call is lent
 abbrev Given : Flat → List ℕ → ℕ → ℕ → Store
-Given f bs n m = store (take (f .room * 11) (f .records)) (take (f .room) (f .literals)) bs n m
+Given f bs n m = store (take (recordsLength (f .room)) (f .records)) (take (f .room) (f .literals)) bs n m
 
 -- the work answers as the flat call does, whose lists rs, ls and bs stand in front of the rest of the arrays
 added-in :
     (f : Flat) (ns ns′ : List (List ℕ)) (n m : ℕ) (wanted : Answer ℕ × Store) (r : Added) (rs bs : List ℕ) (ls : List
     ℤ) →
-    length rs ≡ f .room * 11 → length ls ≡ f .room → length bs ≡ min 128 (length ns) * 32 → AllWide (take 128 ns) →
+    length rs ≡ recordsLength (f .room) → length ls ≡ f .room → length bs ≡ min 128 (length ns) * 32 → AllWide (take 128 ns) →
     ns′ ≡ entriesAfter ns bs →
     seenAdded r rs ls bs n m ≡ wanted →
     AddedIn f ns n m wanted record {
       flat = record {
-        records = rs ++ drop (f .room * 11) (f .records);
+        records = rs ++ drop (recordsLength (f .room)) (f .records);
         literals = ls ++ drop (f .room) (f .literals);
         room = f .room;
       };
@@ -73,7 +73,7 @@ added-in f ns ns′ n m wanted r rs bs ls long wide size all after e =
           subst (λ (k : List ℕ). seenAdded r k (wanted .1 .literals) (wanted .1 .names) n m ≡ wanted) records
           (subst (λ (k : List ℤ). seenAdded r rs k (wanted .1 .names) n m ≡ wanted) literals
           (subst (λ (k : List ℕ). seenAdded r rs ls k n m ≡ wanted) names e));
-      records = take-at rs (drop (f .room * 11) (f .records)) (f .room * 11) long ∙ records;
+      records = take-at rs (drop (recordsLength (f .room)) (f .records)) (recordsLength (f .room)) long ∙ records;
       literals = take-at ls (drop (f .room) (f .literals)) (f .room) wide ∙ literals;
       entries = after ∙ ap (entriesAfter ns) names;
       kept = λ same. after ∙ ap (entriesAfter ns) (names ∙ same) ∙ entriesAfter-same ns all;
@@ -84,12 +84,12 @@ added-in f ns ns′ n m wanted r rs bs ls long wide size all after e =
 
 module _ (f : Flat) (ns : List (List ℕ)) (n m : ℕ) (model : Store → Answer ℕ × Store) (r : Added) (rs bs : List ℕ)
     (ls : List ℤ)
-    (long : length rs ≡ f .room * 11) (wide : length ls ≡ f .room) (copied : bs ≡ entriesOf (take 128 ns))
+    (long : length rs ≡ recordsLength (f .room)) (wide : length ls ≡ f .room) (copied : bs ≡ entriesOf (take 128 ns))
     (all : AllWide (take 128 ns)) where
   abbrev Left : Adding
   Left = record {
     flat = record {
-      records = rs ++ drop (f .room * 11) (f .records);
+      records = rs ++ drop (recordsLength (f .room)) (f .records);
       literals = ls ++ drop (f .room) (f .literals);
       room = f .room;
     };

@@ -5,7 +5,7 @@ use mathlib.Core.List.{List}
 use lib.ListN.{length, take}
 use Rattle.lent_entries.specs.Entries.{entriesOf, entriesAfter}
 use Rattle.term_rules.specs.declared.Term.{Term}
-use Rattle.term_rules.specs.Lent.{Store}
+use Rattle.term_rules.specs.Lent.{Store, recordsLength}
 use Rattle.lent.specs.Records.{lentStore, recordsAfter}
 use Rattle.lent.specs.declared.Flat.{Flat}
 use Rattle.term.specs.Answers.{Answer, seenAdded}
@@ -28,7 +28,7 @@ pub record AddedIn (f : Flat) (ns : List (List ℕ)) (n m : ℕ) (wanted : Answe
     Type 0 where
   pub room : r .flat .room ≡ f .room
   pub answer : seenAdded (r .added) (wanted .1 .records) (wanted .1 .literals) (wanted .1 .names) n m ≡ wanted
-  pub records : take (r .flat .room * 11) (r .flat .records) ≡ wanted .1 .records
+  pub records : take (recordsLength (r .flat .room)) (r .flat .records) ≡ wanted .1 .records
   pub literals : take (r .flat .room) (r .flat .literals) ≡ wanted .1 .literals
   pub entries : ns′ ≡ entriesAfter ns (wanted .1 .names)
   pub kept : wanted .1 .names ≡ entriesOf (take 128 ns) → ns′ ≡ ns

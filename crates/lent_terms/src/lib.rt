@@ -41,7 +41,7 @@ fn size_in(f: Flat, ns: &[Name], terms: usize, symbols: usize) -> Counted
     let records = f.records;
     let literals = f.literals;
     let room = f.room;
-    let e = room * 11;
+    let e = room * term_layout::WIDTH;
     let mut names = [0u8; 4096];
     let k = lent_entries::load_names(ns, &mut names);
     let b = k * 32;
@@ -72,7 +72,7 @@ fn add_literal_in(f: Flat, ns: &[Name], terms: usize, symbols: usize, literal: i
     let mut records = f.records;
     let mut literals = f.literals;
     let room = f.room;
-    let e = room * 11;
+    let e = room * term_layout::WIDTH;
     let mut names = [0u8; 4096];
     let k = lent_entries::load_names(ns, &mut names);
     let b = k * 32;
@@ -122,7 +122,7 @@ fn add_variable_in(f: Flat, ns: &mut [Name], terms: usize, symbols: usize, name:
     let mut records = f.records;
     let mut literals = f.literals;
     let room = f.room;
-    let e = room * 11;
+    let e = room * term_layout::WIDTH;
     let mut names = [0u8; 4096];
     let k = lent_entries::load_names(ns, &mut names);
     let b = k * 32;
@@ -181,7 +181,7 @@ fn add_application_in(
     let mut records = f.records;
     let mut literals = f.literals;
     let room = f.room;
-    let e = room * 11;
+    let e = room * term_layout::WIDTH;
     let mut names = [0u8; 4096];
     let k = lent_entries::load_names(ns, &mut names);
     let b = k * 32;
@@ -232,7 +232,7 @@ fn find_literal_in(f: Flat, ns: &[Name], terms: usize, symbols: usize, literal: 
     let records = f.records;
     let literals = f.literals;
     let room = f.room;
-    let e = room * 11;
+    let e = room * term_layout::WIDTH;
     let mut names = [0u8; 4096];
     let k = lent_entries::load_names(ns, &mut names);
     let b = k * 32;
@@ -264,7 +264,7 @@ fn find_variable_in(f: Flat, ns: &[Name], terms: usize, symbols: usize, name: &[
     let records = f.records;
     let literals = f.literals;
     let room = f.room;
-    let e = room * 11;
+    let e = room * term_layout::WIDTH;
     let mut names = [0u8; 4096];
     let k = lent_entries::load_names(ns, &mut names);
     let b = k * 32;
@@ -304,7 +304,7 @@ fn find_application_in(
     let records = f.records;
     let literals = f.literals;
     let room = f.room;
-    let e = room * 11;
+    let e = room * term_layout::WIDTH;
     let mut names = [0u8; 4096];
     let k = lent_entries::load_names(ns, &mut names);
     let b = k * 32;
@@ -345,7 +345,7 @@ fn get_in(f: Flat, ns: &[Name], terms: usize, symbols: usize, i: usize) -> Got
     let records = f.records;
     let literals = f.literals;
     let room = f.room;
-    let e = room * 11;
+    let e = room * term_layout::WIDTH;
     let mut names = [0u8; 4096];
     let k = lent_entries::load_names(ns, &mut names);
     let b = k * 32;
@@ -374,7 +374,7 @@ fn compare_in(f: Flat, ns: &[Name], terms: usize, symbols: usize, i: usize, j: u
     let records = f.records;
     let literals = f.literals;
     let room = f.room;
-    let e = room * 11;
+    let e = room * term_layout::WIDTH;
     let mut names = [0u8; 4096];
     let k = lent_entries::load_names(ns, &mut names);
     let b = k * 32;
@@ -417,7 +417,7 @@ fn sort_in(f: Flat, ns: &[Name], terms: usize, symbols: usize, list: &mut [u64])
     let records = f.records;
     let literals = f.literals;
     let room = f.room;
-    let e = room * 11;
+    let e = room * term_layout::WIDTH;
     let mut names = [0u8; 4096];
     let k = lent_entries::load_names(ns, &mut names);
     let b = k * 32;

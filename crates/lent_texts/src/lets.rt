@@ -32,7 +32,7 @@ fn let_text_in(
     let records = f.records;
     let literals = f.literals;
     let room = f.room;
-    let e = room * 11;
+    let e = room * term_layout::WIDTH;
     let mut names = [0u8; 4096];
     let k = lent_entries::load_names(ns, &mut names);
     let b = k * 32;

@@ -1,6 +1,6 @@
--- A symbol table in a list of bytes: 32 for each name, its length, its bytes, and zeros. Assumes nothing: these are
--- definitions.
-use Prim.Native.Nat.{ℕ, zero, suc, _+_, _*_, _-_, _≤_, _<_}
+-- A symbol table in a list of bytes: 32 for each name, its length, its bytes, and zeros. Whoever stands above this
+-- crate says where entries lie by these names alone. Assumes nothing: these are definitions.
+use Prim.Native.Nat.{ℕ, zero, suc, _+_, _*_, _-_, _/_, _≤_, _<_}
 use mathlib.Core.Path.{_≡_}
 use mathlib.Core.Bool.{Bool, true, false}
 use mathlib.Core.List.{List, [], _∷_, _++_}
@@ -10,6 +10,17 @@ use Rattle.name.specs.Name.{same}
 use Rattle.name.specs.declared.Found.{Found}
 use Rattle.name.specs.declared.Found.the-variants.{At, Missing}
 
+-- how many bytes n entries take, and how many entries fit n bytes
+abbrev pub entriesLength : ℕ → ℕ
+entriesLength n = n * 32
+
+abbrev pub entryRoom : ℕ → ℕ
+entryRoom n = n / 32
+
+-- entry k stands in the table
+abbrev pub HasEntry : List ℕ → ℕ → Type 0
+HasEntry table k = k * 32 + 32 ≤ length table
+
 -- the length that stands at entry k
 abbrev pub lengthAt : List ℕ → ℕ → ℕ
 lengthAt table k = getD table (k * 32) 0
@@ -17,6 +28,14 @@ lengthAt table k = getD table (k * 32) 0
 -- the name at entry k
 unfoldable pub nameAt : List ℕ → ℕ → List ℕ
 nameAt table k = take (k * 32 + 1 + lengthAt table k - (k * 32 + 1)) (drop (k * 32 + 1) table)
+
+-- the bytes of entry k past its name
+abbrev pub paddingAt : List ℕ → ℕ → List ℕ
+paddingAt table k = take (31 - lengthAt table k) (drop (k * 32 + 1 + lengthAt table k) table)
+
+-- byte j of the name at entry k, or what stands past it
+abbrev pub byteAt : List ℕ → ℕ → ℕ → ℕ
+byteAt table k j = getD table (k * 32 + 1 + j) 0
 
 -- the 32 bytes of a name's entry
 unfoldable pub entry : List ℕ → List ℕ
@@ -35,6 +54,11 @@ findFrom table name k (suc n) =
 -- the first of the first n entries that has the name
 unfoldable pub findName : List ℕ → ℕ → List ℕ → Found
 findName table n name = findFrom table name 0 n
+
+-- entry k stands in the table, with a name of at most 31 bytes
+pub record InEntries (table : List ℕ) (k : ℕ) : Type 0 where
+  pub long : HasEntry table k
+  pub short : lengthAt table k ≤ 31
 
 -- the first n entries stand in the table, none longer than 31 bytes
 pub record Entries (table : List ℕ) (n : ℕ) : Type 0 where

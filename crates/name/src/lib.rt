@@ -1,10 +1,25 @@
 // Names and symbol tables: which names are valid, where a name stands, and how one is put there.
 ghost use mathlib.Core.Path.{_≡_};
 ghost use mathlib.Core.Bool.{true, false};
-ghost use Prim.Native.Nat.{ℕ, _+_, _*_, _≤_, _<_};
+ghost use Prim.Native.Nat.{ℕ, _*_, _≤_};
 ghost use lib.ListN.{length, getD};
 ghost use Rattle.name.specs.Name.{allowed, allAllowed, valid, same};
-ghost use Rattle.name.specs.Entries.{Entries, entry, findName, putName};
+ghost use Rattle.name.specs.Entries.{
+  entriesLength,
+  entryRoom,
+  HasEntry,
+  lengthAt,
+  nameAt,
+  paddingAt,
+  entry,
+  findName,
+  putName,
+  InEntries,
+  Entries,
+};
+
+// The bytes of 128 entries, the most that a table has.
+pub const TABLE: usize = 4096;
 
 // Where a name stands, or that it does not.
 pub enum Found {
@@ -80,6 +95,49 @@ pub fn are_same(a: &[u8], b: &[u8]) -> bool
     true
 }
 
+// How many bytes `n` entries take.
+pub fn entries_length(n: usize) -> usize
+    requires { ⌜ n ≤ 128 ⌝ }
+    ensures { λ r. ⌜ r ≡ entriesLength n ⌝ }
+{
+    n * 32
+}
+
+// How many entries fit `n` bytes.
+pub fn entry_room(n: usize) -> usize
+    ensures { λ r. ⌜ r ≡ entryRoom n ⌝ }
+{
+    n / 32
+}
+
+// The length that stands at entry `k`.
+pub fn length_of(table: &[u8], k: usize) -> usize
+    requires { ⌜ HasEntry (now table) k ⌝ }
+    ensures { λ r. ⌜ r ≡ lengthAt (now (table .entry)) k ⌝ }
+{
+    table[k * 32] as usize
+}
+
+// The name at entry `k`.
+pub fn name_of(table: &[u8], k: usize) -> &[u8]
+    requires { ⌜ InEntries (now table) k ⌝ }
+    ensures { λ r. ⌜ now r ≡ nameAt (now (table .entry)) k ⌝ }
+{
+    let a = k * 32 + 1;
+    let e = a + table[k * 32] as usize;
+    &table[a..e]
+}
+
+// What stands past the name at entry `k`.
+pub fn padding_of(table: &[u8], k: usize) -> &[u8]
+    requires { ⌜ InEntries (now table) k ⌝ }
+    ensures { λ r. ⌜ now r ≡ paddingAt (now (table .entry)) k ⌝ }
+{
+    let a = k * 32 + 1 + table[k * 32] as usize;
+    let e = k * 32 + 32;
+    &table[a..e]
+}
+
 // The first of the first `n` entries of `table` that has the name.
 pub fn find(table: &[u8], n: usize, name: &[u8]) -> Found
     requires { ⌜ Entries (now table) n ⌝ }
@@ -87,9 +145,7 @@ pub fn find(table: &[u8], n: usize, name: &[u8]) -> Found
 {
     let mut k = 0;
     while k < n {
-        let a = k * 32 + 1;
-        let e = a + table[k * 32] as usize;
-        if are_same(&table[a..e], name) {
+        if are_same(name_of(table, k), name) {
             return Found::At(k);
         }
         k += 1;
@@ -113,7 +169,7 @@ fn entry_byte(name: &[u8], j: usize) -> u8
 
 // Puts the name at entry `k`.
 pub fn put(table: &mut [u8], k: usize, name: &[u8])
-    requires { ⌜ k * 32 + 32 ≤ length (now table) ⌝ }
+    requires { ⌜ HasEntry (now table) k ⌝ }
     requires { ⌜ length (now name) ≤ 31 ⌝ }
     ensures { λ _. ⌜ now (table .exit) ≡ putName (now (table .entry)) k (now (name .entry)) ⌝ }
 {

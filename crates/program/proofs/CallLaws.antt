@@ -7,7 +7,7 @@ use lib.IntN.{ℤ, pos}
 use lib.ListN.{length, replicate}
 use Rattle.refusal.specs.declared.Refusal.{Refusal}
 use Rattle.refusal.specs.Numbers.{refusalNo}
-use Rattle.term_rules.specs.Lent.{Store, store}
+use Rattle.term_rules.specs.Lent.{Store, store, recordsLength}
 use Rattle.term_rules.specs.WellFormed.{wellFormed}
 use Rattle.answer_rules.specs.Answers.{Answer, value, refusal, After, found, refused}
 use Rattle.answer_rules.specs.Best.{BestTerm, bestTerm, bestAt}
@@ -19,7 +19,7 @@ use Rattle.extract.proofs.WayLaws.{value-returned}
 
 -- the store that the program starts with
 abbrev pub start : Store
-start = store (replicate 11264 0) (replicate 1024 (pos 0)) (replicate 4096 0) 0 0
+start = store (replicate (recordsLength 1024) 0) (replicate 1024 (pos 0)) (replicate 4096 0) 0 0
 
 pub refusal-stays :
     (k : ℕ) (out : List ℕ) →

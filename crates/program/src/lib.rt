@@ -25,7 +25,7 @@ fn best_of(plain: bool, file: &[u8], sort: u64, value: u64, out: &mut [u8]) -> A
         ≡ putIn (inRoom (length (now (out .entry))) (bestCall plain (now (file .entry)) sort value)) (now (out .entry))
         ⌝ }
 {
-    let mut records = [0u64; 11264];
+    let mut records = [0u64; term_layout::RECORDS];
     let mut literals = [0i64; 1024];
     let mut names = [0u8; 4096];
     let best = extract::best(
@@ -63,7 +63,7 @@ fn variants_of(file: &[u8], sort: u64, value: u64, most: u64, out: &mut [u8]) ->
         (now (out .entry))
         ⌝ }
 {
-    let mut records = [0u64; 11264];
+    let mut records = [0u64; term_layout::RECORDS];
     let mut literals = [0i64; 1024];
     let mut names = [0u8; 4096];
     let mut paid = [0u64; 256];

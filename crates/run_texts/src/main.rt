@@ -156,7 +156,7 @@ fn lay(s: &[u8], out: &mut [u8]) {
     }
     let p = 22 + wide(s[2]) + wide(s[3]);
     let r = wide(s[4]);
-    let m = r * 11;
+    let m = r * term_layout::WIDTH;
     let a = p + m;
     let b = a + r * 8;
     if s.len() < b {

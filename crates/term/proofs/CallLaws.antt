@@ -12,12 +12,11 @@ use Rattle.name.specs.Name.{valid}
 use Rattle.name.specs.declared.Found.the-variants.{At, Missing}
 use Rattle.refusal.specs.declared.Refusal.{Refusal}
 use Rattle.refusal.specs.declared.Refusal.the-variants.{BadStore, BadName, BadSize, BadTerm, NoRoom, Absent}
-use Rattle.term_rules.specs.Lent.{Store, store, recordAt}
+use Rattle.term_rules.specs.Lent.{Store, store, recordAt, InRecords}
 use Rattle.term_rules.specs.WellFormed.{allBelow, wellFormed}
 use Rattle.term_rules.specs.Nodes.{Node, literal}
 use Rattle.term_rules.specs.Adding.{findTerm, at, noRoom, add}
 use Rattle.term_rules.proofs.FactsLaws.{sound-of-wellFormed}
-use Rattle.term_record.specs.Flat.{InRecords}
 use Rattle.order.specs.declared.Ordering.{Ordering}
 use Rattle.order.specs.Sort.{sorted}
 use Rattle.order.proofs.Sorting.CountLaws.{place-of-count}

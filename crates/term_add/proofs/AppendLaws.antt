@@ -1,5 +1,5 @@
 -- What appending writes is what adding asks for. Assumes nothing.
-use Prim.Native.Nat.{ℕ, _+_, _*_, _/_, _≤_, _<_, min}
+use Prim.Native.Nat.{ℕ, _+_, _≤_, _<_, min}
 use mathlib.Core.Path.{_≡_, refl, sym, _∙_}
 use mathlib.Core.Bool.{true, false}
 use mathlib.Core.List.{List, []}
@@ -7,13 +7,12 @@ use native.Mathlib.Omega.{arith}
 use borrow.Author.Tests.{lt-ltb, le-ltb, ltb-true, leb-true}
 use lib.Dec.{leb}
 use lib.ListN.{length, set}
-use lib.Seq.{paste}
 use lib.IntN.{ℤ, pos}
 use Rattle.name.specs.Name.{valid}
-use Rattle.name.specs.Entries.{findName, putName}
+use Rattle.name.specs.Entries.{entriesLength, entryRoom, findName, putName}
 use Rattle.name.specs.declared.Found.{Found}
 use Rattle.name.specs.declared.Found.the-variants.{At, Missing}
-use Rattle.term_rules.specs.Lent.{Store, store, numbers, termRoom, symbolRoom}
+use Rattle.term_rules.specs.Lent.{Store, store, recordsLength, recordRoom, putRecord, termRoom, symbolRoom}
 use Rattle.term_rules.specs.Nodes.{Node, literal, variable, application, recordOf}
 use Rattle.term_rules.specs.Adding.{
   findTerm,
@@ -42,23 +41,23 @@ use Rattle.term_add.specs.Interning.{roomIn, nameRoomIn, Leaves, appendN
 use Rattle.term_add.specs.declared.Added.{Added}
 use Rattle.term_add.specs.declared.Added.the-variants.{Term as term, NoRoom}
 
-pub room-refuses : (r l n : ℕ) → min 1024 (min (r / 11) l) ≤ n → false ≡ roomIn r l n
-room-refuses r l n h = sym (le-ltb n (min 1024 (min (r / 11) l)) h)
+pub room-refuses : (r l n : ℕ) → min 1024 (min (recordRoom r) l) ≤ n → false ≡ roomIn r l n
+room-refuses r l n h = sym (le-ltb n (min 1024 (min (recordRoom r) l)) h)
 
-pub room-holds : (r l n : ℕ) → n < min 1024 (min (r / 11) l) → true ≡ roomIn r l n
-room-holds r l n h = sym (lt-ltb n (min 1024 (min (r / 11) l)) h)
+pub room-holds : (r l n : ℕ) → n < min 1024 (min (recordRoom r) l) → true ≡ roomIn r l n
+room-holds r l n h = sym (lt-ltb n (min 1024 (min (recordRoom r) l)) h)
 
-pub room-get : (r l n : ℕ) → roomIn r l n ≡ true → (n < 1024) × (n * 11 + 11 ≤ r) × (n < l)
-room-get r l n e = let h = ltb-true n (min 1024 (min (r / 11) l)) e in (omega arith, omega arith, omega arith)
+pub room-get : (r l n : ℕ) → roomIn r l n ≡ true → (n < 1024) × (recordsLength (n + 1) ≤ r) × (n < l)
+room-get r l n e = let h = ltb-true n (min 1024 (min (recordRoom r) l)) e in (omega arith, omega arith, omega arith)
 
-pub name-room-refuses : (r m : ℕ) → min 128 (r / 32) ≤ m → false ≡ nameRoomIn r m
-name-room-refuses r m h = sym (le-ltb m (min 128 (r / 32)) h)
+pub name-room-refuses : (r m : ℕ) → min 128 (entryRoom r) ≤ m → false ≡ nameRoomIn r m
+name-room-refuses r m h = sym (le-ltb m (min 128 (entryRoom r)) h)
 
-pub name-room-holds : (r m : ℕ) → m < min 128 (r / 32) → true ≡ nameRoomIn r m
-name-room-holds r m h = sym (lt-ltb m (min 128 (r / 32)) h)
+pub name-room-holds : (r m : ℕ) → m < min 128 (entryRoom r) → true ≡ nameRoomIn r m
+name-room-holds r m h = sym (lt-ltb m (min 128 (entryRoom r)) h)
 
-pub name-room-get : (r m : ℕ) → nameRoomIn r m ≡ true → (m < 128) × (m * 32 + 32 ≤ r)
-name-room-get r m e = let h = ltb-true m (min 128 (r / 32)) e in (omega arith, omega arith)
+pub name-room-get : (r m : ℕ) → nameRoomIn r m ≡ true → (m < 128) × (entriesLength (m + 1) ≤ r)
+name-room-get r m e = let h = ltb-true m (min 128 (entryRoom r)) e in (omega arith, omega arith)
 
 -- a valid name is short
 pub valid-short : (name : List ℕ) → valid name ≡ true → length name ≤ 31
@@ -91,7 +90,7 @@ module _ (rs : List ℕ) (ls : List ℤ) (ns : List ℕ) (n m : ℕ) where
     pub literal-put :
         (rs′ : List ℕ) (ls′ : List ℤ) →
         roomIn (length rs) (length ls) n ≡ true →
-        rs′ ≡ paste rs (n * 11) (numbers (filled 0 0 z [])) 11 →
+        rs′ ≡ putRecord rs n (filled 0 0 z []) →
         ls′ ≡ set ls n z →
         Leaves (store rs ls ns n m) (appendLiteral (store rs ls ns n m) z) (term n (n + 1) m) rs′ ls′ ns
     unfolding appendLiteral termRoom withRecord
@@ -105,7 +104,7 @@ module _ (rs : List ℕ) (ls : List ℤ) (ns : List ℕ) (n m : ℕ) where
         k′ ≡ k →
         at n (withRecord s′ (filled kind k′ (pos 0) ks))
         ≡ at n
-        (store (paste (t .records) (t .terms * 11) (numbers (filled kind k (pos 0) ks)) 11)
+        (store (putRecord (t .records) (t .terms) (filled kind k (pos 0) ks))
         (set (t .literals) (t .terms) (pos 0))
         (t .names) (t .terms + 1) (t .symbols))
     unfolding withRecord
@@ -142,7 +141,7 @@ module _ (rs : List ℕ) (ls : List ℤ) (ns : List ℕ) (n m : ℕ) where
             findName ns m name ≡ Missing →
             nameRoomIn (length ns) m ≡ true →
             ns′ ≡ putName ns m name →
-            rs′ ≡ paste rs (n * 11) (numbers (filled kind m (pos 0) ks)) 11 →
+            rs′ ≡ putRecord rs n (filled kind m (pos 0) ks) →
             Leaves (store rs ls ns n m) (appendNamed (store rs ls ns n m) kind name ks)
             (term n (n + 1) (m + 1)) rs′ ls′
             ns′
@@ -157,7 +156,7 @@ module _ (rs : List ℕ) (ls : List ℤ) (ns : List ℕ) (n m : ℕ) where
         pub named-old :
             (k : ℕ) →
             findName ns m name ≡ At k →
-            rs′ ≡ paste rs (n * 11) (numbers (filled kind k (pos 0) ks)) 11 →
+            rs′ ≡ putRecord rs n (filled kind k (pos 0) ks) →
             Leaves (store rs ls ns n m) (appendNamed (store rs ls ns n m) kind name ks) (term n (n + 1) m) rs′ ls′ ns
         named-old k f p =
             let s = store rs ls ns n m in

@@ -1,20 +1,20 @@
 -- A search for a record of the right parts is a search for the term. Assumes nothing.
-use Prim.Native.Nat.{ℕ, _+_, _*_, _-_, _≤_, _<_}
+use Prim.Native.Nat.{ℕ, _≤_, _<_}
 use mathlib.Core.Path.{_≡_, refl, ap, sym, _∙_}
 use mathlib.Core.Bool.{Bool, true, false, _&&_}
 use mathlib.Core.List.{List, []}
 use native.Mathlib.Omega.{arith}
 use borrow.Author.Tests.{eq-eqb, ne-eqb, eqb-true}
 use lib.Dec.{eqb}
-use lib.ListN.{length, getD, take, drop}
-use lib.Seq.{length-take-le, take-take}
+use lib.ListN.{length, getD, take}
+use lib.Seq.{length-take-le}
 use lib.IntN.{ℤ, pos}
 use Rattle.name.specs.Name.{same}
 use Rattle.name.specs.Entries.{Entries, nameAt}
 use Rattle.name.specs.declared.Found.{Found}
 use Rattle.name.specs.declared.Found.the-variants.{At, Missing}
 use Rattle.term_rules.specs.declared.Term.{Term}
-use Rattle.term_rules.specs.Lent.{Store, store, recordIn, recordAt, symbolAt}
+use Rattle.term_rules.specs.Lent.{Store, kindAt, symbolNo, arityAt, kidsAt, recordIn, recordAt, symbolAt}
 use Rattle.term_rules.specs.WellFormed.{sameInt}
 use Rattle.term_rules.specs.Nodes.{literal, variable, application, nodeOf, nodeAt, sameNode}
 use Rattle.term_rules.specs.Adding.{firstFrom, findTerm, findSymbol}
@@ -31,7 +31,7 @@ use Rattle.term_rules.specs.Facts.{
 use Rattle.term_rules.proofs.TestLaws.{same-test, and-first, and-second, and-both}
 use Rattle.term_rules.proofs.SameLaws.{same-tells, sameInt-tells, tells-yes, tells-no}
 use Rattle.term_rules.proofs.KindLaws.{byKind-literal, byKind-variable, byKind-application}
-use Rattle.term_rules.proofs.FactsLaws.{children-length}
+use Rattle.term_rules.proofs.LayoutLaws.{children-length}
 use Rattle.term_rules.proofs.SearchLaws.{first-at, first-missing, first-same, first-none, findName-first}
 use Rattle.term_add.specs.Interning.{has, hasAt}
 
@@ -174,51 +174,47 @@ module _ (s : Store) (w : Sound s) where
 
 -- the steps of a record's test
 module _ (rs : List ℕ) (ls : List ℤ) (i kind symbol : ℕ) (z : ℤ) (ks : List ℕ) where
-  pub kind-refuses : (getD rs (i * 11) 0 ≡ kind → ⊥) → hasAt rs ls kind symbol z ks i ≡ false
+  pub kind-refuses : (kindAt rs i ≡ kind → ⊥) → hasAt rs ls kind symbol z ks i ≡ false
   unfolding has recordIn
-  kind-refuses n = rw (ne-eqb (getD rs (i * 11) 0) kind n)
+  kind-refuses n = rw (ne-eqb (kindAt rs i) kind n)
 
-  module _ (a : getD rs (i * 11) 0 ≡ kind) where
-    pub symbol-refuses : (getD rs (i * 11 + 1) 0 ≡ symbol → ⊥) → hasAt rs ls kind symbol z ks i ≡ false
+  module _ (a : kindAt rs i ≡ kind) where
+    pub symbol-refuses : (symbolNo rs i ≡ symbol → ⊥) → hasAt rs ls kind symbol z ks i ≡ false
     unfolding has recordIn
-    symbol-refuses n = rw (eq-eqb (getD rs (i * 11) 0) kind a, ne-eqb (getD rs (i * 11 + 1) 0) symbol n)
+    symbol-refuses n = rw (eq-eqb (kindAt rs i) kind a, ne-eqb (symbolNo rs i) symbol n)
 
-    module _ (b : getD rs (i * 11 + 1) 0 ≡ symbol) where
-      pub count-refuses : (getD rs (i * 11 + 2) 0 ≡ length ks → ⊥) → hasAt rs ls kind symbol z ks i ≡ false
+    module _ (b : symbolNo rs i ≡ symbol) where
+      pub count-refuses : (arityAt rs i ≡ length ks → ⊥) → hasAt rs ls kind symbol z ks i ≡ false
       unfolding has recordIn
       count-refuses n =
           rw (
-            eq-eqb (getD rs (i * 11) 0) kind a,
-            eq-eqb (getD rs (i * 11 + 1) 0) symbol b,
-            ne-eqb (getD rs (i * 11 + 2) 0) (length ks) n,
+            eq-eqb (kindAt rs i) kind a,
+            eq-eqb (symbolNo rs i) symbol b,
+            ne-eqb (arityAt rs i) (length ks) n,
           )
 
-      module _ (c : getD rs (i * 11 + 2) 0 ≡ length ks) where
+      module _ (c : arityAt rs i ≡ length ks) where
         pub literal-refuses : (getD ls i (pos 0) ≡ z → ⊥) → hasAt rs ls kind symbol z ks i ≡ false
         unfolding has recordIn
         literal-refuses n =
             rw (
-              eq-eqb (getD rs (i * 11) 0) kind a,
-              eq-eqb (getD rs (i * 11 + 1) 0) symbol b,
-              eq-eqb (getD rs (i * 11 + 2) 0) (length ks) c,
+              eq-eqb (kindAt rs i) kind a,
+              eq-eqb (symbolNo rs i) symbol b,
+              eq-eqb (arityAt rs i) (length ks) c,
               tells-no sameInt sameInt-tells (getD ls i (pos 0)) z n,
             )
 
         pub children-rest :
-            length ks ≤ 8 →
             getD ls i (pos 0) ≡ z →
-            same (take (i * 11 + 3 + length ks - (i * 11 + 3)) (drop (i * 11 + 3) rs)) ks ≡ hasAt rs
-            ls kind symbol z ks i
+            same (kidsAt rs i) ks ≡ hasAt rs ls kind symbol z ks i
         unfolding has recordIn
-        children-rest h d =
-            let n : i * 11 + 3 + length ks - (i * 11 + 3) ≡ length ks = omega arith in
+        children-rest d =
             rw (
-              n,
-              eq-eqb (getD rs (i * 11) 0) kind a,
-              eq-eqb (getD rs (i * 11 + 1) 0) symbol b,
-              eq-eqb (getD rs (i * 11 + 2) 0) (length ks) c,
+              c,
+              eq-eqb (kindAt rs i) kind a,
+              eq-eqb (symbolNo rs i) symbol b,
+              eq-eqb (length ks) (length ks) refl,
               tells-yes sameInt sameInt-tells (getD ls i (pos 0)) z d,
-              take-take (length ks) 8 (drop (i * 11 + 3) rs) h,
             )
 
 -- the search for a record is the search for the term

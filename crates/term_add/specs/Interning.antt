@@ -1,14 +1,15 @@
 -- What searching and adding answer, and what they leave. Assumes nothing: these are definitions.
-use Prim.Native.Nat.{ℕ, _+_, _*_, _≤_, _<_, _/_, min}
+use Prim.Native.Nat.{ℕ, min}
 use mathlib.Core.Path.{_≡_}
 use mathlib.Core.Bool.{Bool, true, false, _&&_}
 use mathlib.Core.List.{List, []}
 use lib.ListN.{length, take}
 use lib.Dec.{eqb, ltb}
 use lib.IntN.{ℤ, pos}
-use Rattle.name.specs.Name.{same, valid}
+use Rattle.name.specs.Name.{same}
+use Rattle.name.specs.Entries.{entryRoom}
 use Rattle.term_rules.specs.declared.Term.{Term}
-use Rattle.term_rules.specs.Lent.{Store, store, recordIn, termRoom}
+use Rattle.term_rules.specs.Lent.{Store, store, recordRoom, recordIn, termRoom}
 use Rattle.term_rules.specs.WellFormed.{sameInt, wellFormed, allBelow}
 use Rattle.term_rules.specs.Nodes.{Node}
 use Rattle.term_rules.specs.Adding.{Adds, at, noRoom, add, withName, withRecord, symbolFor, roomForName}
@@ -28,10 +29,10 @@ hasAt rs ls kind symbol z ks i = has (recordIn rs ls i) kind symbol z ks
 
 -- whether one more record, or one more name, fits these lengths
 abbrev pub roomIn : ℕ → ℕ → ℕ → Bool
-roomIn records literals terms = ltb terms (min 1024 (min (records / 11) literals))
+roomIn records literals terms = ltb terms (min 1024 (min (recordRoom records) literals))
 
 abbrev pub nameRoomIn : ℕ → ℕ → Bool
-nameRoomIn names symbols = ltb symbols (min 128 (names / 32))
+nameRoomIn names symbols = ltb symbols (min 128 (entryRoom names))
 
 -- the answer of a call, with the lists that it left
 abbrev pub seenAdded : Added → List ℕ → List ℤ → List ℕ → Adds

@@ -1,14 +1,13 @@
 // Terms looked for and added in a lent store that is well formed: `add_node`, `lit`, `var`, `app` of src/termdag.rs.
 ghost use mathlib.Core.Path.{_≡_};
 ghost use mathlib.Core.Bool.{true, false};
-ghost use Prim.Native.Nat.{ℕ, _+_, _*_, _≤_, _<_};
+ghost use Prim.Native.Nat.{ℕ, _≤_, _<_};
 ghost use lib.ListN.{length};
 ghost use Rattle.name.specs.Name.{valid};
-ghost use Rattle.term_rules.specs.Lent.{store};
+ghost use Rattle.term_rules.specs.Lent.{store, recordsLength, InRecords};
 ghost use Rattle.term_rules.specs.WellFormed.{allBelow, wellFormed};
 ghost use Rattle.term_rules.specs.Nodes.{literal, variable, application};
 ghost use Rattle.term_rules.specs.Adding.{firstFrom, findTerm, add};
-ghost use Rattle.term_record.specs.Flat.{InRecords};
 ghost use Rattle.term_add.specs.Interning.{has, hasAt, roomIn, nameRoomIn, Leaves, appendNamed, appendLiteral};
 use name::Found;
 
@@ -32,22 +31,19 @@ fn is_record(
     ensures { λ r.
         ⌜ r ≡ hasAt (now (records .entry)) (now (literals .entry)) kind symbol literal (now (children .entry)) i ⌝ }
 {
-    let at = i * 11;
-    if records[at] != kind {
+    if term_layout::kind_of(records, i) != kind {
         return false;
     }
-    if records[at + 1] != symbol {
+    if term_layout::symbol_of(records, i) != symbol {
         return false;
     }
-    if records[at + 2] != children.len() as u64 {
+    if term_layout::count_of(records, i) != children.len() as u64 {
         return false;
     }
     if literals[i] != literal {
         return false;
     }
-    let a = at + 3;
-    let e = a + children.len();
-    term_record::are_equal(&records[a..e], children)
+    term_record::are_equal(term_layout::children_of(records, i), children)
 }
 
 // The first of the first `terms` records that has these parts: at most `terms` record compares.
@@ -60,7 +56,7 @@ fn find_record(
     literal: i64,
     children: &[u64],
 ) -> Found
-    requires { ⌜ (terms * 11 ≤ length (now records)) × (terms ≤ length (now literals)) ⌝ }
+    requires { ⌜ (recordsLength terms ≤ length (now records)) × (terms ≤ length (now literals)) ⌝ }
     requires { ⌜ length (now children) ≤ 8 ⌝ }
     ensures { λ r. ⌜
         r
@@ -152,7 +148,7 @@ fn has_room(records: usize, literals: usize, terms: usize) -> bool
     if 1024 <= terms {
         return false;
     }
-    if records / 11 <= terms {
+    if term_layout::record_room(records) <= terms {
         return false;
     }
     if literals <= terms {
@@ -168,7 +164,7 @@ fn has_name_room(names: usize, symbols: usize) -> bool
     if 128 <= symbols {
         return false;
     }
-    if names / 32 <= symbols {
+    if name::entry_room(names) <= symbols {
         return false;
     }
     true
@@ -194,7 +190,7 @@ fn append_literal(
         return Added::NoRoom;
     }
     let none = [0u64; 8];
-    term_record::put_record(records, literals, terms, 0, 0, literal, &none[..0]);
+    term_layout::put_record(records, literals, terms, 0, 0, 0, literal, &none[..0]);
     Added::Term(terms, terms + 1, symbols)
 }
 
@@ -227,10 +223,28 @@ fn append_named(
             return Added::NoRoom;
         }
         name::put(names, symbols, name);
-        term_record::put_record(records, literals, terms, kind, symbols as u64, 0, children);
+        term_layout::put_record(
+            records,
+            literals,
+            terms,
+            kind,
+            symbols as u64,
+            children.len() as u64,
+            0,
+            children,
+        );
         return Added::Term(terms, terms + 1, symbols + 1);
     };
-    term_record::put_record(records, literals, terms, kind, symbol as u64, 0, children);
+    term_layout::put_record(
+        records,
+        literals,
+        terms,
+        kind,
+        symbol as u64,
+        children.len() as u64,
+        0,
+        children,
+    );
     Added::Term(terms, terms + 1, symbols)
 }
 

@@ -1,9 +1,8 @@
 -- Two records by all but their children, and where their children first differ. Assumes nothing: these are definitions.
-use Prim.Native.Nat.{ℕ, _+_, _*_, _≤_, _<_}
+use Prim.Native.Nat.{ℕ, _≤_, _<_}
 use mathlib.Core.Path.{_≡_}
 use mathlib.Core.List.{List}
 use lib.ListN.{length, getD}
-use Rattle.name.specs.Entries.{lengthAt}
 use Rattle.order.specs.declared.Ordering.{Ordering}
 use Rattle.order.specs.declared.Ordering.the-variants.{Less, Same, More}
 use Rattle.order.specs.Compare.{thenBy, numbers, lists}
@@ -21,11 +20,6 @@ heads (variable m) (application n ks) = Less
 heads (application m js) (literal z) = More
 heads (application m js) (variable n) = More
 heads (application m js) (application n ks) = thenBy (lists m n) (numbers (length js) (length ks))
-
--- entry k stands in the table, with a name of at most 31 bytes
-pub record InNames (table : List ℕ) (k : ℕ) : Type 0 where
-  pub long : k * 32 + 32 ≤ length table
-  pub short : lengthAt table k ≤ 31
 
 -- place j is the first at which two lists of eight differ, or there is none and j is 8
 pub record FirstApart (js ks : List ℕ) (j : ℕ) : Type 0 where

@@ -15,12 +15,12 @@ use lib.IntN.{ℤ, pos, natAbs}
 use lib.ListN.{length, getD, set, take, drop, replicate, length-set, length-replicate}
 use lib.Seq.{drop-cons, getD-set-same, getD-set-other}
 use Rattle.name.proofs.NameLaws.{drop-end}
-use Rattle.term_rules.specs.Lent.{recordIn}
+use Rattle.term_rules.specs.Lent.{symbolNo, placesAt, recordIn}
 use Rattle.term_rules.specs.WellFormed.{every, sameTerm}
 use Rattle.term_rules.proofs.TestLaws.{cases, every-of, every-fails, every-start, every-more}
 use Rattle.term_rules.proofs.SameLaws.{sameTerm-tells}
 use Rattle.term_record.specs.Flat.{freshRecord}
-use Rattle.term_record.proofs.RecordLaws.{zeros-get}
+use Rattle.name.proofs.PasteLaws.{getD-zeros}
 use Rattle.term_record.specs.Buckets.{digestFrom, bucketOf, bucketIn, Last, Chained, Lasts}
 
 leb-cases : (p k : ℕ) → (p ≤ k) ⊎ (k < p)
@@ -172,17 +172,13 @@ module _ (rs : List ℕ) (ls : List ℤ) (i : ℕ) where
 -- The bucket, from the record's numbers as they stand in the list.
 pub bucket-is :
     (rs : List ℕ) (ls : List ℤ) (i h m : ℕ) →
-    h ≡ digestFrom (getD rs (i * 11 + 1) 0 % 1021) (take (i * 11 + 11 - (i * 11 + 3)) (drop (i * 11 + 3) rs)) →
+    h ≡ digestFrom (symbolNo rs i % 1021) (placesAt rs i) →
     m ≡ natAbs (getD ls i (pos 0)) →
     (h + m % 1021) % 1021 ≡ bucketIn rs ls i
 unfolding bucketOf recordIn
 bucket-is rs ls i h m e f =
-    let d : i * 11 + 11 - (i * 11 + 3) ≡ 8 = omega arith in
-    let g : h ≡ digestFrom (getD rs (i * 11 + 1) 0 % 1021) (take 8 (drop (i * 11 + 3) rs)) =
-    e ∙ ap (λ (n : ℕ). digestFrom (getD rs (i * 11 + 1) 0 % 1021) (take n (drop (i * 11 + 3) rs))) d in
-    ap (λ (x : ℕ). (x + m % 1021) % 1021) g
-    ∙ ap
-    (λ (x : ℕ). (digestFrom (getD rs (i * 11 + 1) 0 % 1021) (take 8 (drop (i * 11 + 3) rs)) + x % 1021) % 1021) f
+    ap (λ (x : ℕ). (x + m % 1021) % 1021) e
+    ∙ ap (λ (x : ℕ). (digestFrom (symbolNo rs i % 1021) (placesAt rs i) + x % 1021) % 1021) f
 
 -- The walk over all records: those below i are new and stand in their buckets.
 pub record Placed (rs : List ℕ) (ls : List ℤ) (n : ℕ) (lasts nexts : List ℕ) (i : ℕ) : Type 0 where
@@ -200,7 +196,7 @@ module _ (rs : List ℕ) (ls : List ℤ) (n : ℕ) where
     new = every-start (freshRecord rs ls);
     lasts-long = length-replicate a 0 ∙ e;
     nexts-long = length-replicate b 0 ∙ f;
-    lasts-are = λ c l. subst (Last (bucketIn rs ls) c 0) (sym (zeros-get a c)) (last-none (bucketIn rs ls) c);
+    lasts-are = λ c l. subst (Last (bucketIn rs ls) c 0) (sym (getD-zeros a c)) (last-none (bucketIn rs ls) c);
     nexts-are = λ j l. let g : ⊥ = omega (arith, l) in absurd g;
   }
 

@@ -1,19 +1,30 @@
 -- What each test of a record or of a name's entry decides. Assumes nothing.
-use Prim.Native.Nat.{ℕ, _+_, _*_, _-_, _/_, _≤_, _<_, min}
+use Prim.Native.Nat.{ℕ, _≤_, _<_, min}
 use mathlib.Core.Path.{_≡_, refl, sym, _∙_}
 use mathlib.Core.Bool.{Bool, true, false, _&&_, not}
 use mathlib.Core.List.{List}
 use native.Mathlib.Omega.{arith}
 use borrow.Author.Tests.{eq-eqb, ne-eqb, lt-ltb, le-ltb, le-leb, lt-leb, leb-true}
 use lib.Dec.{leb}
-use lib.ListN.{length, getD, take, drop}
-use lib.Seq.{take-take, drop-drop}
+use lib.ListN.{length, getD, drop}
 use lib.IntN.{ℤ, pos}
 use Rattle.name.specs.Name.{valid, same}
-use Rattle.name.specs.Entries.{Entries, lengthAt, nameAt, findName}
+use Rattle.name.specs.Entries.{entriesLength, entryRoom, lengthAt, nameAt, paddingAt, findName, Entries}
 use Rattle.name.specs.declared.Found.{Found}
 use Rattle.name.specs.declared.Found.the-variants.{At, Missing}
-use Rattle.term_rules.specs.Lent.{store, recordIn, termRoom, symbolRoom}
+use Rattle.term_rules.specs.Lent.{
+  store,
+  recordsLength,
+  recordRoom,
+  kindAt,
+  symbolNo,
+  arityAt,
+  placesAt,
+  kidsAt,
+  recordIn,
+  termRoom,
+  symbolRoom,
+}
 use Rattle.term_rules.specs.WellFormed.{
   every,
   allZero,
@@ -33,22 +44,21 @@ use Rattle.term_rules.proofs.TestLaws.{and-false, and-first, and-second, every-
 use Rattle.term_rules.proofs.SearchLaws.{first-at, first-missing, findName-first}
 use Rattle.term_rules.proofs.FactsLaws.{soundName-get}
 use Rattle.term_rules.proofs.SameLaws.{sameInt-tells, tells-yes, tells-no}
-use Rattle.term_rules.proofs.ListLaws.{drop-take}
 use Rattle.term_rules.proofs.KindLaws.{byKind-literal, byKind-variable, byKind-application, byKind-other}
 use Rattle.term_record.specs.Flat.{within, freshName, freshRecord, soundRecordAt}
 
 module _ (r l n t m : ℕ) where
-  pub within-terms-refuses : min 1024 (min (r / 11) l) < t → within r l n t m ≡ false
+  pub within-terms-refuses : min 1024 (min (recordRoom r) l) < t → within r l n t m ≡ false
   unfolding within
-  within-terms-refuses h = rw (lt-leb t (min 1024 (min (r / 11) l)) h)
+  within-terms-refuses h = rw (lt-leb t (min 1024 (min (recordRoom r) l)) h)
 
-  pub within-symbols-refuses : min 128 (n / 32) < m → within r l n t m ≡ false
+  pub within-symbols-refuses : min 128 (entryRoom n) < m → within r l n t m ≡ false
   unfolding within
-  within-symbols-refuses h = and-false (leb t (min 1024 (min (r / 11) l))) _ (lt-leb m (min 128 (n / 32)) h)
+  within-symbols-refuses h = and-false (leb t (min 1024 (min (recordRoom r) l))) _ (lt-leb m (min 128 (entryRoom n)) h)
 
-  pub within-holds : t ≤ min 1024 (min (r / 11) l) → m ≤ min 128 (n / 32) → within r l n t m ≡ true
+  pub within-holds : t ≤ min 1024 (min (recordRoom r) l) → m ≤ min 128 (entryRoom n) → within r l n t m ≡ true
   unfolding within
-  within-holds h k = rw (le-leb t (min 1024 (min (r / 11) l)) h, le-leb m (min 128 (n / 32)) k)
+  within-holds h k = rw (le-leb t (min 1024 (min (recordRoom r) l)) h, le-leb m (min 128 (entryRoom n)) k)
 
 -- a name's entry
 module _ (ns : List ℕ) (k : ℕ) where
@@ -57,185 +67,151 @@ module _ (ns : List ℕ) (k : ℕ) where
   name-long-refuses h = rw (lt-leb (lengthAt ns k) 31 h)
 
   module _ (h : lengthAt ns k ≤ 31) where
-    pub name-bad-refuses :
-        valid (take (k * 32 + 1 + lengthAt ns k - (k * 32 + 1)) (drop (k * 32 + 1) ns)) ≡ false →
-        soundName ns k ≡ false
+    pub name-bad-refuses : valid (nameAt ns k) ≡ false → soundName ns k ≡ false
     unfolding soundName
-    name-bad-refuses e =
-        let d : k * 32 + 1 + lengthAt ns k - (k * 32 + 1) ≡ lengthAt ns k = omega arith in
-        rw (le-leb (lengthAt ns k) 31 h, rw d at e)
+    name-bad-refuses e = rw (le-leb (lengthAt ns k) 31 h, e)
 
-    pub name-rest :
-        valid (take (k * 32 + 1 + lengthAt ns k - (k * 32 + 1)) (drop (k * 32 + 1) ns)) ≡ true →
-        allZero (take (k * 32 + 32 - (k * 32 + 1 + lengthAt ns k))
-        (drop (k * 32 + 1 + lengthAt ns k) ns)) ≡ soundName ns k
+    pub name-rest : valid (nameAt ns k) ≡ true → allZero (paddingAt ns k) ≡ soundName ns k
     unfolding soundName
-    name-rest e =
-        let d : k * 32 + 1 + lengthAt ns k - (k * 32 + 1) ≡ lengthAt ns k = omega arith in
-        let f : k * 32 + 32 - (k * 32 + 1 + lengthAt ns k) ≡ 31 - lengthAt ns k = omega arith in
-        rw (f, le-leb (lengthAt ns k) 31 h, rw d at e)
+    name-rest e = rw (le-leb (lengthAt ns k) 31 h, e)
 
 -- a record
 module _ (rs : List ℕ) (ls : List ℤ) (i : ℕ) where
-  eight : i * 11 + 11 - (i * 11 + 3) ≡ 8
-  eight = omega arith
-
-  pub literal-symbol-refuses : (getD rs (i * 11 + 1) 0 ≡ 0 → ⊥) → soundLiteral (recordIn rs ls i) ≡ false
+  pub literal-symbol-refuses : (symbolNo rs i ≡ 0 → ⊥) → soundLiteral (recordIn rs ls i) ≡ false
   unfolding soundLiteral recordIn
-  literal-symbol-refuses n = rw (ne-eqb (getD rs (i * 11 + 1) 0) 0 n)
+  literal-symbol-refuses n = rw (ne-eqb (symbolNo rs i) 0 n)
 
-  module _ (a : getD rs (i * 11 + 1) 0 ≡ 0) where
-    pub literal-count-refuses : (getD rs (i * 11 + 2) 0 ≡ 0 → ⊥) → soundLiteral (recordIn rs ls i) ≡ false
+  module _ (a : symbolNo rs i ≡ 0) where
+    pub literal-count-refuses : (arityAt rs i ≡ 0 → ⊥) → soundLiteral (recordIn rs ls i) ≡ false
     unfolding soundLiteral recordIn
-    literal-count-refuses n = rw (a, ne-eqb (getD rs (i * 11 + 2) 0) 0 n)
+    literal-count-refuses n = rw (a, ne-eqb (arityAt rs i) 0 n)
 
     pub literal-rest :
-        getD rs (i * 11 + 2) 0 ≡ 0 →
-        allZero (take (i * 11 + 11 - (i * 11 + 3)) (drop (i * 11 + 3) rs)) ≡ soundLiteral (recordIn rs ls i)
+        arityAt rs i ≡ 0 →
+        allZero (placesAt rs i) ≡ soundLiteral (recordIn rs ls i)
     unfolding soundLiteral recordIn
-    literal-rest b = rw (eight, a, b)
+    literal-rest b = rw (a, b)
 
   module _ (m : ℕ) where
-    pub variable-symbol-refuses : m ≤ getD rs (i * 11 + 1) 0 → soundVariable m (recordIn rs ls i) ≡ false
+    pub variable-symbol-refuses : m ≤ symbolNo rs i → soundVariable m (recordIn rs ls i) ≡ false
     unfolding soundVariable recordIn
-    variable-symbol-refuses h = rw (le-ltb (getD rs (i * 11 + 1) 0) m h)
+    variable-symbol-refuses h = rw (le-ltb (symbolNo rs i) m h)
 
-    pub application-symbol-refuses : m ≤ getD rs (i * 11 + 1) 0 → soundApplication m i (recordIn rs ls i) ≡ false
+    pub application-symbol-refuses : m ≤ symbolNo rs i → soundApplication m i (recordIn rs ls i) ≡ false
     unfolding soundApplication recordIn
-    application-symbol-refuses h = rw (le-ltb (getD rs (i * 11 + 1) 0) m h)
+    application-symbol-refuses h = rw (le-ltb (symbolNo rs i) m h)
 
-    module _ (a : getD rs (i * 11 + 1) 0 < m) where
-      pub variable-count-refuses : (getD rs (i * 11 + 2) 0 ≡ 0 → ⊥) → soundVariable m (recordIn rs ls i) ≡ false
+    module _ (a : symbolNo rs i < m) where
+      pub variable-count-refuses : (arityAt rs i ≡ 0 → ⊥) → soundVariable m (recordIn rs ls i) ≡ false
       unfolding soundVariable recordIn
-      variable-count-refuses n = rw (lt-ltb (getD rs (i * 11 + 1) 0) m a, ne-eqb (getD rs (i * 11 + 2) 0) 0 n)
+      variable-count-refuses n = rw (lt-ltb (symbolNo rs i) m a, ne-eqb (arityAt rs i) 0 n)
 
       pub variable-literal-refuses :
-          getD rs (i * 11 + 2) 0 ≡ 0 →
+          arityAt rs i ≡ 0 →
           (getD ls i (pos 0) ≡ pos 0 → ⊥) →
           soundVariable m (recordIn rs ls i) ≡ false
       unfolding soundVariable recordIn
       variable-literal-refuses b n =
-          rw (lt-ltb (getD rs (i * 11 + 1) 0) m a, b, tells-no sameInt sameInt-tells (getD ls i (pos 0)) (pos 0) n)
+          rw (lt-ltb (symbolNo rs i) m a, b, tells-no sameInt sameInt-tells (getD ls i (pos 0)) (pos 0) n)
 
       pub variable-rest :
-          getD rs (i * 11 + 2) 0 ≡ 0 →
+          arityAt rs i ≡ 0 →
           getD ls i (pos 0) ≡ pos 0 →
-          allZero (take (i * 11 + 11 - (i * 11 + 3)) (drop (i * 11 + 3) rs)) ≡ soundVariable m (recordIn rs ls i)
+          allZero (placesAt rs i) ≡ soundVariable m (recordIn rs ls i)
       unfolding soundVariable recordIn
       variable-rest b c =
           rw (
-            eight,
-            lt-ltb (getD rs (i * 11 + 1) 0) m a,
+            lt-ltb (symbolNo rs i) m a,
             b,
             tells-yes sameInt sameInt-tells (getD ls i (pos 0)) (pos 0) c,
           )
 
-      pub application-count-refuses : 8 < getD rs (i * 11 + 2) 0 → soundApplication m i (recordIn rs ls i) ≡ false
+      pub application-count-refuses : 8 < arityAt rs i → soundApplication m i (recordIn rs ls i) ≡ false
       unfolding soundApplication recordIn
       application-count-refuses h =
-          rw (lt-ltb (getD rs (i * 11 + 1) 0) m a, lt-leb (getD rs (i * 11 + 2) 0) 8 h)
+          rw (lt-ltb (symbolNo rs i) m a, lt-leb (arityAt rs i) 8 h)
 
-      module _ (b : getD rs (i * 11 + 2) 0 ≤ 8) where
+      module _ (b : arityAt rs i ≤ 8) where
         pub application-literal-refuses :
             (getD ls i (pos 0) ≡ pos 0 → ⊥) → soundApplication m i (recordIn rs ls i) ≡ false
         unfolding soundApplication recordIn
         application-literal-refuses n =
             rw (
-              lt-ltb (getD rs (i * 11 + 1) 0) m a,
-              le-leb (getD rs (i * 11 + 2) 0) 8 b,
+              lt-ltb (symbolNo rs i) m a,
+              le-leb (arityAt rs i) 8 b,
               tells-no sameInt sameInt-tells (getD ls i (pos 0)) (pos 0) n,
             )
 
         module _ (c : getD ls i (pos 0) ≡ pos 0) where
-          used :
-              take (getD rs (i * 11 + 2) 0) (take 8 (drop (i * 11 + 3) rs))
-              ≡ take (i * 11 + 3 + getD rs (i * 11 + 2) 0 - (i * 11 + 3)) (drop (i * 11 + 3) rs)
-          used =
-              let d : i * 11 + 3 + getD rs (i * 11 + 2) 0 - (i * 11 + 3) ≡ getD rs (i * 11 + 2) 0 = omega arith in
-              rw d (take-take (getD rs (i * 11 + 2) 0) 8 (drop (i * 11 + 3) rs) b)
-
-          unused :
-              drop (getD rs (i * 11 + 2) 0) (take 8 (drop (i * 11 + 3) rs))
-              ≡ take (i * 11 + 11 - (i * 11 + 3 + getD rs (i * 11 + 2) 0))
-              (drop (i * 11 + 3 + getD rs (i * 11 + 2) 0) rs)
-          unused =
-              let n : ℕ = getD rs (i * 11 + 2) 0 in
-              let d : i * 11 + 11 - (i * 11 + 3 + n) ≡ 8 - n = omega arith in
-              drop-take n 8 (drop (i * 11 + 3) rs) ∙ rw (d, drop-drop n (i * 11 + 3) rs)
-
           pub application-child-refuses :
-              allBelow i (take (i * 11 + 3 + getD rs (i * 11 + 2) 0 - (i * 11 + 3)) (drop (i * 11 + 3) rs)) ≡ false →
+              allBelow i (kidsAt rs i) ≡ false →
               soundApplication m i (recordIn rs ls i) ≡ false
           unfolding soundApplication recordIn
           application-child-refuses e =
               rw (
-                lt-ltb (getD rs (i * 11 + 1) 0) m a,
-                le-leb (getD rs (i * 11 + 2) 0) 8 b,
+                lt-ltb (symbolNo rs i) m a,
+                le-leb (arityAt rs i) 8 b,
                 tells-yes sameInt sameInt-tells (getD ls i (pos 0)) (pos 0) c,
-                used,
                 e,
               )
 
           pub application-rest :
-              allBelow i (take (i * 11 + 3 + getD rs (i * 11 + 2) 0 - (i * 11 + 3)) (drop (i * 11 + 3) rs)) ≡ true →
-              allZero (take (i * 11 + 11 - (i * 11 + 3 + getD rs (i * 11 + 2) 0))
-              (drop (i * 11 + 3 + getD rs (i * 11 + 2) 0) rs))
+              allBelow i (kidsAt rs i) ≡ true →
+              allZero (drop (arityAt rs i) (placesAt rs i))
               ≡ soundApplication m i (recordIn rs ls i)
           unfolding soundApplication recordIn
           application-rest e =
               rw (
-                lt-ltb (getD rs (i * 11 + 1) 0) m a,
-                le-leb (getD rs (i * 11 + 2) 0) 8 b,
+                lt-ltb (symbolNo rs i) m a,
+                le-leb (arityAt rs i) 8 b,
                 tells-yes sameInt sameInt-tells (getD ls i (pos 0)) (pos 0) c,
-                used,
-                unused,
                 e,
               )
 
     -- by its kind
-    pub record-literal : getD rs (i * 11) 0 ≡ 0 → soundLiteral (recordIn rs ls i) ≡ soundRecordAt rs ls m i
+    pub record-literal : kindAt rs i ≡ 0 → soundLiteral (recordIn rs ls i) ≡ soundRecordAt rs ls m i
     unfolding soundRecord recordIn
-    record-literal e = sym (byKind-literal _ _ _ _ (getD rs (i * 11) 0) e)
+    record-literal e = sym (byKind-literal _ _ _ _ (kindAt rs i) e)
 
-    pub record-variable : getD rs (i * 11) 0 ≡ 1 → soundVariable m (recordIn rs ls i) ≡ soundRecordAt rs ls m i
+    pub record-variable : kindAt rs i ≡ 1 → soundVariable m (recordIn rs ls i) ≡ soundRecordAt rs ls m i
     unfolding soundRecord recordIn
-    record-variable e = sym (byKind-variable _ _ _ _ (getD rs (i * 11) 0) e)
+    record-variable e = sym (byKind-variable _ _ _ _ (kindAt rs i) e)
 
-    pub record-application : getD rs (i * 11) 0 ≡ 2 → soundApplication m i (recordIn rs ls i) ≡ soundRecordAt rs ls m i
+    pub record-application : kindAt rs i ≡ 2 → soundApplication m i (recordIn rs ls i) ≡ soundRecordAt rs ls m i
     unfolding soundRecord recordIn
-    record-application e = sym (byKind-application _ _ _ _ (getD rs (i * 11) 0) e)
+    record-application e = sym (byKind-application _ _ _ _ (kindAt rs i) e)
 
     pub record-other-refuses :
-        (getD rs (i * 11) 0 ≡ 0 → ⊥) →
-        (getD rs (i * 11) 0 ≡ 1 → ⊥) →
-        (getD rs (i * 11) 0 ≡ 2 → ⊥) →
+        (kindAt rs i ≡ 0 → ⊥) →
+        (kindAt rs i ≡ 1 → ⊥) →
+        (kindAt rs i ≡ 2 → ⊥) →
         soundRecordAt rs ls m i ≡ false
     unfolding soundRecord recordIn
     record-other-refuses a b c =
-        byKind-other _ _ _ _ (getD rs (i * 11) 0) (ne-eqb _ 0 a) (ne-eqb _ 1 b) (ne-eqb _ 2 c)
+        byKind-other _ _ _ _ (kindAt rs i) (ne-eqb _ 0 a) (ne-eqb _ 1 b) (ne-eqb _ 2 c)
 
 -- two records
 module _ (rs : List ℕ) (ls : List ℤ) (j i : ℕ) where
   pub same-kind-refuses :
-      (getD rs (j * 11) 0 ≡ getD rs (i * 11) 0 → ⊥) → sameTerm (recordIn rs ls j) (recordIn rs ls i) ≡ false
+      (kindAt rs j ≡ kindAt rs i → ⊥) → sameTerm (recordIn rs ls j) (recordIn rs ls i) ≡ false
   unfolding sameTerm recordIn
-  same-kind-refuses n = rw (ne-eqb (getD rs (j * 11) 0) (getD rs (i * 11) 0) n)
+  same-kind-refuses n = rw (ne-eqb (kindAt rs j) (kindAt rs i) n)
 
-  module _ (a : getD rs (j * 11) 0 ≡ getD rs (i * 11) 0) where
+  module _ (a : kindAt rs j ≡ kindAt rs i) where
     pub same-symbol-refuses :
-        (getD rs (j * 11 + 1) 0 ≡ getD rs (i * 11 + 1) 0 → ⊥) → sameTerm (recordIn rs ls j) (recordIn rs ls i) ≡ false
+        (symbolNo rs j ≡ symbolNo rs i → ⊥) → sameTerm (recordIn rs ls j) (recordIn rs ls i) ≡ false
     unfolding sameTerm recordIn
-    same-symbol-refuses n = rw (eq-eqb _ _ a, ne-eqb (getD rs (j * 11 + 1) 0) (getD rs (i * 11 + 1) 0) n)
+    same-symbol-refuses n = rw (eq-eqb _ _ a, ne-eqb (symbolNo rs j) (symbolNo rs i) n)
 
-    module _ (b : getD rs (j * 11 + 1) 0 ≡ getD rs (i * 11 + 1) 0) where
+    module _ (b : symbolNo rs j ≡ symbolNo rs i) where
       pub same-count-refuses :
-          (getD rs (j * 11 + 2) 0 ≡ getD rs (i * 11 + 2) 0 → ⊥) →
+          (arityAt rs j ≡ arityAt rs i → ⊥) →
           sameTerm (recordIn rs ls j) (recordIn rs ls i) ≡ false
       unfolding sameTerm recordIn
       same-count-refuses n =
-          rw (eq-eqb _ _ a, eq-eqb _ _ b, ne-eqb (getD rs (j * 11 + 2) 0) (getD rs (i * 11 + 2) 0) n)
+          rw (eq-eqb _ _ a, eq-eqb _ _ b, ne-eqb (arityAt rs j) (arityAt rs i) n)
 
-      module _ (c : getD rs (j * 11 + 2) 0 ≡ getD rs (i * 11 + 2) 0) where
+      module _ (c : arityAt rs j ≡ arityAt rs i) where
         pub same-literal-refuses :
             (getD ls j (pos 0) ≡ getD ls i (pos 0) → ⊥) → sameTerm (recordIn rs ls j) (recordIn rs ls i) ≡ false
         unfolding sameTerm recordIn
@@ -249,14 +225,12 @@ module _ (rs : List ℕ) (ls : List ℤ) (j i : ℕ) where
 
         pub same-rest :
             getD ls j (pos 0) ≡ getD ls i (pos 0) →
-            same (take (j * 11 + 11 - (j * 11 + 3)) (drop (j * 11 + 3) rs))
-            (take (i * 11 + 11 - (i * 11 + 3)) (drop (i * 11 + 3) rs))
+            same (placesAt rs j)
+            (placesAt rs i)
             ≡ sameTerm (recordIn rs ls j) (recordIn rs ls i)
         unfolding sameTerm recordIn
         same-rest d =
             rw (
-              eight rs ls j,
-              eight rs ls i,
               eq-eqb _ _ a,
               eq-eqb _ _ b,
               eq-eqb _ _ c,
@@ -279,22 +253,22 @@ module _ (ns : List ℕ) (k : ℕ) where
       let r = first-at p k 0 j (sym (findName-first ns (nameAt ns k) k) ∙ e) in
       every-fails (λ (j : ℕ). not (p j)) k j (omega (arith, r .1)) (rw (r .2))
 
-pub entries-of : (ns : List ℕ) (m : ℕ) → m * 32 ≤ length ns → every m (soundName ns) ≡ true → Entries ns m
+pub entries-of : (ns : List ℕ) (m : ℕ) → entriesLength m ≤ length ns → every m (soundName ns) ≡ true → Entries ns m
 entries-of ns m h e =
     record { long = h; short = λ k l. soundName-get ns k (every-get (soundName ns) m e k l) .short }
 
 pub within-get :
-    (r l n t m : ℕ) → within r l n t m ≡ true → (t * 11 ≤ r) × (t ≤ l) × (m * 32 ≤ n)
+    (r l n t m : ℕ) → within r l n t m ≡ true → (recordsLength t ≤ r) × (t ≤ l) × (entriesLength m ≤ n)
 unfolding within
 within-get r l n t m e =
-    let a = leb-true t (min 1024 (min (r / 11) l)) (and-first (leb t (min 1024 (min (r / 11) l))) _ e) in
-    let b = leb-true m (min 128 (n / 32)) (and-second (leb t (min 1024 (min (r / 11) l))) _ e) in
+    let a = leb-true t (min 1024 (min (recordRoom r) l)) (and-first (leb t (min 1024 (min (recordRoom r) l))) _ e) in
+    let b = leb-true m (min 128 (entryRoom n)) (and-second (leb t (min 1024 (min (recordRoom r) l))) _ e) in
     (omega arith, omega arith, omega arith)
 
 pub within-limit : (r l n t m : ℕ) → within r l n t m ≡ true → t ≤ 1024
 unfolding within
 within-limit r l n t m e =
-    let a = leb-true t (min 1024 (min (r / 11) l)) (and-first (leb t (min 1024 (min (r / 11) l))) _ e) in
+    let a = leb-true t (min 1024 (min (recordRoom r) l)) (and-first (leb t (min 1024 (min (recordRoom r) l))) _ e) in
     omega arith
 
 newName-is : (rs : List ℕ) (ls : List ℤ) (ns : List ℕ) (n m k : ℕ) → newName (store rs ls ns n m) k ≡ freshName ns k
@@ -324,7 +298,7 @@ module _ (rs : List ℕ) (ls : List ℤ) (ns : List ℕ) (n m : ℕ) where
         every-same m (newName s) (freshName ns) (λ k h. newName-is rs ls ns n m k),
         every-same n (newTerm s) (freshRecord rs ls) (λ i h. newTerm-is rs ls ns n m i),
       )
-      (and-assoc (leb n (min 1024 (min (length rs / 11) (length ls)))) (leb m (min 128 (length ns / 32)))
+      (and-assoc (leb n (min 1024 (min (recordRoom (length rs)) (length ls)))) (leb m (min 128 (entryRoom (length ns))))
       (every m (soundName ns)
       && (every m (freshName ns) && (every n (soundRecordAt rs ls m) && every n (freshRecord rs ls)))))
 

@@ -1,37 +1,26 @@
 -- Tests on the flat lists of a lent store, and the record that is made of its parts. Assumes nothing: these are
 -- definitions.
-use Prim.Native.Nat.{ℕ, _+_, _*_, _-_, _/_, _≤_, _<_, min}
-use mathlib.Core.Path.{_≡_}
-use mathlib.Core.Bool.{Bool, true, false, _&&_, not}
-use mathlib.Core.List.{List, [], _∷_, _++_}
-use lib.ListN.{length, replicate}
+use Prim.Native.Nat.{ℕ, min}
+use mathlib.Core.Bool.{Bool, _&&_, not}
+use mathlib.Core.List.{List}
+use lib.ListN.{length}
 use lib.Dec.{leb}
 use lib.IntN.{ℤ}
 use Rattle.name.specs.Name.{same}
-use Rattle.name.specs.Entries.{nameAt}
+use Rattle.name.specs.Entries.{nameAt, entryRoom}
 use Rattle.term_rules.specs.declared.Term.{Term}
-use Rattle.term_rules.specs.Lent.{recordIn}
+use Rattle.term_rules.specs.Lent.{recordRoom, recordIn}
+use Rattle.term_layout.specs.Padded.{padded}
 use Rattle.term_rules.specs.WellFormed.{every, soundRecord, sameTerm}
-
--- record i stands in the lists
-pub record InRecords (rs : List ℕ) (ls : List ℤ) (i : ℕ) : Type 0 where
-  pub numbers : i * 11 + 11 ≤ length rs
-  pub literal : i < length ls
 
 -- the record of these parts, with zeros past its children
 abbrev pub filled : ℕ → ℕ → ℤ → List ℕ → Term
-filled kind symbol z ks = record {
-  kind = kind;
-  symbol = symbol;
-  count = length ks;
-  literal = z;
-  children = ks ++ replicate (8 - length ks) 0;
-}
+filled kind symbol z ks = padded kind symbol (length ks) z ks
 
 -- the counts are within limits and lent lengths
 unfoldable pub within : ℕ → ℕ → ℕ → ℕ → ℕ → Bool
 within records literals names terms symbols =
-    leb terms (min 1024 (min (records / 11) literals)) && leb symbols (min 128 (names / 32))
+    leb terms (min 1024 (min (recordRoom records) literals)) && leb symbols (min 128 (entryRoom names))
 
 -- no entry below k has the name of entry k
 unfoldable pub freshName : List ℕ → ℕ → Bool

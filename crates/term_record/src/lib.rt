@@ -1,13 +1,11 @@
 // The lent store's records as flat numbers: one record read or written, and whether a whole lent store is well formed.
 ghost use mathlib.Core.Path.{_≡_};
 ghost use mathlib.Core.Bool.{true, false};
-ghost use Prim.Native.Nat.{ℕ, _+_, _*_, _≤_, _<_};
-ghost use lib.ListN.{length, getD, set};
-ghost use lib.Seq.{paste};
-ghost use lib.IntN.{pos};
+ghost use Prim.Native.Nat.{ℕ, _+_, _≤_, _<_};
+ghost use lib.ListN.{length};
 ghost use Rattle.name.specs.Name.{same};
-ghost use Rattle.name.specs.Entries.{Entries};
-ghost use Rattle.term_rules.specs.Lent.{store, recordIn, numbers};
+ghost use Rattle.name.specs.Entries.{entriesLength, HasEntry, Entries};
+ghost use Rattle.term_rules.specs.Lent.{store, recordsLength, InRecords, recordIn};
 ghost use Rattle.term_rules.specs.WellFormed.{
   every,
   allZero,
@@ -20,7 +18,7 @@ ghost use Rattle.term_rules.specs.WellFormed.{
   sameTerm,
   wellFormed,
 };
-ghost use Rattle.term_record.specs.Flat.{InRecords, filled, freshName, freshRecord, soundRecordAt, within};
+ghost use Rattle.term_record.specs.Flat.{freshName, freshRecord, soundRecordAt, within};
 ghost use Rattle.term_record.specs.Buckets.{digestFrom, bucketIn, Last, Chained};
 use name::Found;
 use term_rules::Term;
@@ -30,65 +28,22 @@ pub fn record_at(records: &[u64], literals: &[i64], i: usize) -> Term
     requires { ⌜ InRecords (now records) (now literals) i ⌝ }
     ensures { λ r. ⌜ r ≡ recordIn (now (records .entry)) (now (literals .entry)) i ⌝ }
 {
-    let at = i * 11;
+    let kind = term_layout::kind_of(records, i);
+    let symbol = term_layout::symbol_of(records, i);
+    let count = term_layout::count_of(records, i);
+    let places = term_layout::places_of(records, i);
     let mut children = [0u64; 8];
     let mut j = 0;
     while j < 8 {
-        children[j] = records[at + 3 + j];
+        children[j] = places[j];
         j += 1;
     }
     Term {
-        kind: records[at],
-        symbol: records[at + 1],
-        count: records[at + 2],
+        kind,
+        symbol,
+        count,
         literal: literals[i],
         children,
-    }
-}
-
-// Number `j` of the eleven of a record.
-fn number_at(kind: u64, symbol: u64, children: &[u64], j: usize) -> u64
-    ensures { λ r. ⌜ r ≡ getD (numbers (filled kind symbol (pos 0) (now (children .entry)))) j 0 ⌝ }
-{
-    if j == 0 {
-        return kind;
-    }
-    if j == 1 {
-        return symbol;
-    }
-    if j == 2 {
-        return children.len() as u64;
-    }
-    if j - 3 < children.len() {
-        return children[j - 3];
-    }
-    0
-}
-
-// Puts a record at `i`, with zeros past its children.
-pub fn put_record(
-    records: &mut [u64],
-    literals: &mut [i64],
-    i: usize,
-    kind: u64,
-    symbol: u64,
-    literal: i64,
-    children: &[u64],
-)
-    requires { ⌜ InRecords (now records) (now literals) i ⌝ }
-    requires { ⌜ length (now children) ≤ 8 ⌝ }
-    ensures { λ _. ⌜
-        now (records .exit)
-        ≡ paste (now (records .entry)) (i * 11) (numbers (filled kind symbol literal (now (children .entry)))) 11
-        ⌝ }
-    ensures { λ _. ⌜ now (literals .exit) ≡ set (now (literals .entry)) i literal ⌝ }
-{
-    literals[i] = literal;
-    let at = i * 11;
-    let mut j = 0;
-    while j < 11 {
-        records[at + j] = number_at(kind, symbol, children, j);
-        j += 1;
     }
 }
 
@@ -151,25 +106,20 @@ pub fn are_equal(a: &[u64], b: &[u64]) -> bool
 
 // Whether entry `k` holds a valid name, with zeros past it.
 fn is_sound_name(names: &[u8], k: usize) -> bool
-    requires { ⌜ k * 32 + 32 ≤ length (now names) ⌝ }
+    requires { ⌜ HasEntry (now names) k ⌝ }
     ensures { λ r. ⌜ r ≡ soundName (now (names .entry)) k ⌝ }
 {
-    let at = k * 32;
-    let n = names[at] as usize;
-    if 31 < n {
+    if 31 < name::length_of(names, k) {
         return false;
     }
-    let a = at + 1;
-    let e = a + n;
-    if !name::is_valid(&names[a..e]) {
+    if !name::is_valid(name::name_of(names, k)) {
         return false;
     }
-    let f = at + 32;
-    all_zero_bytes(&names[e..f])
+    all_zero_bytes(name::padding_of(names, k))
 }
 
 fn are_names_sound(names: &[u8], symbols: usize) -> bool
-    requires { ⌜ symbols * 32 ≤ length (now names) ⌝ }
+    requires { ⌜ entriesLength symbols ≤ length (now names) ⌝ }
     ensures { λ r. ⌜ r ≡ every symbols (soundName (now (names .entry))) ⌝ }
 {
     let mut k = 0;
@@ -187,9 +137,7 @@ fn is_new_name(names: &[u8], k: usize) -> bool
     requires { ⌜ Entries (now names) (k + 1) ⌝ }
     ensures { λ r. ⌜ r ≡ freshName (now (names .entry)) k ⌝ }
 {
-    let a = k * 32 + 1;
-    let e = a + names[k * 32] as usize;
-    let Found::At(_) = name::find(names, k, &names[a..e]) else {
+    let Found::At(_) = name::find(names, k, name::name_of(names, k)) else {
         return true;
     };
     false
@@ -213,59 +161,48 @@ fn is_sound_literal(records: &[u64], literals: &[i64], i: usize) -> bool
     requires { ⌜ InRecords (now records) (now literals) i ⌝ }
     ensures { λ r. ⌜ r ≡ soundLiteral (recordIn (now (records .entry)) (now (literals .entry)) i) ⌝ }
 {
-    let at = i * 11;
-    if records[at + 1] != 0 {
+    if term_layout::symbol_of(records, i) != 0 {
         return false;
     }
-    if records[at + 2] != 0 {
+    if term_layout::count_of(records, i) != 0 {
         return false;
     }
-    let a = at + 3;
-    let e = at + 11;
-    all_zero(&records[a..e])
+    all_zero(term_layout::places_of(records, i))
 }
 
 fn is_sound_variable(records: &[u64], literals: &[i64], i: usize, symbols: usize) -> bool
     requires { ⌜ InRecords (now records) (now literals) i ⌝ }
     ensures { λ r. ⌜ r ≡ soundVariable symbols (recordIn (now (records .entry)) (now (literals .entry)) i) ⌝ }
 {
-    let at = i * 11;
-    if records[at + 1] >= symbols as u64 {
+    if term_layout::symbol_of(records, i) >= symbols as u64 {
         return false;
     }
-    if records[at + 2] != 0 {
+    if term_layout::count_of(records, i) != 0 {
         return false;
     }
     if literals[i] != 0 {
         return false;
     }
-    let a = at + 3;
-    let e = at + 11;
-    all_zero(&records[a..e])
+    all_zero(term_layout::places_of(records, i))
 }
 
 fn is_sound_application(records: &[u64], literals: &[i64], i: usize, symbols: usize) -> bool
     requires { ⌜ InRecords (now records) (now literals) i ⌝ }
     ensures { λ r. ⌜ r ≡ soundApplication symbols i (recordIn (now (records .entry)) (now (literals .entry)) i) ⌝ }
 {
-    let at = i * 11;
-    if records[at + 1] >= symbols as u64 {
+    if term_layout::symbol_of(records, i) >= symbols as u64 {
         return false;
     }
-    let count = records[at + 2];
-    if 8 < count {
+    if 8 < term_layout::count_of(records, i) {
         return false;
     }
     if literals[i] != 0 {
         return false;
     }
-    let a = at + 3;
-    let m = a + count as usize;
-    if !all_below(&records[a..m], i) {
+    if !all_below(term_layout::children_of(records, i), i) {
         return false;
     }
-    let e = at + 11;
-    all_zero(&records[m..e])
+    all_zero(term_layout::unused_of(records, i))
 }
 
 // Whether record `i` is sound, by its kind.
@@ -273,7 +210,7 @@ fn is_sound_record(records: &[u64], literals: &[i64], i: usize, symbols: usize) 
     requires { ⌜ InRecords (now records) (now literals) i ⌝ }
     ensures { λ r. ⌜ r ≡ soundRecordAt (now (records .entry)) (now (literals .entry)) symbols i ⌝ }
 {
-    let kind = records[i * 11];
+    let kind = term_layout::kind_of(records, i);
     if kind == 0 {
         return is_sound_literal(records, literals, i);
     }
@@ -287,7 +224,7 @@ fn is_sound_record(records: &[u64], literals: &[i64], i: usize, symbols: usize) 
 }
 
 fn are_records_sound(records: &[u64], literals: &[i64], terms: usize, symbols: usize) -> bool
-    requires { ⌜ (terms * 11 ≤ length (now records)) × (terms ≤ length (now literals)) ⌝ }
+    requires { ⌜ (recordsLength terms ≤ length (now records)) × (terms ≤ length (now literals)) ⌝ }
     ensures { λ r. ⌜ r ≡ every terms (soundRecordAt (now (records .entry)) (now (literals .entry)) symbols) ⌝ }
 {
     let mut i = 0;
@@ -310,25 +247,22 @@ fn is_same_record(records: &[u64], literals: &[i64], j: usize, i: usize) -> bool
         (recordIn (now (records .entry)) (now (literals .entry)) i)
         ⌝ }
 {
-    let a = j * 11;
-    let b = i * 11;
-    if records[a] != records[b] {
+    if term_layout::kind_of(records, j) != term_layout::kind_of(records, i) {
         return false;
     }
-    if records[a + 1] != records[b + 1] {
+    if term_layout::symbol_of(records, j) != term_layout::symbol_of(records, i) {
         return false;
     }
-    if records[a + 2] != records[b + 2] {
+    if term_layout::count_of(records, j) != term_layout::count_of(records, i) {
         return false;
     }
     if literals[j] != literals[i] {
         return false;
     }
-    let c = a + 3;
-    let d = a + 11;
-    let e = b + 3;
-    let f = b + 11;
-    are_equal(&records[c..d], &records[e..f])
+    are_equal(
+        term_layout::places_of(records, j),
+        term_layout::places_of(records, i),
+    )
 }
 
 // A number below 1,021 that depends on `start` and `s` alone.
@@ -352,10 +286,10 @@ fn bucket(records: &[u64], literals: &[i64], i: usize) -> usize
     ensures { λ r. ⌜ r ≡ bucketIn (now (records .entry)) (now (literals .entry)) i ⌝ }
     ensures { λ r. ⌜ r < 1021 ⌝ }
 {
-    let a = i * 11;
-    let b = a + 3;
-    let e = a + 11;
-    let h = digest(records[a + 1] % 1021, &records[b..e]);
+    let h = digest(
+        term_layout::symbol_of(records, i) % 1021,
+        term_layout::places_of(records, i),
+    );
     let m = decimal::absolute(literals[i]) % 1021;
     ((h + m) % 1021) as usize
 }
@@ -381,7 +315,7 @@ fn is_new_record(records: &[u64], literals: &[i64], nexts: &[usize], from: usize
 
 // Whether no two records are the same. Each is compared with those of its own bucket alone, which are chained.
 fn are_records_new(records: &[u64], literals: &[i64], terms: usize) -> bool
-    requires { ⌜ (terms * 11 ≤ length (now records)) × ((terms ≤ length (now literals)) × (terms ≤ 1024)) ⌝ }
+    requires { ⌜ (recordsLength terms ≤ length (now records)) × ((terms ≤ length (now literals)) × (terms ≤ 1024)) ⌝ }
     ensures { λ r. ⌜ r ≡ every terms (freshRecord (now (records .entry)) (now (literals .entry))) ⌝ }
 {
     let mut lasts: [usize; 1021] = [0; 1021];
@@ -413,7 +347,7 @@ fn are_counts_within(
     if 1024 < terms {
         return false;
     }
-    if records / 11 < terms {
+    if term_layout::record_room(records) < terms {
         return false;
     }
     if literals < terms {
@@ -422,7 +356,7 @@ fn are_counts_within(
     if 128 < symbols {
         return false;
     }
-    if names / 32 < symbols {
+    if name::entry_room(names) < symbols {
         return false;
     }
     true

@@ -1,6 +1,6 @@
 -- A store is well formed exactly when it has the published facts. Assumes nothing.
-use Prim.Native.Nat.{ℕ, _+_, _*_, _-_, _/_, _≤_, _<_, min}
-use mathlib.Core.Path.{_≡_, refl, sym, _∙_}
+use Prim.Native.Nat.{ℕ, _+_, _-_, _≤_, _<_, min}
+use mathlib.Core.Path.{_≡_, refl, sym, ap, _∙_}
 use mathlib.Core.Bool.{Bool, true, false, not}
 use mathlib.Core.List.{List}
 use native.Mathlib.Omega.{arith}
@@ -10,9 +10,19 @@ use lib.ListN.{length, take, drop, length-take, length-drop}
 use lib.Seq.{getD-take, getD-drop, length-take-le}
 use lib.IntN.{pos}
 use Rattle.name.specs.Name.{valid, same}
-use Rattle.name.specs.Entries.{lengthAt, nameAt}
+use Rattle.name.specs.Entries.{entriesLength, entryRoom, lengthAt, nameAt, paddingAt, byteAt}
+use Rattle.name.proofs.PutLaws.{padding-get, padding-length}
 use Rattle.term_rules.specs.declared.Term.{Term}
-use Rattle.term_rules.specs.Lent.{Store, recordIn, recordAt, symbolAt, termRoom, symbolRoom}
+use Rattle.term_rules.specs.Lent.{
+  Store,
+  recordsLength,
+  recordRoom,
+  recordIn,
+  recordAt,
+  symbolAt,
+  termRoom,
+  symbolRoom,
+}
 use Rattle.term_rules.specs.WellFormed.{
   every,
   allBelow,
@@ -40,54 +50,40 @@ use Rattle.term_rules.specs.Facts.{
 }
 use Rattle.term_rules.proofs.TestLaws.{cases, no-both, and-first, and-second, and-both, every-get, every-of}
 use Rattle.term_rules.proofs.SameLaws.{same-tells, sameInt-tells, sameTerm-tells, tells-yes, tells-no}
+use Rattle.term_rules.proofs.LayoutLaws.{children-length}
 use Rattle.term_rules.proofs.KindLaws.{byKind-literal, byKind-variable, byKind-application, byKind-other}
 use Rattle.term_rules.proofs.ListLaws.{allZero-get, allZero-of, allBelow-get, allBelow-of, getD-take-past}
 
 -- a name's entry: the name, and the zeros past it
 module _ (ns : List ℕ) (k : ℕ) where
-  nameAt-is : nameAt ns k ≡ take (lengthAt ns k) (drop (k * 32 + 1) ns)
-  unfolding nameAt
-  nameAt-is =
-      let e : k * 32 + 1 + lengthAt ns k - (k * 32 + 1) ≡ lengthAt ns k = omega arith in
-      rw e
-
   pub soundName-get : soundName ns k ≡ true → SoundName ns k
   unfolding soundName
   soundName-get e =
       let n : ℕ = lengthAt ns k in
       let a = leb-true n 31 (and-first (leb n 31) _ e) in
       let e₁ = and-second (leb n 31) _ e in
-      let name : List ℕ = take n (drop (k * 32 + 1) ns) in
-      let v = and-first (valid name) _ e₁ in
-      let z = and-second (valid name) _ e₁ in
+      let v = and-first (valid (nameAt ns k)) _ e₁ in
+      let z = and-second (valid (nameAt ns k)) _ e₁ in
       record {
         short = a;
-        allowed = rw nameAt-is v;
+        allowed = v;
         unused = λ j h l.
-            let d : k * 32 + 1 + j ≡ k * 32 + 1 + n + (j - n) = omega arith in
-            rw d
-            (sym (getD-drop (k * 32 + 1 + n) ns (j - n) 0)
-            ∙ sym (getD-take (31 - n) (drop (k * 32 + 1 + n) ns) (j - n) 0 (omega arith))
-            ∙ allZero-get (take (31 - n) (drop (k * 32 + 1 + n) ns)) z (j - n));
+            let d : j ≡ lengthAt ns k + (j - lengthAt ns k) = omega arith in
+            ap (byteAt ns k) d
+            ∙ sym (padding-get ns k (j - lengthAt ns k) (omega arith))
+            ∙ allZero-get (paddingAt ns k) z (j - lengthAt ns k);
       }
 
   pub soundName-of : SoundName ns k → soundName ns k ≡ true
   unfolding soundName
   soundName-of f =
       let n : ℕ = lengthAt ns k in
-      let rest : List ℕ = take (31 - n) (drop (k * 32 + 1 + n) ns) in
       and-both (leb n 31) _ (le-leb n 31 (f .short))
-      (and-both (valid (take n (drop (k * 32 + 1) ns))) _ (rw nameAt-is at (f .allowed))
-      (allZero-of rest
+      (and-both (valid (nameAt ns k)) _ (f .allowed)
+      (allZero-of (paddingAt ns k)
       (λ j h.
-      cases (ltb j (31 - n))
-      (λ l.
-      let b = ltb-true j (31 - n) l in
-      let d : k * 32 + 1 + n + j ≡ k * 32 + 1 + (n + j) = omega arith in
-      getD-take (31 - n) (drop (k * 32 + 1 + n) ns) j 0 b
-      ∙ getD-drop (k * 32 + 1 + n) ns j 0
-      ∙ rw d (f .unused (n + j) (omega arith) (omega arith)))
-      (λ l. getD-take-past (31 - n) (drop (k * 32 + 1 + n) ns) j (omega (arith, ltb-false j (31 - n) l))))))
+      let b : lengthAt ns k + j < 31 = omega (arith, padding-length ns k) in
+      padding-get ns k j b ∙ f .unused (lengthAt ns k + j) (omega arith) b)))
 
 module _ (symbols i : ℕ) (t : Term) where
   literal-get : t .kind ≡ 0 → soundLiteral t ≡ true → SoundRecord symbols i t
@@ -195,32 +191,28 @@ module _ (symbols i : ℕ) (t : Term) where
   soundRecord-of long (aVariable f) = byKind-variable _ _ _ _ (t .kind) (f .kind) ∙ variable-of f
   soundRecord-of long (anApplication f) = byKind-application _ _ _ _ (t .kind) (f .kind) ∙ application-of f long
 
--- the eight child places of a record that stands in the store
-pub children-length : (rs : List ℕ) (i : ℕ) → i * 11 + 11 ≤ length rs → length (take 8 (drop (i * 11 + 3) rs)) ≡ 8
-children-length rs i h = length-take-le 8 (drop (i * 11 + 3) rs) (omega (arith, length-drop (i * 11 + 3) rs))
-
 module _ (s : Store) where
   -- the counts are within limits and lent lengths
   termRoom-get : leb (s .terms) (termRoom s) ≡ true
-      → (s .terms ≤ 1024) × (s .terms * 11 ≤ length (s .records)) × (s .terms ≤ length (s .literals))
+      → (s .terms ≤ 1024) × (recordsLength (s .terms) ≤ length (s .records)) × (s .terms ≤ length (s .literals))
   unfolding termRoom
   termRoom-get e =
-      let h = leb-true (s .terms) (min 1024 (min (length (s .records) / 11) (length (s .literals)))) e in
+      let h = leb-true (s .terms) (min 1024 (min (recordRoom (length (s .records))) (length (s .literals)))) e in
       (omega arith, omega arith, omega arith)
 
-  termRoom-of : s .terms ≤ 1024 → s .terms * 11 ≤ length (s .records) → s .terms ≤ length (s .literals)
+  termRoom-of : s .terms ≤ 1024 → recordsLength (s .terms) ≤ length (s .records) → s .terms ≤ length (s .literals)
       → leb (s .terms) (termRoom s) ≡ true
   unfolding termRoom
   termRoom-of a b c =
-      le-leb (s .terms) (min 1024 (min (length (s .records) / 11) (length (s .literals)))) (omega arith)
+      le-leb (s .terms) (min 1024 (min (recordRoom (length (s .records))) (length (s .literals)))) (omega arith)
 
-  symbolRoom-get : leb (s .symbols) (symbolRoom s) ≡ true → (s .symbols ≤ 128) × (s .symbols * 32 ≤ length (s .names))
+  symbolRoom-get : leb (s .symbols) (symbolRoom s) ≡ true → (s .symbols ≤ 128) × (entriesLength (s .symbols) ≤ length (s .names))
   unfolding symbolRoom
-  symbolRoom-get e = let h = leb-true (s .symbols) (min 128 (length (s .names) / 32)) e in (omega arith, omega arith)
+  symbolRoom-get e = let h = leb-true (s .symbols) (min 128 (entryRoom (length (s .names)))) e in (omega arith, omega arith)
 
-  symbolRoom-of : s .symbols ≤ 128 → s .symbols * 32 ≤ length (s .names) → leb (s .symbols) (symbolRoom s) ≡ true
+  symbolRoom-of : s .symbols ≤ 128 → entriesLength (s .symbols) ≤ length (s .names) → leb (s .symbols) (symbolRoom s) ≡ true
   unfolding symbolRoom
-  symbolRoom-of a b = le-leb (s .symbols) (min 128 (length (s .names) / 32)) (omega arith)
+  symbolRoom-of a b = le-leb (s .symbols) (min 128 (entryRoom (length (s .names)))) (omega arith)
 
   -- a test for the newness of each is one for the distinctness of all
   newName-get : every (s .symbols) (newName s) ≡ true → (j k : ℕ) → j < k → k < s .symbols

@@ -6,6 +6,7 @@ pub mod SignLaws
 pub mod KindLaws
 pub mod SearchLaws
 pub mod StepLaws
+pub mod LayoutLaws
 pub mod FactsLaws
 pub mod Meaning
 pub mod Adding

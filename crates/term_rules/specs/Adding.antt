@@ -1,15 +1,14 @@
 -- Adding a term to a well-formed store: document 01, 'Terms'. Assumes nothing: these are definitions.
-use Prim.Native.Nat.{ℕ, zero, suc, _+_, _*_}
+use Prim.Native.Nat.{ℕ, zero, suc, _+_}
 use mathlib.Core.Bool.{Bool, true, false, _&&_}
 use mathlib.Core.List.{List, [], _∷_}
-use lib.ListN.{length, set}
+use lib.ListN.{set}
 use lib.Dec.{ltb}
-use lib.Seq.{paste}
 use Rattle.name.specs.Entries.{findName, putName}
 use Rattle.name.specs.declared.Found.{Found}
 use Rattle.name.specs.declared.Found.the-variants.{At, Missing}
 use Rattle.term_rules.specs.declared.Term.{Term}
-use Rattle.term_rules.specs.Lent.{Store, store, numbers, termRoom, symbolRoom}
+use Rattle.term_rules.specs.Lent.{Store, store, putRecord, termRoom, symbolRoom}
 use Rattle.term_rules.specs.Nodes.{Node, literal, variable, application, nodeAt, sameNode, recordOf}
 
 -- the first number from i on, of n numbers, that passes
@@ -41,8 +40,8 @@ withName s name =
 -- the store with one record more
 unfoldable pub withRecord : Store → Term → Store
 withRecord s t =
-    store (paste (s .records) (s .terms * 11) (numbers t) 11) (set (s .literals) (s .terms) (t .literal)) (s .names)
-    (s .terms + 1) (s .symbols)
+    store (putRecord (s .records) (s .terms) t) (set (s .literals) (s .terms) (t .literal)) (s .names) (s .terms + 1)
+    (s .symbols)
 
 -- "append it, with its name if new"
 unfoldable pub append : Store → Node → Store

@@ -1,21 +1,21 @@
 -- What the layers above may rely on: the facts of a well-formed store, document 01, 'Terms'. Assumes nothing: these
 -- are definitions.
-use Prim.Native.Nat.{ℕ, _+_, _*_, _≤_, _<_}
+use Prim.Native.Nat.{ℕ, _≤_, _<_}
 use mathlib.Core.Path.{_≡_}
 use mathlib.Core.Bool.{true}
 use mathlib.Core.List.{List}
 use lib.ListN.{length, getD}
 use lib.IntN.{ℤ, pos}
 use Rattle.name.specs.Name.{valid}
-use Rattle.name.specs.Entries.{lengthAt, nameAt}
+use Rattle.name.specs.Entries.{entriesLength, lengthAt, nameAt, byteAt}
 use Rattle.term_rules.specs.declared.Term.{Term}
-use Rattle.term_rules.specs.Lent.{Store, recordAt, symbolAt}
+use Rattle.term_rules.specs.Lent.{Store, recordsLength, recordAt, symbolAt}
 
 -- "names valid": entry k holds a valid name, and zeros past it
 pub record SoundName (ns : List ℕ) (k : ℕ) : Type 0 where
   pub short : lengthAt ns k ≤ 31
   pub allowed : valid (nameAt ns k) ≡ true
-  pub unused : (j : ℕ) → lengthAt ns k ≤ j → j < 31 → getD ns (k * 32 + 1 + j) 0 ≡ 0
+  pub unused : (j : ℕ) → lengthAt ns k ≤ j → j < 31 → byteAt ns k j ≡ 0
 
 -- "unused fields zero": a literal uses its literal alone
 pub record IsLiteral (t : Term) : Type 0 where
@@ -51,10 +51,10 @@ pub data SoundRecord (symbols i : ℕ) (t : Term) : Type 0 where
 -- lower than its parent; unused fields zero (records past the count are free); no two terms equal."
 pub record Sound (s : Store) : Type 0 where
   pub termLimit : s .terms ≤ 1024
-  pub recordsLong : s .terms * 11 ≤ length (s .records)
+  pub recordsLong : recordsLength (s .terms) ≤ length (s .records)
   pub literalsLong : s .terms ≤ length (s .literals)
   pub symbolLimit : s .symbols ≤ 128
-  pub namesLong : s .symbols * 32 ≤ length (s .names)
+  pub namesLong : entriesLength (s .symbols) ≤ length (s .names)
   pub name : (k : ℕ) → k < s .symbols → SoundName (s .names) k
   pub nameOnce : (j k : ℕ) → j < s .symbols → k < s .symbols → symbolAt s j ≡ symbolAt s k → j ≡ k
   pub term : (i : ℕ) → i < s .terms → SoundRecord (s .symbols) i (recordAt s i)

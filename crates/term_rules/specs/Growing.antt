@@ -6,16 +6,17 @@ use mathlib.Core.List.{List}
 use lib.ListN.{length, getD, drop}
 use lib.IntN.{ℤ}
 use Rattle.name.specs.Name.{valid}
-use Rattle.term_rules.specs.Lent.{Store}
+use Rattle.name.specs.Entries.{entriesLength}
+use Rattle.term_rules.specs.Lent.{Store, recordsLength}
 use Rattle.term_rules.specs.WellFormed.{wellFormed}
 use Rattle.term_rules.specs.Nodes.{Node, literal, variable, application, nodeAt, Tree, Means}
 use Rattle.term_rules.specs.Adding.{Adds, at, noRoom}
 
 -- Only the places of 1,024 records and 128 names can be written: what is lent past them stays.
 pub record Beyond (s : Store) (rs : List ℕ) (ls : List ℤ) (ns : List ℕ) : Type 0 where
-  pub records : drop 11264 rs ≡ drop 11264 (s .records)
+  pub records : drop (recordsLength 1024) rs ≡ drop (recordsLength 1024) (s .records)
   pub literals : drop 1024 ls ≡ drop 1024 (s .literals)
-  pub names : drop 4096 ns ≡ drop 4096 (s .names)
+  pub names : drop (entriesLength 128) ns ≡ drop (entriesLength 128) (s .names)
 
 -- the second store has the terms of the first, under their numbers, and maybe more
 pub record Grows (s s′ : Store) : Type 0 where

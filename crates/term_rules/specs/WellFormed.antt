@@ -1,12 +1,12 @@
 -- When a lent store is well formed: document 01, 'Terms'. Assumes nothing: these are definitions.
-use Prim.Native.Nat.{ℕ, zero, suc, _+_, _*_, _-_}
+use Prim.Native.Nat.{ℕ, zero, suc}
 use mathlib.Core.Bool.{Bool, true, false, _&&_, not}
 use mathlib.Core.List.{List, [], _∷_}
-use lib.ListN.{length, take, drop}
+use lib.ListN.{take, drop}
 use lib.Dec.{eqb, ltb, leb}
 use lib.IntN.{ℤ, pos, negsuc}
 use Rattle.name.specs.Name.{valid, same}
-use Rattle.name.specs.Entries.{lengthAt}
+use Rattle.name.specs.Entries.{lengthAt, nameAt, paddingAt}
 use Rattle.term_rules.specs.declared.Term.{Term}
 use Rattle.term_rules.specs.Lent.{Store, byKind, recordAt, symbolAt, termRoom, symbolRoom}
 
@@ -33,9 +33,7 @@ sameInt (negsuc m) (negsuc n) = eqb m n
 -- "names valid": entry k has at most 31 bytes, a valid name, and zeros past it
 unfoldable pub soundName : List ℕ → ℕ → Bool
 soundName ns k =
-    leb (lengthAt ns k) 31
-    && (valid (take (lengthAt ns k) (drop (k * 32 + 1) ns))
-    && allZero (take (31 - lengthAt ns k) (drop (k * 32 + 1 + lengthAt ns k) ns)))
+    leb (lengthAt ns k) 31 && (valid (nameAt ns k) && allZero (paddingAt ns k))
 
 -- a literal uses its literal alone
 unfoldable pub soundLiteral : Term → Bool

@@ -10,7 +10,8 @@ use Rattle.text_rules.specs.Forms.{children}
 use Rattle.text_rules.specs.Bindings.{Bound, bindings}
 use Rattle.text_rules.specs.LetText.{several, textWith, bindingsOf, letLayout}
 use Rattle.text.proofs.Alike.KidLaws.{bindings-same}
-use Rattle.text_pieces.specs.Readable.{nodes, kidsAt, Readable}
+use Rattle.term_rules.specs.Lent.{kidsAt}
+use Rattle.text_pieces.specs.Readable.{nodes, Readable}
 use Rattle.text_pieces.proofs.heads.NodeLaws.{children-of-nodes}
 use Rattle.text_counts.specs.Tallies.{Linked}
 use Rattle.text_counts.specs.Met.{bounds, Blank, AllMet}

@@ -107,7 +107,7 @@ module _ (rs : List ℕ) (ls : List ℤ) (ns : List ℕ) (terms symbols : ℕ) (
       ap (λ x. several (headText x)) (node-variable rs ls ns t (r .kind))
       ∙ clean-of-valid _ (w .name _ (r .symbol) .allowed)
   head-clean t (anApplication r) =
-      ap (λ x. several (headText x)) (node-application rs ls ns t (r .kind) (r .count))
+      ap (λ x. several (headText x)) (node-application rs ls ns t (r .kind))
       ∙ several-step 40 _ (λ (e : 40 ≡ 10). omega arith) (clean-of-valid _ (w .name _ (r .symbol) .allowed))
 
   pub layable-of-sound :

@@ -22,13 +22,13 @@ use Rattle.text_rules.proofs.CountLaws.{
   stage-give,
 }
 use Rattle.text_rules.proofs.SizeLaws.{sumOf-step, sumOf-none, sumOf-capped, size-step}
-use Rattle.text_pieces.specs.Readable.{arityAt, kidsAt}
+use Rattle.term_rules.specs.Lent.{kidsAt}
+use Rattle.term_layout.proofs.KidsLaws.{kids-length}
 use Rattle.text_counts.specs.Tallies.{Linked, Most, Added, Given, Counts, Sizes, sumAt}
 
 pub kids-few : (rs : List ℕ) (n t : ℕ) → Linked rs n → t < n → length (kidsAt rs t) ≤ 8
 kids-few rs n t w l =
-    omega
-    (arith, length-take (t * 11 + 3 + arityAt rs t - (t * 11 + 3)) (drop (t * 11 + 3) rs), w .arity t l)
+    omega (arith, kids-length rs t, w .arity t l)
 
 pub most-set : (b : ℕ) (xs : List ℕ) (k v : ℕ) → Most b xs → v ≤ b → Most b (set xs k v)
 most-set b [] k v m h i = m i

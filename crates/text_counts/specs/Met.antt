@@ -6,7 +6,7 @@ use Prim.Native.Nat.{ℕ, zero, suc, _+_, _*_, _-_, _<_, _≤_}
 use lib.ListN.{length, getD}
 use lib.Dec.{ltb, leb, eqb}
 use Rattle.text_rules.specs.Bindings.{Bound, Place, nowhere, place, find, toBind, meetIn, bindings}
-use Rattle.text_pieces.specs.Readable.{kidsAt}
+use Rattle.term_rules.specs.Lent.{kidsAt}
 use Rattle.text_counts.specs.Tallies.{Linked, Most}
 
 -- the first m bindings

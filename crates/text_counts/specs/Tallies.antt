@@ -1,15 +1,16 @@
 -- The tables of counts and sizes. Assumes nothing: these are definitions.
 use mathlib.Core.Path.{_≡_}
 use mathlib.Core.List.{List}
-use Prim.Native.Nat.{ℕ, _+_, _*_, _-_, _<_, _≤_, min}
+use Prim.Native.Nat.{ℕ, _+_, _-_, _<_, _≤_, min}
 use lib.ListN.{length, getD}
 use Rattle.text_rules.specs.Counts.{places, count, sumOf, size}
-use Rattle.text_pieces.specs.Readable.{arityAt, kidsAt, Inside}
+use Rattle.term_rules.specs.Lent.{recordsLength, arityAt, kidsAt}
+use Rattle.text_pieces.specs.Readable.{Inside}
 
 -- the children of the first n terms can be read, and are lower
 pub record Linked (rs : List ℕ) (n : ℕ) : Type 0 where
   pub few : n ≤ 1024
-  pub inRecords : n * 11 ≤ length rs
+  pub inRecords : recordsLength n ≤ length rs
   pub arity : (t : ℕ) → t < n → arityAt rs t ≤ 8
   pub lower : (t : ℕ) → t < n → Inside t (kidsAt rs t)
 

@@ -27,9 +27,7 @@ pub fn meet(
     if 0 < places[t] {
         return m;
     }
-    let a = t * 11 + 3;
-    let e = a + records[t * 11 + 2] as usize;
-    let ks = &records[a..e];
+    let ks = term_layout::children_of(records, t);
     let mut b = m;
     let mut j = 0;
     while j < ks.len() {

@@ -49,9 +49,7 @@ pub fn count(counts: &mut [u64], records: &[u64], n: usize)
     let mut t = n;
     while 0 < t {
         t -= 1;
-        let a = t * 11 + 3;
-        let e = a + records[t * 11 + 2] as usize;
-        give_on(counts, t, &records[a..e]);
+        give_on(counts, t, term_layout::children_of(records, t));
     }
 }
 
@@ -87,9 +85,7 @@ pub fn size(sizes: &mut [u64], records: &[u64], n: usize)
 {
     let mut t = 0;
     while t < n {
-        let a = t * 11 + 3;
-        let e = a + records[t * 11 + 2] as usize;
-        sizes[t] = size_of(sizes, &records[a..e]);
+        sizes[t] = size_of(sizes, term_layout::children_of(records, t));
         t += 1;
     }
 }

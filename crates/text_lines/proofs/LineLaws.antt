@@ -21,7 +21,7 @@ use Rattle.decimal.proofs.WrittenLaws.{
   wrote-of-stands,
 }
 use Rattle.text_pieces.specs.Pieces.{capped, gapText}
-use Rattle.text_pieces.specs.Readable.{arityAt}
+use Rattle.term_rules.specs.Lent.{arityAt}
 use Rattle.text_write.specs.Piece.{View, body}
 use Rattle.text_lines.specs.Lines.{bodyWidth, openText, lineText, linesTo}
 

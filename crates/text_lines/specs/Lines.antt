@@ -5,7 +5,7 @@ use Prim.Native.Nat.{ℕ, zero, suc, _+_, _*_, _^_, _<_, _≤_}
 use lib.ListN.{length, getD}
 use lib.Dec.{eqb, ltb}
 use Rattle.text_pieces.specs.Pieces.{gapText}
-use Rattle.text_pieces.specs.Readable.{arityAt}
+use Rattle.term_rules.specs.Lent.{arityAt}
 use Rattle.text_write.specs.Piece.{View, body}
 
 -- the width that decides whether a body at indent i is broken: a term without children never is

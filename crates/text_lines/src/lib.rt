@@ -3,6 +3,7 @@ ghost use mathlib.Core.Path.{_≡_};
 ghost use Prim.Native.Nat.{_+_, _*_, _^_, _<_, _≤_};
 ghost use lib.ListN.{length, getD};
 ghost use Rattle.decimal.specs.Written.{Wrote};
+ghost use Rattle.term_rules.specs.Lent.{HasRecord};
 ghost use Rattle.text_pieces.specs.Pieces.{capped, nameText};
 ghost use Rattle.text_write.specs.Piece.{view, Sheet};
 ghost use Rattle.text_lines.specs.Lines.{bodyWidth, openText, lineText, linesTo, Bundle};
@@ -12,12 +13,12 @@ pub mod lets; // lets.rt: the whole let text from its tables: its length, and it
 
 // The width that decides whether a body at indent `i` is broken.
 fn body_width(records: &[u64], wides: &[u64], i: usize, t: usize) -> u64
-    requires { ⌜ (t < 1024) × (t * 11 + 11 ≤ length (now records)) ⌝ }
+    requires { ⌜ HasRecord (now records) t ⌝ }
     requires { ⌜ t < length (now wides) ⌝ }
     requires { ⌜ i + getD (now wides) t 0 < 2 ^ 64 ⌝ }
     ensures { λ r. ⌜ r ≡ bodyWidth (now (records .entry)) (now (wides .entry)) i t ⌝ }
 {
-    if records[t * 11 + 2] == 0 {
+    if term_layout::count_of(records, t) == 0 {
         return 0;
     }
     i as u64 + wides[t]

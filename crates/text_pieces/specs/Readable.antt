@@ -1,31 +1,17 @@
 -- The terms of a lent store as the texts read them. Assumes nothing: these are definitions.
-use Prim.Native.Nat.{ℕ, _+_, _*_, _-_, _≤_, _<_}
+use Prim.Native.Nat.{ℕ, _≤_, _<_}
 use mathlib.Core.Path.{_≡_}
 use mathlib.Core.List.{List, _∷_}
-use lib.ListN.{length, getD, take, drop}
+use lib.ListN.{length, getD}
 use lib.IntN.{ℤ}
 use Rattle.decimal.specs.Decimal.{literalText}
-use Rattle.name.specs.Entries.{lengthAt}
-use Rattle.term_rules.specs.Lent.{store}
+use Rattle.name.specs.Entries.{InEntries}
+use Rattle.term_rules.specs.Lent.{store, recordsLength, kindAt, symbolNo, arityAt, kidsAt}
 use Rattle.term_rules.specs.Nodes.{Node, literal, variable, application, nodeAt}
 
 -- term t of the lent lists; a term's node does not depend on the counts
 abbrev pub nodes : List ℕ → List ℤ → List ℕ → ℕ → Node
 nodes rs ls ns t = nodeAt (store rs ls ns 0 0) t
-
--- the numbers of record t: its kind, its symbol, its count of children
-abbrev pub kindAt : List ℕ → ℕ → ℕ
-kindAt rs t = getD rs (t * 11) 0
-
-abbrev pub symbolNo : List ℕ → ℕ → ℕ
-symbolNo rs t = getD rs (t * 11 + 1) 0
-
-abbrev pub arityAt : List ℕ → ℕ → ℕ
-arityAt rs t = getD rs (t * 11 + 2) 0
-
--- the child numbers of record t, as a part of the records
-abbrev pub kidsAt : List ℕ → ℕ → List ℕ
-kidsAt rs t = take (t * 11 + 3 + arityAt rs t - (t * 11 + 3)) (drop (t * 11 + 3) rs)
 
 -- every number of the list is below n
 abbrev pub Inside : ℕ → List ℕ → Type 0
@@ -40,11 +26,10 @@ headText (application n ks) = 40 ∷ n
 -- what the texts rely on: the first n terms can be read, and their children are lower
 pub record Readable (rs : List ℕ) (ls : List ℤ) (ns : List ℕ) (n : ℕ) : Type 0 where
   pub few : n ≤ 1024
-  pub inRecords : n * 11 ≤ length rs
+  pub inRecords : recordsLength n ≤ length rs
   pub inLiterals : n ≤ length ls
   pub kind : (t : ℕ) → t < n → kindAt rs t ≤ 2
   pub arity : (t : ℕ) → t < n → arityAt rs t ≤ 8
   pub leaf : (t : ℕ) → t < n → kindAt rs t < 2 → arityAt rs t ≡ 0
   pub lower : (t : ℕ) → t < n → Inside t (kidsAt rs t)
-  pub inNames : (t : ℕ) → t < n → 0 < kindAt rs t → symbolNo rs t * 32 + 32 ≤ length ns
-  pub short : (t : ℕ) → t < n → 0 < kindAt rs t → lengthAt ns (symbolNo rs t) ≤ 31
+  pub name : (t : ℕ) → t < n → 0 < kindAt rs t → InEntries ns (symbolNo rs t)

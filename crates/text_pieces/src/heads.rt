@@ -1,9 +1,9 @@
 // What a term's text starts with: its length and its bytes, read from the lent store.
 ghost use mathlib.Core.Path.{_≡_};
-ghost use Prim.Native.Nat.{_+_, _*_, _≤_, _<_};
+ghost use Prim.Native.Nat.{_≤_, _<_};
 ghost use lib.ListN.{length};
 ghost use Rattle.decimal.specs.Written.{Wrote};
-ghost use Rattle.name.specs.Entries.{lengthAt, nameAt};
+ghost use Rattle.name.specs.Entries.{nameAt, InEntries};
 ghost use Rattle.text_pieces.specs.Pieces.{capped};
 ghost use Rattle.text_pieces.specs.Readable.{nodes, headText, Readable};
 
@@ -14,12 +14,12 @@ pub fn head_length(records: &[u64], literals: &[i64], names: &[u8], n: usize, t:
     ensures { λ r. ⌜ r ≡ capped
         (length (headText (nodes (now (records .entry)) (now (literals .entry)) (now (names .entry)) t))) ⌝ }
 {
-    let kind = records[t * 11];
+    let kind = term_layout::kind_of(records, t);
     if kind == 0 {
         return crate::add(0, decimal::literal_length(literals[t]));
     }
-    let k = records[t * 11 + 1] as usize;
-    let long = names[k * 32] as u64;
+    let k = term_layout::symbol_of(records, t) as usize;
+    let long = name::length_of(names, k) as u64;
     if kind == 1 {
         return long;
     }
@@ -28,14 +28,11 @@ pub fn head_length(records: &[u64], literals: &[i64], names: &[u8], n: usize, t:
 
 // Writes the name of symbol `k`.
 fn put_symbol(out: &mut [u8], names: &[u8], k: usize) -> usize
-    requires { ⌜ k * 32 + 32 ≤ length (now names) ⌝ }
-    requires { ⌜ lengthAt (now names) k ≤ 31 ⌝ }
+    requires { ⌜ InEntries (now names) k ⌝ }
     requires { ⌜ length (nameAt (now names) k) ≤ length (now out) ⌝ }
     ensures { λ r. ⌜ Wrote (nameAt (now (names .entry)) k) r (now (out .entry)) (now (out .exit)) ⌝ }
 {
-    let a = k * 32 + 1;
-    let e = a + names[k * 32] as usize;
-    crate::put_bytes(out, &names[a..e])
+    crate::put_bytes(out, name::name_of(names, k))
 }
 
 // Writes the head of term `t`.
@@ -55,11 +52,11 @@ pub fn put_head(
         (now (out .entry)) (now (out .exit))
         ⌝ }
 {
-    let kind = records[t * 11];
+    let kind = term_layout::kind_of(records, t);
     if kind == 0 {
         return decimal::put_literal(out, literals[t]);
     }
-    let k = records[t * 11 + 1] as usize;
+    let k = term_layout::symbol_of(records, t) as usize;
     if kind == 1 {
         return put_symbol(out, names, k);
     }

@@ -13,7 +13,8 @@ use Rattle.name.specs.Entries.{nameAt}
 use Rattle.term_rules.specs.Nodes.{Node, literal, variable}
 use Rattle.text_rules.specs.Forms.{children, each, form}
 use Rattle.text_rules.proofs.FormLaws.{form-same, form-of-application}
-use Rattle.text_pieces.specs.Readable.{nodes, kindAt, symbolNo, kidsAt, headText, Inside, Readable}
+use Rattle.term_rules.specs.Lent.{kindAt, symbolNo, kidsAt}
+use Rattle.text_pieces.specs.Readable.{nodes, headText, Inside, Readable}
 use Rattle.text_pieces.proofs.heads.NodeLaws.{node-literal, node-variable, node-application, children-of-nodes}
 use Rattle.text_write.specs.Piece.{View, shownAbove, shownIn, gapOf, bodyIn, body, piece}
 
@@ -96,7 +97,7 @@ module _ (rs : List ℕ) (ls : List ℤ) (ns : List ℕ) (n : ℕ) (r : Readable
       kindAt rs t ≡ 2 →
       form gap g (nodes rs ls ns t) ≡ headText (nodes rs ls ns t) ++ (each gap g (kidsAt rs t) ++ (41 ∷ []))
   form-of-applied gap g e =
-      let a = node-application rs ls ns t e (r .arity t k) in
+      let a = node-application rs ls ns t e in
       ap (form gap g) a
       ∙ (form-of-application gap g (nameAt ns (symbolNo rs t)) (kidsAt rs t)
       ∙ sym (ap (λ (x : Node). headText x ++ (each gap g (kidsAt rs t) ++ (41 ∷ []))) a))

@@ -41,13 +41,11 @@ pub fn text_length(
         return text_pieces::name_length(stem, start, bare, b - 1);
     }
     let mut acc = heads::head_length(records, literals, names, n, t);
-    if records[t * 11] != 2 {
+    if term_layout::kind_of(records, t) != 2 {
         return acc;
     }
     let gap = text_pieces::gap_length(limit, i as u64 + wides[t], (m + i + 2) as u64);
-    let a = t * 11 + 3;
-    let e = a + records[t * 11 + 2] as usize;
-    let ks = &records[a..e];
+    let ks = term_layout::children_of(records, t);
     let mut j = 0;
     while j < ks.len() {
         let k = ks[j] as usize;

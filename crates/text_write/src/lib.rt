@@ -48,13 +48,11 @@ pub fn put(
         return text_pieces::put_name(out, stem, start, bare, b - 1);
     }
     let mut p = heads::put_head(out, records, literals, names, n, t);
-    if records[t * 11] != 2 {
+    if term_layout::kind_of(records, t) != 2 {
         return p;
     }
     let width = i as u64 + wides[t];
-    let a = t * 11 + 3;
-    let e = a + records[t * 11 + 2] as usize;
-    let ks = &records[a..e];
+    let ks = term_layout::children_of(records, t);
     let mut j = 0;
     while j < ks.len() {
         p += text_pieces::put_gap(&mut out[p..], limit, width, m + i + 2);

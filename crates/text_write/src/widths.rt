@@ -53,12 +53,10 @@ fn width(
         ⌝ }
 {
     let mut acc = heads::head_length(records, literals, names, n, t);
-    if records[t * 11] != 2 {
+    if term_layout::kind_of(records, t) != 2 {
         return acc;
     }
-    let a = t * 11 + 3;
-    let e = a + records[t * 11 + 2] as usize;
-    let ks = &records[a..e];
+    let ks = term_layout::children_of(records, t);
     let mut j = 0;
     while j < ks.len() {
         let child = shown_width(places, wides, stem, start, bare, ks[j] as usize);

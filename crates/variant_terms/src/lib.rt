@@ -166,7 +166,7 @@ pub fn whole_rows(
         (now (literals .exit)) (now (names .exit)) terms symbols) ⌝ }
 {
     let mut memo = [0u64; 512];
-    let mut old_records = [0u64; 11264];
+    let mut old_records = [0u64; term_layout::RECORDS];
     let mut old_literals = [0i64; 1024];
     let mut old_names = [0u8; 4096];
     copies::numbers(&mut old_records, records);

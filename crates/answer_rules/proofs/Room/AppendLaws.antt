@@ -7,22 +7,23 @@ use mathlib.Core.List.{List}
 use mathlib.Core.Logic.{_⊎_, inl, inr}
 use native.Mathlib.Omega.{arith}
 use lib.ListN.{length, length-set}
-use lib.Seq.{length-paste}
 use lib.Dec.{ltb}
 use borrow.Author.Tests.{ltb-true, ltb-false}
 use Rattle.name.specs.Name.{valid}
-use Rattle.name.specs.Entries.{putName}
+use Rattle.name.specs.Entries.{entriesLength, entryRoom, HasEntry, putName}
 use Rattle.name.specs.declared.Found.{Found}
 use Rattle.name.specs.declared.Found.the-variants.{At, Missing}
 use Rattle.term_rules.specs.declared.Term.{Term}
-use Rattle.term_rules.specs.Lent.{Store, store, numbers, symbolAt, termRoom, symbolRoom}
+use Rattle.term_rules.specs.Lent.{Store, store, symbolAt, termRoom, symbolRoom}
 use Rattle.term_rules.specs.Facts.{Sound}
 use Rattle.term_rules.specs.Nodes.{Node, literal, variable, application, recordOf}
 use Rattle.term_rules.specs.Adding.{findSymbol, symbolFor, withName, withRecord, append, roomForName, roomFor}
 use Rattle.term_rules.proofs.TestLaws.{cases, and-first, and-second}
 use Rattle.term_rules.specs.Growing.{Fit}
 use Rattle.term_rules.proofs.Adding.AppendLaws.{Room, room-of-terms}
-use Rattle.term_rules.proofs.Adding.NamingLaws.{valid-short, putName-before, putName-at, putName-length}
+use Rattle.name.proofs.PutLaws.{nameAt-kept, nameAt-put, putName-length}
+use Rattle.term_rules.proofs.LayoutLaws.{put-length}
+use Rattle.term_rules.proofs.Adding.NamingLaws.{valid-short}
 use Rattle.term_rules.proofs.Adding.NodeLaws.{recordOf-wide}
 
 -- the name is the node's
@@ -52,11 +53,11 @@ renamed-self s Q = record {
 
 module _ (s : Store) (sound : Sound s) (name : List ℕ) (v : valid name ≡ true) where
   module _ (room : ltb (s .symbols) (symbolRoom s) ≡ true) where
-    fits : s .symbols * 32 + 32 ≤ length (s .names)
+    fits : HasEntry (s .names) (s .symbols)
     unfolding symbolRoom
     fits =
-        let l : s .symbols < min 128 (length (s .names) / 32) =
-        ltb-true (s .symbols) (min 128 (length (s .names) / 32)) room in
+        let l : s .symbols < min 128 (entryRoom (length (s .names))) =
+        ltb-true (s .symbols) (min 128 (entryRoom (length (s .names)))) room in
         omega arith
 
     abbrev named : Store
@@ -64,19 +65,19 @@ module _ (s : Store) (sound : Sound s) (name : List ℕ) (v : valid name ≡ tru
 
     renamed-new : Renamed s (λ (m : List ℕ). m ≡ name) named
     renamed-new =
-        let long : s .symbols * 32 ≤ length (s .names) = omega (arith, fits) in
+        let long : entriesLength (s .symbols) ≤ length (s .names) = omega (arith, fits) in
         let short : length name ≤ 31 = valid-short name v in
         record {
           records = refl;
           literals = refl;
           long = putName-length (s .names) (s .symbols) name long short fits;
           more = omega arith;
-          old = λ k l. putName-before (s .names) (s .symbols) name long short k l (sound .name k l .short);
+          old = λ k l. nameAt-kept (s .names) (s .symbols) name long short k l (sound .name k l .short);
           new = λ k l.
               cases (ltb k (s .symbols)) (λ e. inl (ltb-true k (s .symbols) e))
               (λ e.
               let d : k ≡ s .symbols = omega (arith, l, ltb-false k (s .symbols) e) in
-              inr (ap (symbolAt named) d ∙ putName-at (s .names) (s .symbols) name long short));
+              inr (ap (symbolAt named) d ∙ nameAt-put (s .names) (s .symbols) name long short));
         }
 
   renamed-by :
@@ -134,7 +135,7 @@ module _ (s : Store) (Q : List ℕ → Type 0) (b : Store) (t : Term) where
   unfolding withRecord
   record-renamed r room wide = record {
     records =
-        length-paste (b .records) (b .terms * 11) (numbers t) 11 (room .records) (omega (arith, wide)) ∙ r .records;
+        put-length (b .records) (b .terms) t (omega (arith, room .records)) wide (room .records) ∙ r .records;
     literals = length-set (b .literals) (b .terms) (t .literal) ∙ r .literals;
     long = r .long;
     more = r .more;

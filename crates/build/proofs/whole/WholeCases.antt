@@ -6,7 +6,7 @@ use lib.ListN.{replicate}
 use lib.IntN.{pos}
 use Rattle.name.specs.Name.{same}
 use Rattle.name.specs.Entries.{nameAt, entry, putName, findFrom, findName}
-use Rattle.term_rules.specs.Lent.{Store, store, recordIn, termRoom, symbolRoom, byKind}
+use Rattle.term_rules.specs.Lent.{Store, store, recordIn, termRoom, symbolRoom, byKind, recordsLength}
 use Rattle.term_rules.specs.WellFormed.{sameInt}
 use Rattle.term_rules.specs.Nodes.{nodeOf, nodeAt, sameNode, recordOf}
 use Rattle.term_rules.specs.Adding.{firstFrom, findTerm, symbolFor, withName, withRecord, append, roomForName, roomFor, add}
@@ -24,7 +24,7 @@ plan = (0 ∷ 1 ∷ 512 ∷ replicate 7 0) ++ (1 ∷ 2 ∷ 0 ∷ 0 ∷ replicate
 
 -- an empty store with room for n terms and two names
 abbrev empty : ℕ → Store
-empty n = store (replicate (n * 11) 0) (replicate n (pos 0)) (replicate 64 0) 0 0
+empty n = store (replicate (recordsLength n) 0) (replicate n (pos 0)) (replicate 64 0) 0 0
 
 four-terms : whole (planOf plan functions (pos 5 ∷ [])) 3 (empty 4) 2 .answer ≡ Done 3 4 2
 unfolding whole left buildIn ownIn childrenIn childIn kept added add roomFor roomForName append withRecord withName

@@ -61,8 +61,7 @@ use Rattle.lent.proofs.put_at as put
 use Rattle.lent.proofs.put_at.Symbol as put-def
 use Rattle.lent.proofs.put_at.Symbol.{name as #put}
 use Rattle.lent.proofs.put_at.Met as put-thm
-use Rattle.term_rules.specs.Lent.{recordIn}
-use Rattle.term_record.specs.Flat.{InRecords}
+use Rattle.term_rules.specs.Lent.{recordsLength, InRecords, recordIn, numbers}
 use Rattle.lent.proofs.Values.{numbers-of, literals-of, room-of}
 use Rattle.lent.proofs.CopyLaws.{putTo, putTo-none, putTo-more, putTo-length}
 use Rattle.lent.proofs.Lending.{ref, big-lit, array-shown, array-unshown, slice-lent, slice-back}
@@ -77,7 +76,7 @@ abbrev stayed : Stays (it.ended .signature .params) (it.ended .kept)
 stayed = (stay-slice (0 ∷ []) tt (plain (λ _. T.the-row)), (stay-dropped (plain (λ _. F.the-row)) yes, tt))
 
 abbrev Numbers : RattleType
-Numbers = Array u64 11264
+Numbers = Array u64 (recordsLength 1024)
 
 abbrev Literals : RattleType
 Literals = Array i64 1024
@@ -86,7 +85,7 @@ abbrev word : Ty
 word = tyInt w64
 
 abbrev numbersTy : Ty
-numbersTy = tyArray word 11264
+numbersTy = tyArray word (recordsLength 1024)
 
 abbrev literalsTy : Ty
 literalsTy = tyArray word 1024
@@ -147,13 +146,13 @@ module _ {M : Type 1} (𝓤 : URA M) (H : Heap 𝓤) (A : Atoms 𝓤) (W : Given
   Own zs = MutSlice (named 0) κ T.the-row .own (ref b o γ zs) (s ∷ [])
 
   numbers-makes : Makes 𝓤 H A Numbers (Is Numbers)
-  numbers-makes = array-makes 𝓤 H A W u64 (uint-makes 𝓤 H A W w64) 11264
+  numbers-makes = array-makes 𝓤 H A W u64 (uint-makes 𝓤 H A W w64) (recordsLength 1024)
 
   literals-makes : Makes 𝓤 H A Literals (Is Literals)
   literals-makes = array-makes 𝓤 H A W i64 (sint-makes 𝓤 H A W w64) 1024
 
   numbers-typed : Holds (hasTy numbersTy vr) × WT vr
-  numbers-typed = array-lawful 𝓤 H A W u64 (uint-lawful 𝓤 H A W w64) 11264 .typed rs (vr ∷ []) isr .0
+  numbers-typed = array-lawful 𝓤 H A W u64 (uint-lawful 𝓤 H A W w64) (recordsLength 1024) .typed rs (vr ∷ []) isr .0
 
   literals-typed : Holds (hasTy literalsTy vl) × WT vl
   literals-typed = array-lawful 𝓤 H A W i64 (sint-lawful 𝓤 H A W w64) 1024 .typed ls (vl ∷ []) isl .0
@@ -166,7 +165,7 @@ module _ {M : Type 1} (𝓤 : URA M) (H : Heap 𝓤) (A : Atoms 𝓤) (W : Given
       (fullShare, (fullShare, tt)),
       tt,
       (ref l 0 δ rs, (ref l′ 0 δ′ ls, (i, tt))),
-      (sliceVal (l, 0) 11264 ∷ [], (sliceVal (l′, 0) 1024 ∷ [], (vint w64 i ∷ [], tt))),
+      (sliceVal (l, 0) (recordsLength 1024) ∷ [], (sliceVal (l′, 0) 1024 ∷ [], (vint w64 i ∷ [], tt))),
     ),
     tt,
   )
@@ -174,12 +173,12 @@ module _ {M : Type 1} (𝓤 : URA M) (H : Heap 𝓤) (A : Atoms 𝓤) (W : Given
   goes-rof :
       (l l′ ν ν′ : ℕ) (δ δ′ : GName) (i : ℕ) → i < 2 ^ 64 → InRecords rs ls i →
       ent 𝓤 (⋆ 𝓤 H A (‵ (flft (ν ∷ []) fullShare) ∷ ‵ (flft (ν′ ∷ []) fullShare)
-      ∷ ‵ (ShrSlice (named 0) (ν ∷ []) u64 .own (ref l 0 δ rs) (sliceVal (l, 0) 11264 ∷ []))
+      ∷ ‵ (ShrSlice (named 0) (ν ∷ []) u64 .own (ref l 0 δ rs) (sliceVal (l, 0) (recordsLength 1024) ∷ []))
       ∷ ‵ (ShrSlice (named 1) (ν′ ∷ []) i64 .own (ref l′ 0 δ′ ls) (sliceVal (l′, 0) 1024 ∷ [])) ∷ []))
       (Of 𝓤 H A rof.ended (rof.clauses 𝓤 H A mem run) .pre (to-rof l l′ ν ν′ δ δ′ i))
   goes-rof l l′ ν ν′ δ δ′ i gi asked =
       qed W (‵ (flft (ν ∷ []) fullShare) ∷ ‵ (flft (ν′ ∷ []) fullShare)
-      ∷ ‵ (ShrSlice (named 0) (ν ∷ []) u64 .own (ref l 0 δ rs) (sliceVal (l, 0) 11264 ∷ []))
+      ∷ ‵ (ShrSlice (named 0) (ν ∷ []) u64 .own (ref l 0 δ rs) (sliceVal (l, 0) (recordsLength 1024) ∷ []))
       ∷ ‵ (ShrSlice (named 1) (ν′ ∷ []) i64 .own (ref l′ 0 δ′ ls) (sliceVal (l′, 0) 1024 ∷ [])) ∷ []) ∵
       says ! asked $ nothing ! $ move ! (2 ∷ 0 ∷ []) $ join ! $ move ! (1 ∷ 0 ∷ []) $ join ! $ frame ! $ nothing ! $
       owned ! usize (Is usize) (uint-makes 𝓤 H A W w64) i _ (refl, gi) $ fjoin ! $ move ! (2 ∷ 0 ∷ []) $ fjoin ! $
@@ -284,7 +283,7 @@ module _ {M : Type 1} (𝓤 : URA M) (H : Heap 𝓤) (A : Atoms 𝓤) (W : Given
           (init ! 8 refl (tt, (tt, (record { fits = lit< tt }, tt)))) $
           -- the arrays are shown to `term_record::record_at`
           move ! (26 ∷ []) $
-          array-shown ! tt u64 tt 11264 l₃ (named 0) numbers-makes (lit< tt, lit< tt) rs vr isr (λ ν δ.
+          array-shown ! tt u64 tt (recordsLength 1024) l₃ (named 0) numbers-makes (lit< tt, lit< tt) rs vr isr (λ ν δ.
           move ! (27 ∷ []) $
           array-shown ! tt i64 tt 1024 l₄ (named 1) literals-makes (lit< tt, lit< tt) ls vl isl (λ ν′ δ′.
           move ! (3 ∷ 0 ∷ 4 ∷ 1 ∷ []) $ group ! 4 $
@@ -297,7 +296,7 @@ module _ {M : Type 1} (𝓤 : URA M) (H : Heap 𝓤) (A : Atoms 𝓤) (W : Given
           use1 W (‵ (flft (ν ∷ []) fullShare) ⊛ ‵ (flft (ν′ ∷ []) fullShare) ⊛ ‵ ftrue) (id⊢ 𝓤 _) $ split ! $
           move ! (1 ∷ []) $ split ! $
           land ! (from ! (stop !)) (init ! 23 refl (LL.lawful T.the-type T′.the-laws 𝓤 H A W .typed r _ isr′ .0)) $
-          move ! (2 ∷ 4 ∷ []) $ array-unshown ! tt u64 11264 l₃ (uint-vals w64) (uint-tells w64) rs vr isr $
+          move ! (2 ∷ 4 ∷ []) $ array-unshown ! tt u64 (recordsLength 1024) l₃ (uint-vals w64) (uint-tells w64) rs vr isr $
           move ! (1 ∷ 3 ∷ []) $ array-unshown ! tt i64 1024 l₄ (sint-vals w64) (sint-tells w64) ls vl isl $
           -- ts is lent again for the call of `put_at`
           assigns ! (addr ! (from ! (fld ! refl (hop ! (look-in ! 31 (sub ! 0 refl (whole !))) (stop !)))))

@@ -4,7 +4,7 @@ use Prim.Native.Nat.{ℕ, _*_}
 use mathlib.Core.Path.{_≡_, sym, ap, _∙_}
 use lib.ListN.{length, length-replicate}
 use lib.Seq.{length-take-le, length-front}
-use Rattle.term_rules.specs.Lent.{Store}
+use Rattle.term_rules.specs.Lent.{Store, recordsLength}
 use Rattle.answer_rules.specs.Answers.{After}
 use Rattle.answer_rules.specs.Best.{BestTerm, bestAt}
 use Rattle.best_root.specs.Single.{seenBest}
@@ -31,7 +31,7 @@ array-borrow-prefix-records c = search needs
 slice-aggregate-best : tie.Need-slice-aggregate-best
 slice-aggregate-best c =
     let f = c .before .before .before .before .before .before .before .before .args .f in
-    sym (length-take-le (f .room * 11) (f .records) (omega arith))
+    sym (length-take-le (recordsLength (f .room)) (f .records) (omega arith))
 
 array-borrow-prefix-literals : tie.Need-array-borrow-prefix-literals
 array-borrow-prefix-literals c = search needs
@@ -86,9 +86,9 @@ returns c =
     let names = c .before .before .before .before .before .before .before .before .before .before .before .before
     .load-names in
     let whole = start .pre in
-    let long : length (call .last .1 .1 .1 .0) ≡ f .room * 11 =
+    let long : length (call .last .1 .1 .1 .0) ≡ recordsLength (f .room) =
     c .before .before .before .before .before .before .records3 .given
-    ∙ length-take-le (f .room * 11) (f .records) (omega (arith, whole .long, whole .within)) in
+    ∙ length-take-le (recordsLength (f .room)) (f .records) (omega (arith, whole .long, whole .within)) in
     let wide : length (call .last .1 .1 .1 .1 .0) ≡ f .room =
     c .before .before .before .before .before .literals3 .given
     ∙ length-take-le (f .room) (f .literals) (omega (arith, whole .wide, whole .within)) in

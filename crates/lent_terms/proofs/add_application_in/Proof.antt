@@ -5,7 +5,7 @@ use Prim.Native.Nat.{ℕ, _*_}
 use mathlib.Core.Path.{_≡_, sym, ap, _∙_}
 use lib.ListN.{length, length-replicate}
 use lib.Seq.{length-take-le, length-front}
-use Rattle.term_rules.specs.Lent.{Store}
+use Rattle.term_rules.specs.Lent.{Store, recordsLength}
 use Rattle.term.specs.Calls.{addApplication}
 use Rattle.lent_terms.proofs.AddedLaws.{added-names}
 use borrow.Author.Needs.{needs}
@@ -88,8 +88,8 @@ returns c =
     .load-names in
     let whole = c .before .before .before .before .before .before .before .before .before .before .before .before
     .before .before .before .before .before .before .before .pre in
-    let long : length (call .last .0) ≡ f .room * 11 =
-    c .before .before .before .before .before .before .records3 .given ∙ length-take-le (f .room * 11) (f .records)
+    let long : length (call .last .0) ≡ recordsLength (f .room) =
+    c .before .before .before .before .before .before .records3 .given ∙ length-take-le (recordsLength (f .room)) (f .records)
     (omega (arith, whole .long, whole .within)) in
     let wide : length (call .last .1 .0) ≡ f .room =
     c .before .before .before .before .before .literals3 .given ∙ length-take-le (f .room) (f .literals) (omega

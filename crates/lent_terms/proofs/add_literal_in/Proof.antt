@@ -8,7 +8,7 @@ use mir.Val.{toZ, ofZ}
 use lib.Seq.{length-take-le}
 use lib.ListN.{length}
 use Rattle.lent_terms.proofs.AddedLaws.{added-same-names}
-use Rattle.term_rules.specs.Lent.{Store}
+use Rattle.term_rules.specs.Lent.{Store, recordsLength}
 use Rattle.term.specs.Calls.{addLiteral}
 use borrow.Author.Needs.{needs}
 use Rattle.lent_terms.proofs.add_literal_in.Statement.{statement}
@@ -31,7 +31,7 @@ array-borrow-prefix-records c = search needs
 
 slice-aggregate-add-literal : tie.Need-slice-aggregate-add-literal
 slice-aggregate-add-literal c =
-    sym (length-take-le (c .before .before .before .before .before .before .args .f .room * 11) (c .before .before
+    sym (length-take-le (recordsLength (c .before .before .before .before .before .before .args .f .room)) (c .before .before
     .before .before .before .before .args .f .records) (omega arith))
 
 array-borrow-prefix-literals : tie.Need-array-borrow-prefix-literals
@@ -64,7 +64,7 @@ returns c =
     let f = g .f in
     let call = c .before .before .add-literal in
     let names = c .before .before .before .before .before .before .before .load-names .ensures in
-    let long : length (call .last .0) ≡ f .room * 11 = c .before .records3 .given ∙ length-take-le (f .room * 11) (f
+    let long : length (call .last .0) ≡ recordsLength (f .room) = c .before .records3 .given ∙ length-take-le (recordsLength (f .room)) (f
     .records) (omega arith) in
     let wide : length (call .last .1 .0) ≡ f .room = c .literals3 .given ∙ length-take-le (f .room) (f .literals)
     (omega arith) in

@@ -5,7 +5,7 @@ use Prim.Native.Nat.{ℕ, _*_}
 use mathlib.Core.Path.{_≡_, sym, ap, _∙_}
 use lib.ListN.{length, length-replicate}
 use lib.Seq.{length-take-le, length-front}
-use Rattle.term_rules.specs.Lent.{Store}
+use Rattle.term_rules.specs.Lent.{Store, recordsLength}
 use Rattle.term.specs.Calls.{addVariable}
 use Rattle.lent_terms.proofs.AddedLaws.{added-names}
 use borrow.Author.Needs.{needs}
@@ -29,7 +29,7 @@ array-borrow-prefix-records c = search needs
 
 slice-aggregate-add-variable : tie.Need-slice-aggregate-add-variable
 slice-aggregate-add-variable c =
-    sym (length-take-le (c .before .before .before .before .before .before .before .before .args .f .room * 11) (c
+    sym (length-take-le (recordsLength (c .before .before .before .before .before .before .before .before .args .f .room)) (c
     .before .before .before .before .before .before .before .before .args .f .records) (omega arith))
 
 array-borrow-prefix-literals : tie.Need-array-borrow-prefix-literals
@@ -86,8 +86,8 @@ returns c =
     .load-names in
     let whole = c .before .before .before .before .before .before .before .before .before .before .before .before
     .before .before .before .before .before .before .pre in
-    let long : length (call .last .0) ≡ f .room * 11 =
-    c .before .before .before .before .before .before .records3 .given ∙ length-take-le (f .room * 11) (f .records)
+    let long : length (call .last .0) ≡ recordsLength (f .room) =
+    c .before .before .before .before .before .before .records3 .given ∙ length-take-le (recordsLength (f .room)) (f .records)
     (omega (arith, whole .long, whole .within)) in
     let wide : length (call .last .1 .0) ≡ f .room =
     c .before .before .before .before .before .literals3 .given ∙ length-take-le (f .room) (f .literals) (omega

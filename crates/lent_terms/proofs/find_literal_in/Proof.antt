@@ -6,7 +6,7 @@ use mathlib.Core.Path.{_≡_, sym, ap, _∙_}
 use lib.Seq.{length-take-le}
 use mir.Syntax.{w64}
 use mir.Val.{toZ, ofZ}
-use Rattle.term_rules.specs.Lent.{Store}
+use Rattle.term_rules.specs.Lent.{Store, recordsLength}
 use Rattle.term.specs.Calls.{findLiteral}
 use Rattle.lent.proofs.StoreLaws.{storeIn-is}
 use borrow.Author.Needs.{needs}
@@ -30,7 +30,7 @@ array-share-prefix-records c = search needs
 
 slice-aggregate-find-literal : tie.Need-slice-aggregate-find-literal
 slice-aggregate-find-literal c =
-    sym (length-take-le (c .before .before .before .before .before .before .args .f .room * 11) (c .before .before
+    sym (length-take-le (recordsLength (c .before .before .before .before .before .before .args .f .room)) (c .before .before
     .before .before .before .before .args .f .records) (omega arith))
 
 array-share-prefix-literals : tie.Need-array-share-prefix-literals

@@ -6,6 +6,7 @@ use lib.Seq.{length-take-le}
 use lib.IntN.{ℤ, pos}
 use native.Mathlib.Omega.{arith}
 use borrow.Author.Needs.{needs}
+use Rattle.term_rules.specs.Lent.{recordsLength}
 use Rattle.run_texts.proofs.lay.Statement.{statement}
 use Rattle.run_texts.proofs.lay.Tie as tie
 
@@ -82,7 +83,7 @@ slice-aggregate-run c =
     let l = d6 .load-records in
     let r = d9 .wide3 in
     sym
-    (length-take-le (r .result * 11) (l .last .0)
+    (length-take-le (recordsLength (r .result)) (l .last .0)
     (omega (arith, l .kept .0, r .ensures, length-replicate {A = ℕ} 2805 0)))
 
 array-share-prefix-literals : tie.Need-array-share-prefix-literals

@@ -32,7 +32,7 @@ put-record-requires c κs =
     room-get (length (g .records .now)) (length (g .literals .now)) (g .terms)
     (sym (c .before .before .before .before .has-room .ensures) ∙ not-false _
     (c .before .before .before .if1 .left)) in
-    (record { numbers = r .1; literal = r .2 }, omega arith)
+    (record { numbers = omega (arith, r .1); literal = r .2 }, omega arith)
 
 add-t9 : tie.Need-add-t9
 add-t9 c =

@@ -59,57 +59,49 @@ returns-2 c =
 put-requires : tie.Need-put-requires
 put-requires c κs =
     let g =
-    c .before .before .before .before .before .before .before .before .before .before .before
-    .before .before .args in (
-      name-room-get (length (g .names .now)) (g .symbols)
-          (sym (c .before .before .has-name-room .ensures) ∙ not-false _ (c .before .if2 .left)) .1,
-      c .before .before .before .before .before .before .before .before .before .before .before
-          .before .before .pre .1 .0,
+    c .before .before .before .before .before .before .before .before .before .before .before .before .before .args in (
+      omega (
+        arith,
+        name-room-get (length (g .names .now)) (g .symbols)
+            (sym (c .before .before .has-name-room .ensures) ∙ not-false _ (c .before .if2 .left)) .1,
+      ),
+      c .before .before .before .before .before .before .before .before .before .before .before .before .before .pre .1 .0,
     )
 
 put-record-requires : tie.Need-put-record-requires
 put-record-requires c κs =
     let g =
-    c .before .before .before .before .before .before .before .before .before .before .before .before .before
-    .before .before .before .before .before .args in
+    c .before .before .before .before .before .before .before .before .before .before .before .before .before .before .before .before .before .before .args in
     let r =
     room-get (length (g .records .now)) (length (g .literals .now)) (g .terms)
     (sym (c .before .before .before .before .before .before .before .before .before .before .before .before .before
     .has-room .ensures) ∙ not-false _
-    (c .before .before .before .before .before .before .before .before .before .before .before
-    .before .if1 .left)) in (
-      record { numbers = r .1; literal = r .2 },
-      c .before .before .before .before .before .before .before .before .before .before .before .before .before
-          .before .before .before .before .before .pre .1 .1,
+    (c .before .before .before .before .before .before .before .before .before .before .before .before .if1 .left)) in (
+      record { numbers = omega (arith, r .1); literal = r .2 },
+      c .before .before .before .before .before .before .before .before .before .before .before .before .before .before .before .before .before .before .pre .1 .1,
     )
 
 add-t18 : tie.Need-add-t18
 add-t18 c =
     let g =
-    c .before .before .before .before .before .before .before .before .before .before .before .before .before
-    .before .before .before .before .before .before .before .before .before .args in
+    c .before .before .before .before .before .before .before .before .before .before .before .before .before .before .before .before .before .before .before .before .before .before .args in
     omega (
       arith,
       room-get (length (g .records .now)) (length
           (g .literals .now)) (g .terms)
-          (sym (c .before .before .before .before .before .before .before .before .before .before
-          .before .before .before
-          .before .before .before .before .has-room .ensures) ∙ not-false _
-          (c .before .before .before .before .before .before .before .before .before .before .before .before .before
-          .before .before .before .if1 .left)) .0,
+          (sym (c .before .before .before .before .before .before .before .before .before .before .before .before .before .before .before .before .before .has-room .ensures) ∙ not-false _
+          (c .before .before .before .before .before .before .before .before .before .before .before .before .before .before .before .before .if1 .left)) .0,
     )
 
-add-t28 : tie.Need-add-t28
-add-t28 c =
+add-t29 : tie.Need-add-t29
+add-t29 c =
     let g =
-    c .before .before .before .before .before .before .before .before .before .before .before .before .before
-    .before .before .before .before .before .before .before .before .before .args in
+    c .before .before .before .before .before .before .before .before .before .before .before .before .before .before .before .before .before .before .before .before .before .before .args in
     omega (
       arith,
       name-room-get (length
           (g .names .now)) (g .symbols)
-          (sym (c .before .before .before .before .before .before .before .before .before .before
-          .before .has-name-room
+          (sym (c .before .before .before .before .before .before .before .before .before .before .before .has-name-room
           .ensures) ∙ not-false _
           (c .before .before .before .before .before .before .before .before .before .before .if2 .left)) .0,
     )
@@ -126,17 +118,13 @@ same-length-4 c = search needs
 returns-3 : tie.Need-returns-3
 returns-3 c =
     let g =
-    c .before .before .before .before .before .before .before .before .before .before .before .before .before
-    .before .before .before .before .before .before .before .before .before .args in
+    c .before .before .before .before .before .before .before .before .before .before .before .before .before .before .before .before .before .before .before .before .before .before .args in
     named-new (g .records .now) (g .literals .now) (g .names .now) (g .terms) (g .symbols) (g .kind) (g .name .now)
     (g .children .now)
-    (sym (c .before .before .before .before .before .before .before .before .before .before .before .before .before
-    .before .before .before .before .has-room .ensures) ∙ not-false _
-    (c .before .before .before .before .before .before .before .before .before .before .before .before .before
-    .before .before .before .if1 .left)) _ _
+    (sym (c .before .before .before .before .before .before .before .before .before .before .before .before .before .before .before .before .before .has-room .ensures) ∙ not-false _
+    (c .before .before .before .before .before .before .before .before .before .before .before .before .before .before .before .before .if1 .left)) _ _
     (c .before .before .before .put-record .ensures .1) _
-    (sym (c .before .before .before .before .before .before .before .before .before .before .before .before .before
-    .before .find .ensures) ∙
+    (sym (c .before .before .before .before .before .before .before .before .before .before .before .before .before .before .find .ensures) ∙
     c .before .before .before .before .before .before .before .before .before .before .before .before .enum-told
     .given .1)
     (sym (c .before .before .before .before .before .before .before .before .before .before .before .has-name-room
@@ -148,22 +136,19 @@ returns-3 c =
 put-record-requires-2 : tie.Need-put-record-requires-2
 put-record-requires-2 c κs =
     let g =
-    c .before .before .before .before .before .before .before .before .before .before .before
-    .before .before .args in
+    c .before .before .before .before .before .before .before .before .before .before .before .before .before .args in
     let r =
     room-get (length (g .records .now)) (length (g .literals .now)) (g .terms)
     (sym (c .before .before .before .before .before .before .before .before .has-room .ensures) ∙ not-false _
     (c .before .before .before .before .before .before .before .if1 .left)) in (
-      record { numbers = r .1; literal = r .2 },
-      c .before .before .before .before .before .before .before .before .before .before .before
-          .before .before .pre .1 .1,
+      record { numbers = omega (arith, r .1); literal = r .2 },
+      c .before .before .before .before .before .before .before .before .before .before .before .before .before .pre .1 .1,
     )
 
-add-t11 : tie.Need-add-t11
-add-t11 c =
+add-t12 : tie.Need-add-t12
+add-t12 c =
     let g =
-    c .before .before .before .before .before .before .before .before .before .before .before .before .before
-    .before .before .before .before .args in
+    c .before .before .before .before .before .before .before .before .before .before .before .before .before .before .before .before .before .args in
     omega (
       arith,
       room-get (length (g .records .now)) (length
@@ -185,8 +170,7 @@ same-length-7 c = search needs
 returns-4 : tie.Need-returns-4
 returns-4 c =
     let g =
-    c .before .before .before .before .before .before .before .before .before .before .before .before .before
-    .before .before .before .before .args in
+    c .before .before .before .before .before .before .before .before .before .before .before .before .before .before .before .before .before .args in
     named-old (g .records .now) (g .literals .now) (g .names .now) (g .terms) (g .symbols) (g .kind) (g .name .now)
     (g .children .now)
     (sym (c .before .before .before .before .before .before .before .before .before .before .before .before
@@ -212,13 +196,13 @@ append-named-spec =
     put-requires
     put-record-requires
     add-t18
-    add-t28
+    add-t29
     same-length-2
     same-length-3
     same-length-4
     returns-3
     put-record-requires-2
-    add-t11
+    add-t12
     same-length-5
     same-length-6
     same-length-7

@@ -11,42 +11,28 @@ use Rattle.term_record.proofs.CheckLaws.{
   application-child-refuses,
   application-rest,
 }
+use native.Mathlib.Omega.{arith}
 use borrow.Author.Needs.{needs}
 use Rattle.term_record.proofs.is_sound_application.Statement.{statement}
 use Rattle.term_record.proofs.is_sound_application.Tie as tie
 
-mul-at : tie.Need-mul-at
-mul-at c = search needs
-
-add-if1 : tie.Need-add-if1
-add-if1 c = search needs
-
-mul-if1 : tie.Need-mul-if1
-mul-if1 c = search needs
-
-shared-slice-read-if1 : tie.Need-shared-slice-read-if1
-shared-slice-read-if1 c = search needs
+symbol-of-requires : tie.Need-symbol-of-requires
+symbol-of-requires c κs = search needs
 
 returns : tie.Need-returns
 returns c =
     let g = c .before .before .before .args in
-    sym (application-symbol-refuses (g .records .now) (g .literals .now) (g .i) (g .symbols) (c .if1 .taken))
+    sym (application-symbol-refuses (g .records .now) (g .literals .now) (g .i) (g .symbols) (omega (arith, c .if1 .taken, c .before .symbol-of .ensures)))
 
-add-count : tie.Need-add-count
-add-count c = search needs
-
-mul-count : tie.Need-mul-count
-mul-count c = search needs
-
-shared-slice-read-count : tie.Need-shared-slice-read-count
-shared-slice-read-count c = search needs
+count-of-requires : tie.Need-count-of-requires
+count-of-requires c κs = search needs
 
 returns-2 : tie.Need-returns-2
 returns-2 c =
     let g = c .before .before .before .before .before .args in
     sym
-    (application-count-refuses (g .records .now) (g .literals .now) (g .i) (g .symbols) (c .before .before .if1 .left)
-    (c .if2 .taken))
+    (application-count-refuses (g .records .now) (g .literals .now) (g .i) (g .symbols) (omega (arith, c .before .before .if1 .left, c .before .before .before .symbol-of .ensures))
+    (omega (arith, c .if2 .taken, c .before .count-of .ensures)))
 
 mul-if3 : tie.Need-mul-if3
 mul-if3 c = search needs
@@ -59,26 +45,15 @@ returns-3 c =
     let g = c .before .before .before .before .before .before .before .args in
     sym
     (application-literal-refuses (g .records .now) (g .literals .now) (g .i) (g .symbols)
-    (c .before .before .before .before .if1 .left)
-    (c .before .before .if2 .left) (bits-apart (getD (g .literals .now) (g .i) (pos 0)) (pos 0) (c .if3 .taken)))
+    (omega (arith, c .before .before .before .before .if1 .left, c .before .before .before .before .before .symbol-of .ensures))
+    (omega (arith, c .before .before .if2 .left, c .before .before .before .count-of .ensures)) (bits-apart (getD (g .literals .now) (g .i) (pos 0)) (pos 0) (c .if3 .taken)))
 
-add-a : tie.Need-add-a
-add-a c = search needs
-
-add-m : tie.Need-add-m
-add-m c = search needs
-
-mul-all-below : tie.Need-mul-all-below
-mul-all-below c = search needs
-
-sub-all-below : tie.Need-sub-all-below
-sub-all-below c = search needs
-
-part-all-below-start : tie.Need-part-all-below-start
-part-all-below-start c = search needs
-
-part-all-below-end : tie.Need-part-all-below-end
-part-all-below-end c = search needs
+children-of-requires : tie.Need-children-of-requires
+children-of-requires c κs =
+    let pre = c .before .before .before .before .before .before .before .pre in (
+      pre .numbers,
+      omega (arith, c .before .before .if2 .left, c .before .before .before .count-of .ensures),
+    )
 
 all-below-requires : tie.Need-all-below-requires
 all-below-requires c κs = search needs
@@ -91,24 +66,16 @@ returns-4 c =
     (record { sfits = c .before .before .before .before .if32 .given }) (c .before .before .before .if3 .left) in
     sym
     (application-child-refuses (g .records .now) (g .literals .now) (g .i) (g .symbols)
-    (c .before .before .before .before .before .before .before .if1 .left)
-    (c .before .before .before .before .before .if2 .left) z
-    (sym (c .before .all-below .ensures) ∙ not-true _ (c .if4 .taken)))
+    (omega (arith, c .before .before .before .before .before .before .before .if1 .left, c .before .before .before .before .before .before .before .before .symbol-of .ensures))
+    (omega (arith, c .before .before .before .before .before .if2 .left, c .before .before .before .before .before .before .count-of .ensures)) z
+    (sym ((rw (c .before .before .children-of .ensures) at (c .before .all-below .ensures))) ∙ not-true _ (c .if4 .taken)))
 
-add-e : tie.Need-add-e
-add-e c = search needs
-
-mul-all-zero : tie.Need-mul-all-zero
-mul-all-zero c = search needs
-
-sub-all-zero : tie.Need-sub-all-zero
-sub-all-zero c = search needs
-
-part-all-zero-start : tie.Need-part-all-zero-start
-part-all-zero-start c = search needs
-
-part-all-zero-end : tie.Need-part-all-zero-end
-part-all-zero-end c = search needs
+unused-of-requires : tie.Need-unused-of-requires
+unused-of-requires c κs =
+    let pre = c .before .before .before .before .before .before .before .before .before .before .pre in (
+      pre .numbers,
+      omega (arith, c .before .before .before .before .before .if2 .left, c .before .before .before .before .before .before .count-of .ensures),
+    )
 
 all-zero-requires : tie.Need-all-zero-requires
 all-zero-requires c κs = search needs
@@ -120,40 +87,26 @@ returns-5 c =
     bits-zero (getD (g .literals .now) (g .i) (pos 0))
     (record { sfits = c .before .before .before .before .before .before .if32 .given })
     (c .before .before .before .before .before .if3 .left) in
-    c .all-zero .ensures
+    (rw (c .before .unused-of .ensures) at (c .all-zero .ensures))
     ∙ application-rest (g .records .now) (g .literals .now) (g .i) (g .symbols)
-    (c .before .before .before .before .before .before .before .before .before .if1 .left)
-    (c .before .before .before .before .before .before .before .if2 .left) z
-    (sym (c .before .before .before .all-below .ensures) ∙ not-false _ (c .before .before .if4 .left))
+    (omega (arith, c .before .before .before .before .before .before .before .before .before .if1 .left, c .before .before .before .before .before .before .before .before .before .before .symbol-of .ensures))
+    (omega (arith, c .before .before .before .before .before .before .before .if2 .left, c .before .before .before .before .before .before .before .before .count-of .ensures)) z
+    (sym ((rw (c .before .before .before .before .children-of .ensures) at (c .before .before .before .all-below .ensures))) ∙ not-false _ (c .before .before .if4 .left))
 
 pub is-sound-application-spec : {M : Type 1} → statement M
 is-sound-application-spec =
     tie.close
     (tie.spec
-    mul-at
-    add-if1
-    mul-if1
-    shared-slice-read-if1
+    symbol-of-requires
     returns
-    add-count
-    mul-count
-    shared-slice-read-count
+    count-of-requires
     returns-2
     mul-if3
     shared-slice-copy-out-if3
     returns-3
-    add-a
-    add-m
-    mul-all-below
-    sub-all-below
-    part-all-below-start
-    part-all-below-end
+    children-of-requires
     all-below-requires
     returns-4
-    add-e
-    mul-all-zero
-    sub-all-zero
-    part-all-zero-start
-    part-all-zero-end
+    unused-of-requires
     all-zero-requires
     returns-5)

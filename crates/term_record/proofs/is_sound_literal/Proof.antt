@@ -5,55 +5,25 @@ use borrow.Author.Needs.{needs}
 use Rattle.term_record.proofs.is_sound_literal.Statement.{statement}
 use Rattle.term_record.proofs.is_sound_literal.Tie as tie
 
-mul-at : tie.Need-mul-at
-mul-at c = search needs
-
-add-if1 : tie.Need-add-if1
-add-if1 c = search needs
-
-mul-if1 : tie.Need-mul-if1
-mul-if1 c = search needs
-
-shared-slice-read-if1 : tie.Need-shared-slice-read-if1
-shared-slice-read-if1 c = search needs
+symbol-of-requires : tie.Need-symbol-of-requires
+symbol-of-requires c κs = search needs
 
 returns : tie.Need-returns
 returns c =
     let g = c .before .before .before .args in
-    sym (literal-symbol-refuses (g .records .now) (g .literals .now) (g .i) (c .if1 .taken))
+    sym (literal-symbol-refuses (g .records .now) (g .literals .now) (g .i) (λ e. c .if1 .taken (c .before .symbol-of .ensures ∙ e)))
 
-add-if2 : tie.Need-add-if2
-add-if2 c = search needs
-
-mul-if2 : tie.Need-mul-if2
-mul-if2 c = search needs
-
-shared-slice-read-if2 : tie.Need-shared-slice-read-if2
-shared-slice-read-if2 c = search needs
+count-of-requires : tie.Need-count-of-requires
+count-of-requires c κs = search needs
 
 returns-2 : tie.Need-returns-2
 returns-2 c =
     let g = c .before .before .before .before .before .args in
     sym (literal-count-refuses (g .records .now) (g .literals .now) (g .i)
-    (c .before .before .if1 .left) (c .if2 .taken))
+    (sym (c .before .before .before .symbol-of .ensures) ∙ c .before .before .if1 .left) (λ e. c .if2 .taken (c .before .count-of .ensures ∙ e)))
 
-add-a : tie.Need-add-a
-add-a c = search needs
-
-add-e : tie.Need-add-e
-add-e c = search needs
-
-mul-all-zero : tie.Need-mul-all-zero
-mul-all-zero c = search needs
-
-sub-all-zero : tie.Need-sub-all-zero
-sub-all-zero c = search needs
-
-part-all-zero-start : tie.Need-part-all-zero-start
-part-all-zero-start c = search needs
-
-part-all-zero-end : tie.Need-part-all-zero-end
-part-all-zero-end c = search needs
+places-of-requires : tie.Need-places-of-requires
+places-of-requires c κs = search needs
 
 all-zero-requires : tie.Need-all-zero-requires
 all-zero-requires c κs = search needs
@@ -61,28 +31,18 @@ all-zero-requires c κs = search needs
 returns-3 : tie.Need-returns-3
 returns-3 c =
     let g = c .before .before .before .before .before .before .before .args in
-    c .all-zero .ensures
-    ∙ literal-rest (g .records .now) (g .literals .now) (g .i) (c .before .before .before .before .if1 .left)
-    (c .before .before .if2 .left)
+    (rw (c .before .places-of .ensures) at (c .all-zero .ensures))
+    ∙ literal-rest (g .records .now) (g .literals .now) (g .i) (sym (c .before .before .before .before .before .symbol-of .ensures) ∙ c .before .before .before .before .if1 .left)
+    (sym (c .before .before .before .count-of .ensures) ∙ c .before .before .if2 .left)
 
 pub is-sound-literal-spec : {M : Type 1} → statement M
 is-sound-literal-spec =
     tie.close
     (tie.spec
-    mul-at
-    add-if1
-    mul-if1
-    shared-slice-read-if1
+    symbol-of-requires
     returns
-    add-if2
-    mul-if2
-    shared-slice-read-if2
+    count-of-requires
     returns-2
-    add-a
-    add-e
-    mul-all-zero
-    sub-all-zero
-    part-all-zero-start
-    part-all-zero-end
+    places-of-requires
     all-zero-requires
     returns-3)

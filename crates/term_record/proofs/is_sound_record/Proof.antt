@@ -5,14 +5,8 @@ use borrow.Author.Needs.{needs}
 use Rattle.term_record.proofs.is_sound_record.Statement.{statement}
 use Rattle.term_record.proofs.is_sound_record.Tie as tie
 
-mul-kind : tie.Need-mul-kind
-mul-kind c = search needs
-
-mul-kind-2 : tie.Need-mul-kind-2
-mul-kind-2 c = search needs
-
-shared-slice-read-kind : tie.Need-shared-slice-read-kind
-shared-slice-read-kind c = search needs
+kind-of-requires : tie.Need-kind-of-requires
+kind-of-requires c κs = search needs
 
 is-sound-literal-requires : tie.Need-is-sound-literal-requires
 is-sound-literal-requires c κs = search needs
@@ -21,7 +15,7 @@ returns : tie.Need-returns
 returns c =
     let g = c .before .before .before .before .args in
     c .is-sound-literal .ensures
-    ∙ record-literal (g .records .now) (g .literals .now) (g .i) (g .symbols) (c .before .if1 .taken)
+    ∙ record-literal (g .records .now) (g .literals .now) (g .i) (g .symbols) (sym (c .before .before .kind-of .ensures) ∙ c .before .if1 .taken)
 
 is-sound-variable-requires : tie.Need-is-sound-variable-requires
 is-sound-variable-requires c κs = search needs
@@ -30,7 +24,7 @@ returns-2 : tie.Need-returns-2
 returns-2 c =
     let g = c .before .before .before .before .before .args in
     c .is-sound-variable .ensures
-    ∙ record-variable (g .records .now) (g .literals .now) (g .i) (g .symbols) (c .before .if2 .taken)
+    ∙ record-variable (g .records .now) (g .literals .now) (g .i) (g .symbols) (sym (c .before .before .before .kind-of .ensures) ∙ c .before .if2 .taken)
 
 is-sound-application-requires : tie.Need-is-sound-application-requires
 is-sound-application-requires c κs = search needs
@@ -39,21 +33,19 @@ returns-3 : tie.Need-returns-3
 returns-3 c =
     let g = c .before .before .before .before .before .before .args in
     c .is-sound-application .ensures
-    ∙ record-application (g .records .now) (g .literals .now) (g .i) (g .symbols) (c .before .if3 .taken)
+    ∙ record-application (g .records .now) (g .literals .now) (g .i) (g .symbols) (sym (c .before .before .before .before .kind-of .ensures) ∙ c .before .if3 .taken)
 
 returns-4 : tie.Need-returns-4
 returns-4 c =
     let g = c .before .before .before .before .before .args in
-    sym (record-other-refuses (g .records .now) (g .literals .now) (g .i) (g .symbols) (c .before .before .if1 .left)
-    (c .before .if2 .left) (c .if3 .left))
+    sym (record-other-refuses (g .records .now) (g .literals .now) (g .i) (g .symbols) (λ e. c .before .before .if1 .left (c .before .before .before .kind-of .ensures ∙ e))
+    (λ e. c .before .if2 .left (c .before .before .before .kind-of .ensures ∙ e)) (λ e. c .if3 .left (c .before .before .before .kind-of .ensures ∙ e)))
 
 pub is-sound-record-spec : {M : Type 1} → statement M
 is-sound-record-spec =
     tie.close
     (tie.spec
-    mul-kind
-    mul-kind-2
-    shared-slice-read-kind
+    kind-of-requires
     is-sound-literal-requires
     returns
     is-sound-variable-requires

@@ -1,24 +1,19 @@
 -- A record that is put behind the others: the others stay, and it is there; so the store stays well formed. Assumes
 -- nothing.
-use Prim.Native.Nat.{ℕ, _+_, _*_, _/_, _≤_, _<_, min}
+use Prim.Native.Nat.{ℕ, _+_, _≤_, _<_, min}
 use mathlib.Core.Path.{_≡_, sym, ap, subst, _∙_}
 use mathlib.Core.Bool.{true}
-use mathlib.Core.List.{List}
 use Prim.{Dec, yes, no}
 use native.Mathlib.Decide.{ℕ-discrete}
-use native.Mathlib.Nat.{add-zero}
 use native.Mathlib.Omega.{arith}
-use lib.ListN.{length, getD, length-set}
-use lib.Seq.{paste, length-paste, take-all, getD-set-same, getD-set-other}
+use lib.ListN.{length, length-set}
 use lib.Dec.{ltb}
-use lib.IntN.{pos}
 use borrow.Author.Tests.{ltb-true}
 use Rattle.term_rules.specs.declared.Term.{Term}
-use Rattle.term_rules.specs.Lent.{Store, recordIn, recordAt, numbers, termRoom}
+use Rattle.term_rules.specs.Lent.{Store, recordRoom, HasRecord, recordsLength, recordAt, termRoom}
 use Rattle.term_rules.specs.Facts.{SoundRecord, aLiteral, aVariable, anApplication, Sound}
 use Rattle.term_rules.specs.Adding.{withRecord}
-use Rattle.term_rules.proofs.SameLaws.{term-same}
-use Rattle.term_rules.proofs.Adding.PasteLaws.{part-paste-before, part-paste, getD-paste-before, getD-paste}
+use Rattle.term_rules.proofs.LayoutLaws.{record-kept, record-put, put-length}
 
 -- a record that is sound stays sound where there are more symbols
 pub soundRecord-mono : {m m′ i : ℕ} {t : Term} → m ≤ m′ → SoundRecord m i t → SoundRecord m′ i t
@@ -42,50 +37,29 @@ soundRecord-mono h (anApplication f) = anApplication (record {
 -- room for one more record
 pub record Room (s : Store) : Type 0 where
   pub limit : s .terms < 1024
-  pub records : s .terms * 11 + 11 ≤ length (s .records)
+  pub records : HasRecord (s .records) (s .terms)
   pub literals : s .terms < length (s .literals)
 
 pub room-of-terms : (s : Store) → ltb (s .terms) (termRoom s) ≡ true → Room s
 unfolding termRoom
 room-of-terms s e =
-    let room : ℕ = min 1024 (min (length (s .records) / 11) (length (s .literals))) in
+    let room : ℕ = min 1024 (min (recordRoom (length (s .records))) (length (s .literals))) in
     let l : s .terms < room = ltb-true (s .terms) room e in
     record { limit = omega arith; records = omega arith; literals = omega arith }
 
 module _ (s : Store) (t : Term) (room : Room s) (wide : length (t .children) ≡ 8) where
-  long : s .terms * 11 ≤ length (s .records)
+  long : recordsLength (s .terms) ≤ length (s .records)
   long = omega (arith, room .records)
-
-  eleven : 11 ≤ length (numbers t)
-  eleven = omega (arith, wide)
 
   -- the records before it stay
   pub withRecord-before : (i : ℕ) → i < s .terms → recordAt (withRecord s t) i ≡ recordAt s i
-  unfolding withRecord recordIn
-  withRecord-before i l =
-      let n : ℕ = s .terms * 11 in
-      let get : (k : ℕ) → k < n → getD (paste (s .records) n (numbers t) 11) k 0 ≡ getD (s .records) k 0 =
-      λ k b. getD-paste-before (s .records) (s .terms * 11) (numbers t) 11 long eleven k 0 b in
-      term-same (recordAt (withRecord s t) i) (recordAt s i) (get (i * 11) (omega arith))
-      (get (i * 11 + 1) (omega arith))
-      (get (i * 11 + 2) (omega arith))
-      (getD-set-other (s .literals) (s .terms) i (t .literal) (pos 0) (λ e. omega arith))
-      (part-paste-before (s .records) (s .terms * 11) (numbers t) 11 long eleven (i * 11 + 3) 8 (omega arith))
+  unfolding withRecord
+  withRecord-before i l = record-kept (s .records) (s .terms) t long wide i l (s .literals)
 
   -- it is there
   pub withRecord-at : recordAt (withRecord s t) (s .terms) ≡ t
-  unfolding withRecord recordIn
-  withRecord-at =
-      let n : ℕ = s .terms * 11 in
-      let d : List ℕ = paste (s .records) n (numbers t) 11 in
-      term-same (recordAt (withRecord s t) (s .terms)) t
-      (ap (λ (k : ℕ). getD d k 0) (sym (add-zero n)) ∙ getD-paste (s .records) n (numbers t) 11 long
-      eleven 0 0 (omega arith))
-      (getD-paste (s .records) n (numbers t) 11 long eleven 1 0 (omega arith))
-      (getD-paste (s .records) n (numbers t) 11 long eleven 2 0 (omega arith))
-      (getD-set-same (s .literals) (s .terms) (t .literal) (pos 0) (room .literals))
-      (part-paste (s .records) n (numbers t) 11 long eleven 3 8 (omega arith) ∙ take-all 8 (t .children)
-      (omega (arith, wide)))
+  unfolding withRecord
+  withRecord-at = record-put (s .records) (s .terms) t long wide (s .literals) (room .literals)
 
   module _
       (sound : Sound s)
@@ -129,7 +103,7 @@ module _ (s : Store) (t : Term) (room : Room s) (wide : length (t .children) ≡
     pub withRecord-sound : Sound (withRecord s t)
     unfolding withRecord
     withRecord-sound =
-        let e = length-paste (s .records) (s .terms * 11) (numbers t) 11 (room .records) eleven in
+        let e = put-length (s .records) (s .terms) t long wide (room .records) in
         let f = length-set (s .literals) (s .terms) (t .literal) in
         record {
           termLimit = omega (arith, room .limit);

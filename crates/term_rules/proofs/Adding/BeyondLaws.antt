@@ -1,19 +1,20 @@
 -- Adding a term writes only the places of 1,024 records and 128 names. Assumes nothing.
-use Prim.Native.Nat.{ℕ, _+_, _*_, _-_, _/_, _≤_, _<_, min}
+use Prim.Native.Nat.{ℕ, _+_, _≤_, _<_, min}
 use mathlib.Core.Path.{_≡_, refl, sym, ap, subst, _∙_}
 use mathlib.Core.Bool.{Bool, true, false}
 use mathlib.Core.List.{List}
 use native.Mathlib.Omega.{arith}
 use lib.ListN.{length, drop, length-append, length-replicate}
-use lib.Seq.{paste, drop-paste, drop-drop, drop-set-lt}
+use lib.Seq.{drop-set-lt}
 use lib.Dec.{ltb}
 use borrow.Author.Tests.{ltb-true}
-use Rattle.name.specs.Entries.{entry, putName}
+use Rattle.name.specs.Entries.{entriesLength, entryRoom, putName}
+use Rattle.name.proofs.PutLaws.{putName-past}
 use Rattle.name.specs.declared.Found.{Found}
 use Rattle.name.specs.declared.Found.the-variants.{At, Missing}
 use Rattle.term_rules.specs.declared.Term.{Term}
 use Rattle.term_rules.proofs.TestLaws.{and-first, and-second}
-use Rattle.term_rules.specs.Lent.{Store, store, numbers, termRoom, symbolRoom}
+use Rattle.term_rules.specs.Lent.{Store, store, recordsLength, recordRoom, termRoom, symbolRoom}
 use Rattle.term_rules.specs.Nodes.{Node, literal, variable, application, recordOf}
 use Rattle.term_rules.specs.Adding.{
   findSymbol,
@@ -30,68 +31,46 @@ use Rattle.term_rules.specs.Adding.{
   add,
 }
 use Rattle.term_rules.specs.Growing.{Beyond}
+use Rattle.term_rules.proofs.LayoutLaws.{put-past}
 
 abbrev Same : Store → Store → Type 0
 Same s s′ = Beyond s (s′ .records) (s′ .literals) (s′ .names)
-
-drop-paste-past :
-    {A : Type 0} (n : ℕ) (d : List A) (from : ℕ) (v : List A) (k : ℕ) →
-    from ≤ length d →
-    k ≤ length v →
-    from + k ≤ n →
-    drop n (paste d from v k) ≡ drop n d
-drop-paste-past n d from v k a b l =
-    let m : ℕ = n - (from + k) in
-    let e : n ≡ from + k + m = omega arith in
-    ap (λ (i : ℕ). drop i (paste d from v k)) e
-    ∙ sym (drop-drop m (from + k) (paste d from v k))
-    ∙ ap (drop m) (drop-paste d from v k a b)
-    ∙ drop-drop m (from + k) d
-    ∙ ap (λ (i : ℕ). drop i d) (sym e)
 
 module _ (s : Store) where
   record-beyond :
       (b : Store) (t : Term) →
       Same s b →
       b .terms < 1024 →
-      b .terms * 11 ≤ length (b .records) →
+      recordsLength (b .terms) ≤ length (b .records) →
       8 ≤ length (t .children) →
       Same s (withRecord b t)
   unfolding withRecord
   record-beyond b t h l long wide = record {
-    records =
-        drop-paste-past 11264 (b .records) (b .terms * 11) (numbers t) 11 long (omega arith) (omega arith)
-        ∙ h .records;
+    records = put-past (b .records) (b .terms) t 1024 long wide l ∙ h .records;
     literals = drop-set-lt 1024 (b .literals) (b .terms) (t .literal) l ∙ h .literals;
     names = h .names;
   }
 
-  entry-wide : (name : List ℕ) → 32 ≤ length (entry name)
-  unfolding entry
-  entry-wide name = simp (length-append, length-replicate) (omega arith)
-
-  room-symbols : ltb (s .symbols) (symbolRoom s) ≡ true → (s .symbols < 128) × (s .symbols * 32 ≤ length (s .names))
+  room-symbols : ltb (s .symbols) (symbolRoom s) ≡ true → (s .symbols < 128) × (entriesLength (s .symbols) ≤ length (s .names))
   unfolding symbolRoom
   room-symbols e =
-      let l : s .symbols < min 128 (length (s .names) / 32) =
-      ltb-true (s .symbols) (min 128 (length (s .names) / 32)) e in
+      let l : s .symbols < min 128 (entryRoom (length (s .names))) =
+      ltb-true (s .symbols) (min 128 (entryRoom (length (s .names)))) e in
       (omega arith, omega arith)
 
-  room-terms : ltb (s .terms) (termRoom s) ≡ true → (s .terms < 1024) × (s .terms * 11 ≤ length (s .records))
+  room-terms : ltb (s .terms) (termRoom s) ≡ true → (s .terms < 1024) × (recordsLength (s .terms) ≤ length (s .records))
   unfolding termRoom
   room-terms e =
-      let room : ℕ = min 1024 (min (length (s .records) / 11) (length (s .literals))) in
+      let room : ℕ = min 1024 (min (recordRoom (length (s .records))) (length (s .literals))) in
       let l : s .terms < room = ltb-true (s .terms) room e in
       (omega arith, omega arith)
 
   put-beyond :
       (name : List ℕ) →
       ltb (s .symbols) (symbolRoom s) ≡ true →
-      drop 4096 (putName (s .names) (s .symbols) name) ≡ drop 4096 (s .names)
-  unfolding putName
+      drop (entriesLength 128) (putName (s .names) (s .symbols) name) ≡ drop (entriesLength 128) (s .names)
   put-beyond name e =
-      drop-paste-past 4096 (s .names) (s .symbols * 32) (entry name) 32 (room-symbols e .1) (entry-wide name)
-      (omega (arith, room-symbols e .0))
+      putName-past (s .names) (s .symbols) name 128 (room-symbols e .1) (room-symbols e .0)
 
   -- a record of the node, after its name
   named-beyond :

@@ -29,7 +29,7 @@ use Rattle.term_rules.specs.Nodes.{
 use Rattle.term_rules.specs.Facts.{SoundRecord, aLiteral, aVariable, anApplication, Sound}
 use Rattle.term_rules.proofs.Meaning.NodeLaws.{nodeOf-literal, nodeOf-variable, nodeOf-application, node-lower}
 use Rattle.term_rules.specs.Growing.{Fit}
-use Rattle.term_rules.proofs.Adding.PasteLaws.{getD-zeros}
+use Rattle.name.proofs.PasteLaws.{getD-zeros}
 
 -- a sound record means the same where its symbols are the same
 pub nodeOf-same :

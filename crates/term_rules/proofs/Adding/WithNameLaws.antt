@@ -1,5 +1,5 @@
 -- A store with a name, "if new", stays well formed, and the name has a symbol number there. Assumes nothing.
-use Prim.Native.Nat.{ℕ, _+_, _*_, _/_, _≤_, _<_, min}
+use Prim.Native.Nat.{ℕ, _+_, _≤_, _<_, min}
 use mathlib.Core.Path.{_≡_, refl, sym, ap, subst, _∙_}
 use mathlib.Core.Bool.{Bool, true}
 use mathlib.Core.List.{List}
@@ -10,7 +10,7 @@ use lib.ListN.{length}
 use lib.Dec.{ltb}
 use borrow.Author.Tests.{ltb-true}
 use Rattle.name.specs.Name.{valid, same}
-use Rattle.name.specs.Entries.{nameAt, putName}
+use Rattle.name.specs.Entries.{entriesLength, entryRoom, HasEntry, nameAt, putName}
 use Rattle.name.specs.declared.Found.{Found}
 use Rattle.name.specs.declared.Found.the-variants.{At, Missing}
 use Rattle.term_rules.specs.Lent.{Store, store, symbolAt, symbolRoom}
@@ -18,14 +18,8 @@ use Rattle.term_rules.specs.Facts.{SoundName, Sound}
 use Rattle.term_rules.specs.Adding.{findSymbol, symbolFor, withName, roomForName}
 use Rattle.term_rules.proofs.SameLaws.{same-tells, tells-apart}
 use Rattle.term_rules.proofs.SearchLaws.{first-at, first-missing, findName-first}
-use Rattle.term_rules.proofs.Adding.NamingLaws.{
-  valid-short,
-  putName-before,
-  sound-before,
-  putName-at,
-  sound-at,
-  putName-length,
-}
+use Rattle.name.proofs.PutLaws.{nameAt-kept, nameAt-put, putName-length}
+use Rattle.term_rules.proofs.Adding.NamingLaws.{valid-short, sound-before, sound-at}
 use Rattle.term_rules.proofs.Adding.AppendLaws.{soundRecord-mono}
 
 -- the name has symbol number k in the second store, which is else as the first
@@ -57,24 +51,24 @@ module _ (s : Store) (name : List ℕ) (sound : Sound s) (v : valid name ≡ tru
       }
 
   module _ (missing : findSymbol s name ≡ Missing) (room : ltb (s .symbols) (symbolRoom s) ≡ true) where
-    fits : (s .symbols < 128) × (s .symbols * 32 + 32 ≤ length (s .names))
+    fits : (s .symbols < 128) × HasEntry (s .names) (s .symbols)
     unfolding symbolRoom
     fits =
-        let l : s .symbols < min 128 (length (s .names) / 32) =
-        ltb-true (s .symbols) (min 128 (length (s .names) / 32)) room in
+        let l : s .symbols < min 128 (entryRoom (length (s .names))) =
+        ltb-true (s .symbols) (min 128 (entryRoom (length (s .names)))) room in
         (omega arith, omega arith)
 
     abbrev new : Store
     new = store (s .records) (s .literals) (putName (s .names) (s .symbols) name) (s .terms) (s .symbols + 1)
 
-    long : s .symbols * 32 ≤ length (s .names)
+    long : entriesLength (s .symbols) ≤ length (s .names)
     long = omega (arith, fits .1)
 
     old : (k : ℕ) → k < s .symbols → symbolAt new k ≡ symbolAt s k
-    old k l = putName-before (s .names) (s .symbols) name long (valid-short name v) k l (sound .name k l .short)
+    old k l = nameAt-kept (s .names) (s .symbols) name long (valid-short name v) k l (sound .name k l .short)
 
     is : symbolAt new (s .symbols) ≡ name
-    is = putName-at (s .names) (s .symbols) name long (valid-short name v)
+    is = nameAt-put (s .names) (s .symbols) name long (valid-short name v)
 
     name-by : (k : ℕ) → k < s .symbols + 1 → Dec (k ≡ s .symbols) → SoundName (new .names) k
     name-by k l (yes e) =

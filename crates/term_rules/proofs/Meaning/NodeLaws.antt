@@ -16,7 +16,7 @@ use Rattle.term_rules.specs.Facts.{IsApplication, SoundRecord, aLiteral,
 use Rattle.term_rules.proofs.TestLaws.{cases}
 use Rattle.term_rules.proofs.SameLaws.{term-same}
 use Rattle.term_rules.proofs.KindLaws.{byKind-literal, byKind-variable, byKind-application}
-use Rattle.term_rules.proofs.FactsLaws.{children-length}
+use Rattle.term_rules.proofs.LayoutLaws.{children-length}
 
 -- what a record says, by its kind
 module _ (s : Store) (t : Term) where

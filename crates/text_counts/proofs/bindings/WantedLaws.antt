@@ -13,7 +13,8 @@ use borrow.Author.Tests.{lt-ltb, le-ltb, le-leb, lt-leb}
 use Rattle.text_rules.specs.Counts.{count, size, inTurn}
 use Rattle.text_rules.specs.Bindings.{Bound, find, toBind, bind, meetIn, bindings}
 use Rattle.text_rules.proofs.CountLaws.{places-here, places-none, stage-first, stage-own}
-use Rattle.text_pieces.specs.Readable.{kidsAt, Inside}
+use Rattle.term_rules.specs.Lent.{kidsAt}
+use Rattle.text_pieces.specs.Readable.{Inside}
 use Rattle.text_counts.specs.Tallies.{Counts, Sizes}
 use Rattle.text_counts.specs.Met.{placeNo, Met, Wanted, metAt, flagOf, Marked}
 use Rattle.text_counts.proofs.bindings.FindLaws.{find-none}

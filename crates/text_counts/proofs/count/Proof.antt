@@ -50,60 +50,24 @@ loop-holds c =
 sub-t : tie.Need-sub-t Inv-loop μ-loop
 sub-t c = search needs
 
-mul-a : tie.Need-mul-a Inv-loop μ-loop
-mul-a c = search needs
-
-add-a : tie.Need-add-a Inv-loop μ-loop
-add-a c = search needs
-
-mul-e : tie.Need-mul-e Inv-loop μ-loop
-mul-e c = search needs
-
-add-e : tie.Need-add-e Inv-loop μ-loop
-add-e c = search needs
-
-mul-e-2 : tie.Need-mul-e-2 Inv-loop μ-loop
-mul-e-2 c = search needs
-
-shared-slice-read-e : tie.Need-shared-slice-read-e Inv-loop μ-loop
-shared-slice-read-e c = search needs
-
-add-e-2 : tie.Need-add-e-2 Inv-loop μ-loop
-add-e-2 c =
+children-of-requires : tie.Need-children-of-requires Inv-loop μ-loop
+children-of-requires c κs =
     let s = c .before .before .before .before .before in
-    let t = inv s (c .before .before .loop .counts) (c .before .before .loop .t) (c .before .before .loop .inv .1) in
-    omega (arith, s .pre .0 .arity (c .before .before .loop .t - 1) (omega (arith, t .at)), s .pre .0 .few, t .at)
-
-mul-give-on : tie.Need-mul-give-on Inv-loop μ-loop
-mul-give-on c = search needs
-
-sub-give-on : tie.Need-sub-give-on Inv-loop μ-loop
-sub-give-on c = search needs
-
-part-give-on-start : tie.Need-part-give-on-start Inv-loop μ-loop
-part-give-on-start c = search needs
-
-part-give-on-end : tie.Need-part-give-on-end Inv-loop μ-loop
-part-give-on-end c =
-    let s = c .before .before .before .before .before .before in
-    let t =
-    inv s (c .before .before .before .loop .counts) (c .before .before .before .loop .t)
-    (c .before .before .before .loop .inv .1) in
-    omega (
-      arith,
-      s .pre .0 .arity (c .before .before .before .loop .t - 1) (omega (arith, t .at)),
-      s .pre .0 .inRecords,
-      t .at,
+    let l = c .before .before .loop in
+    let v = inv s (l .counts) (l .t) (l .inv .1) in (
+      omega (arith, s .pre .0 .inRecords, v .at, c .before .loop-test .taken),
+      s .pre .0 .arity (l .t - 1) (omega (arith, v .at, c .before .loop-test .taken)),
     )
 
 give-on-requires : tie.Need-give-on-requires Inv-loop μ-loop
 give-on-requires c κs =
-    let s = c .before .before .before .before .before .before .before in
-    let l = c .before .before .before .before .loop in
+    let s = c .before .before .before .before .before .before in
+    let l = c .before .before .before .loop in
     let v = inv s (l .counts) (l .t) (l .inv .1) in
     let k : l .t - 1 < s .args .n = omega (arith, v .at) in
     let r : s .args .n ≤ length (l .counts) =
-    omega (arith, v .long, length-set (s .args .counts .now) (s .args .n - 1) 1, s .pre .1 .1 .0) in (
+    omega (arith, v .long, length-set (s .args .counts .now) (s .args .n - 1) 1, s .pre .1 .1 .0) in
+    rw (c .children-of .ensures) (
       omega arith,
       (
         (λ i h. omega (arith, s .pre .0 .lower (l .t - 1) k i h)),
@@ -119,8 +83,8 @@ loop-less c = search needs
 
 loop-again : tie.Need-loop-again Inv-loop μ-loop
 loop-again c =
-    let s = c .before .before .before .before .before .before .before .before .before .before in
-    let l = c .before .before .before .before .before .before .before .loop in (
+    let s = c .before .before .before .before .before .before .before .before .before in
+    let l = c .before .before .before .before .before .before .loop in (
       omega arith,
       λ w k.
           let v = inv s (l .counts) (l .t) (l .inv .1) in
@@ -129,7 +93,8 @@ loop-again c =
           counting-again (s .args .records .now) (s .args .n) w k
           (set (s .args .counts .now) (s .args .n - 1) 1) (l .counts)
           (c .before .before .give-on .last .0) (l .t) (l .inv .1 w k) (omega arith) r
-          (c .before .before .give-on .kept .0) (c .before .before .give-on .ensures),
+          (c .before .before .give-on .kept .0)
+          (rw (c .before .before .before .children-of .ensures) at (c .before .before .give-on .ensures)),
     )
 
 same-length : tie.Need-same-length Inv-loop μ-loop
@@ -156,17 +121,7 @@ count-spec =
     slice-write-counts
     loop-holds
     sub-t
-    mul-a
-    add-a
-    mul-e
-    add-e
-    mul-e-2
-    shared-slice-read-e
-    add-e-2
-    mul-give-on
-    sub-give-on
-    part-give-on-start
-    part-give-on-end
+    children-of-requires
     give-on-requires
     loop-less
     loop-again

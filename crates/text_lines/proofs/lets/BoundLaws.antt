@@ -9,7 +9,8 @@ use native.Mathlib.Decide.{decLt, ℕ-discrete}
 use lib.ListN.{length, getD}
 use Rattle.text_rules.specs.Counts.{inTurn}
 use Rattle.text_rules.specs.Bindings.{Bound, Place, nowhere, place, find, toBind, bind, meetIn, bindings}
-use Rattle.text_pieces.specs.Readable.{kidsAt, Inside}
+use Rattle.term_rules.specs.Lent.{kidsAt}
+use Rattle.text_pieces.specs.Readable.{Inside}
 use Rattle.text_counts.specs.Tallies.{Linked}
 use Rattle.text_counts.specs.Met.{bounds, placeNo, Met, AllMet}
 use Rattle.text_counts.proofs.bindings.FindLaws.{one, find-hit, find-miss, find-none}

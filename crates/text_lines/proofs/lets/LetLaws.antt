@@ -3,10 +3,10 @@ use mathlib.Core.Path.{_≡_, refl, sym, ap, subst, _∙_}
 use mathlib.Core.Bool.{Bool, true, false}
 use mathlib.Core.List.{List, [], _∷_, _++_, append-assoc, append-nil}
 use Prim.{Dec, yes, no}
-use Prim.Native.Nat.{ℕ, zero, suc, _+_, _*_, _-_, _^_, _<_, _≤_}
+use Prim.Native.Nat.{ℕ, zero, suc, _+_, _-_, _^_, _<_, _≤_}
 use native.Mathlib.Omega.{arith}
 use native.Mathlib.Decide.{decLt, ℕ-discrete}
-use lib.ListN.{length, getD, drop, length-append, length-take, length-drop}
+use lib.ListN.{length, getD, length-append}
 use lib.IntN.{ℤ}
 use lib.Dec.{ltb}
 use borrow.Author.Tests.{lt-ltb, le-ltb}
@@ -30,9 +30,10 @@ use Rattle.text_rules.specs.LetText.{
 use Rattle.text_rules.proofs.FormLaws.{form-same, childText-is}
 use Rattle.text_pieces.specs.Pieces.{capped, nameText, gapText}
 use Rattle.text_pieces.proofs.PieceLaws.{gapText-narrow, gapText-wide}
-use Rattle.text_pieces.specs.Readable.{nodes, arityAt, kidsAt, headText, Inside, Readable}
+use Rattle.term_rules.specs.Lent.{arityAt, kidsAt}
+use Rattle.text_pieces.specs.Readable.{nodes, headText, Inside, Readable}
 use Rattle.text_pieces.proofs.heads.NodeLaws.{children-of-nodes}
-use Rattle.text_pieces.proofs.heads.ReadableLaws.{kids-length}
+use Rattle.term_layout.proofs.KidsLaws.{kids-length, kids-all}
 use Rattle.text_counts.specs.Met.{bounds, placeNo, Met}
 use Rattle.text_counts.proofs.bindings.TableLaws.{bounds-none, bounds-step, bounds-length}
 use Rattle.text_write.specs.Piece.{View, shownAbove, body, view}
@@ -150,14 +151,7 @@ kids-some :
     (arityAt rs t ≡ 0 → ⊥) →
     0 < length (kidsAt rs t)
 kids-some rs ls ns n r t l e =
-    omega (
-      arith,
-      length-take (t * 11 + 3 + arityAt rs t - (t * 11 + 3)) (drop (t * 11 + 3) rs),
-      length-drop (t * 11 + 3) rs,
-      r .inRecords,
-      r .arity t l,
-      e,
-    )
+    omega (arith, kids-all rs t (omega (arith, r .inRecords)) (r .arity t l), e)
 
 wide-same : (i w b : ℕ) → b ≡ i + capped w → ltb 80 (i + w) ≡ ltb 80 b
 wide-same i w b e = by (decLt 80 (i + w))

@@ -46,10 +46,7 @@ add-requires c κs = search needs
 body-width-requires : tie.Need-body-width-requires
 body-width-requires c κs =
     let s = c .before .before .before .before .before .before .before in (
-      (
-        omega (arith, s .pre .0 .readable .few, s .pre .1 .0),
-        omega (arith, s .pre .0 .readable .inRecords, s .pre .1 .0),
-      ),
+      omega (arith, s .pre .0 .readable .inRecords, s .pre .1 .0),
       (
         omega (arith, s .pre .0 .inWides, s .pre .1 .0),
         omega (arith, s .pre .0 .wideLow (s .args .t) (s .pre .1 .0), s .pre .1 .1 .0),

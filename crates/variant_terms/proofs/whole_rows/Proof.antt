@@ -5,7 +5,7 @@ use Prim.Native.Nat.{ℕ}
 use mathlib.Core.Path.{_∙_}
 use lib.ListN.{replicate, length-replicate}
 use lib.IntN.{pos}
-use Rattle.term_rules.specs.Lent.{Store, store}
+use Rattle.term_rules.specs.Lent.{Store, store, recordsLength}
 use Rattle.build.specs.Plan.{Plan, planOf}
 use Rattle.build.proofs.BuildingLaws.{tracks-of-zeros, stuck-beyond}
 use Rattle.build.proofs.copies.CopiedLaws.{saved-back}
@@ -108,7 +108,7 @@ returns c =
     .before .before .before .before .before .before .before .before .before .before .before .before .numbers
     .ensures) at (c .before .before .before .before .before .before .before .before .before .before .before .numbers2
     .ensures)
-    ∙ saved-back 11264 0 (a .records .now) (u .0) (q .0) (k .records) in
+    ∙ saved-back (recordsLength 1024) 0 (a .records .now) (u .0) (q .0) (k .records) in
     let el =
     rw (c .before .before .before .before .before .before .before .before .before .before .before .before .before
     .before .before .before .before .before .before .before .before .before .before .before .before .before .before

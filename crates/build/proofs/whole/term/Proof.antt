@@ -4,7 +4,7 @@ use Prim.Native.Nat.{ℕ}
 use mathlib.Core.Path.{sym, _∙_}
 use lib.ListN.{getD, replicate, length-replicate}
 use lib.IntN.{pos}
-use Rattle.term_rules.specs.Lent.{Store, store}
+use Rattle.term_rules.specs.Lent.{Store, store, recordsLength}
 use Rattle.build.specs.Plan.{Plan, planOf}
 use Rattle.build.specs.Building.{state}
 use Rattle.build.proofs.PlanLaws.{ranked-of-planned}
@@ -104,7 +104,7 @@ returns c =
     .before .before .before .before .before .before .before .before .before .before .before .before .before
     .before .before .before .before .before .before .before .before .before .before .numbers .ensures) at (c
     .before .before .before .before .before .before .before .before .before .before .before .numbers2 .ensures)
-    ∙ saved-back 11264 0 (a .records .now) (b .last .1 .1 .1 .1 .1 .0) (b .kept .1 .1 .1 .1 .1 .0) (k .records) in
+    ∙ saved-back (recordsLength 1024) 0 (a .records .now) (b .last .1 .1 .1 .1 .1 .0) (b .kept .1 .1 .1 .1 .1 .0) (k .records) in
     let el =
     rw (c .before .before .before .before .before .before .before .before .before .before .before .before .before
     .before .before .before .before .before .before .before .before .before .before .before .before .before

@@ -3,7 +3,7 @@ use native.Mathlib.Omega.{arith}
 use Prim.Native.Nat.{_*_}
 use mathlib.Core.Path.{_≡_, sym, ap, _∙_}
 use lib.Seq.{length-take-le}
-use Rattle.term_rules.specs.Lent.{Store}
+use Rattle.term_rules.specs.Lent.{Store, recordsLength}
 use Rattle.text.specs.LetTold.{naming, letTold}
 use Rattle.lent.proofs.StoreLaws.{storeIn-is}
 use borrow.Author.Needs.{needs}
@@ -28,7 +28,7 @@ array-share-prefix-records c = search needs
 slice-aggregate-let-text : tie.Need-slice-aggregate-let-text
 slice-aggregate-let-text c =
     let f = c .before .before .before .before .before .before .before .before .before .args .f in
-    sym (length-take-le (f .room * 11) (f .records) (omega arith))
+    sym (length-take-le (recordsLength (f .room)) (f .records) (omega arith))
 
 array-share-prefix-literals : tie.Need-array-share-prefix-literals
 array-share-prefix-literals c = search needs

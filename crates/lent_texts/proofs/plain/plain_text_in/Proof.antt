@@ -4,7 +4,7 @@ use native.Mathlib.Omega.{arith}
 use Prim.Native.Nat.{_*_}
 use mathlib.Core.Path.{_≡_, sym, ap, _∙_}
 use lib.Seq.{length-take-le}
-use Rattle.term_rules.specs.Lent.{Store}
+use Rattle.term_rules.specs.Lent.{Store, recordsLength}
 use Rattle.text.specs.Told.{plainTold}
 use Rattle.lent.proofs.StoreLaws.{storeIn-is}
 use borrow.Author.Needs.{needs}
@@ -28,7 +28,7 @@ array-share-prefix-records c = search needs
 
 slice-aggregate-plain-text : tie.Need-slice-aggregate-plain-text
 slice-aggregate-plain-text c =
-    sym (length-take-le (c .before .before .before .before .before .before .before .args .f .room * 11)
+    sym (length-take-le (recordsLength (c .before .before .before .before .before .before .before .args .f .room))
     (c .before .before .before .before .before .before .before .args .f .records) (omega arith))
 
 array-share-prefix-literals : tie.Need-array-share-prefix-literals

@@ -7,7 +7,7 @@ use lib.ListN.{length, getD, length-set}
 use borrow.Author.Tests.{lt-ltb, le-ltb}
 use Rattle.text_rules.specs.Counts.{inTurn}
 use Rattle.text_rules.specs.Bindings.{Bound, nowhere, find, bind}
-use Rattle.text_pieces.specs.Readable.{kidsAt}
+use Rattle.term_rules.specs.Lent.{kidsAt}
 use Rattle.text_counts.proofs.TallyLaws.{kids-few}
 use Rattle.text_counts.specs.Met.{bounds, placeNo, wantedAt, metAt}
 use Rattle.text_counts.proofs.bindings.FindLaws.{one, placed-of, nowhere-of}
@@ -20,6 +20,7 @@ use borrow.Fn.PlainCycle.{Measures, is, falls, and}
 use Rattle.text_counts.proofs.bindings.meet.Reads as meet
 use Rattle.text_counts.proofs.bindings.meet.Kinds as meet-kinds
 use Rattle.text_counts.proofs.bindings.+meet.Lts-meet as meet-lts
+use Rattle.term_layout.proofs.children_of.Reads as children-of-reads
 use Rattle.text_counts.proofs.bindings.+meet.{statement}
 use Rattle.text_counts.proofs.bindings.+meet.Tie.{close}
 
@@ -33,15 +34,21 @@ abbrev meet-below : ℕ → In 5 meet-kinds.ps
 meet-below t = and 5 meet-kinds.ps (falls 5 meet-kinds.ps _<_ μ-meet t) meet.Pre
 
 abbrev meet-Inv-loop : meet-lts.InvT-loop
-meet-Inv-loop records wanted places₀ terms₀ indents₀ n m i t a e ks b₀ j₀ places terms indents b j =
-    Turning (kidsAt records) (wantedAt wanted) i t ks places₀ terms₀ indents₀ m places terms indents b j
+meet-Inv-loop records wanted places₀ terms₀ indents₀ n m i t ks b₀ j₀ places terms indents b j =
+    (ks ≡ kidsAt records t)
+    × Turning (kidsAt records) (wantedAt wanted) i t (kidsAt records t) places₀ terms₀ indents₀ m places terms indents b
+    j
 
 abbrev meet-μ-loop : meet-lts.MeasureT-loop
-meet-μ-loop records wanted places₀ terms₀ indents₀ n m i t a e ks b₀ j₀ places terms indents b j =
+meet-μ-loop records wanted places₀ terms₀ indents₀ n m i t ks b₀ j₀ places terms indents b j =
     length ks - j
 
+-- what the callees ask and tell
+abbrev cites : ℕ → meet-lts.Claims
+cites t = (children-of-reads.Asked, children-of-reads.Learnt, meet-below t, meet.Post)
+
 abbrev Start : ℕ → Type 0
-Start t = meet-lts.Start (meet-below t, meet.Post) (meet-at t) meet.Post meet-Inv-loop meet-μ-loop
+Start t = meet-lts.Start (cites t) (meet-at t) meet.Post meet-Inv-loop meet-μ-loop
 
 -- the bindings before the call, and after it
 abbrev before : (t : ℕ) → Start t → List Bound
@@ -131,504 +138,303 @@ module _
 meet-mul-if1 :
     (t : ℕ) →
     meet-lts.Need-mul-if1
-    (meet-below t, meet.Post)
-    (meet-at t)
-    meet.Post
-    meet-Inv-loop
-    meet-μ-loop
+    (cites t) (meet-at t) meet.Post meet-Inv-loop meet-μ-loop
 meet-mul-if1 t c =
     let s = c .before .before .before .before .before in omega (arith, s .pre .1 .linked .few, s .pre .1 .known)
 
 meet-slice-read-if1 :
     (t : ℕ) →
     meet-lts.Need-slice-read-if1
-    (meet-below t, meet.Post)
-    (meet-at t)
-    meet.Post
-    meet-Inv-loop
-    meet-μ-loop
+    (cites t) (meet-at t) meet.Post meet-Inv-loop meet-μ-loop
 meet-slice-read-if1 t c =
     let s = c .before .before .before .before .before .before in omega (arith, s .pre .1 .inPlaces, s .pre .1 .known)
 
 meet-returns :
     (t : ℕ) →
     meet-lts.Need-returns
-    (meet-below t, meet.Post)
-    (meet-at t)
-    meet.Post
-    meet-Inv-loop
-    meet-μ-loop
+    (cites t) (meet-at t) meet.Post meet-Inv-loop meet-μ-loop
 meet-returns t c =
     let s = c .before .before .before .before .before .before .before in
     record { met = s .pre .1 .met; same = is-old t s (c .if1 .taken) }
 
-meet-mul-a :
+meet-children-of-requires :
     (t : ℕ) →
-    meet-lts.Need-mul-a (meet-below t, meet.Post) (meet-at t) meet.Post meet-Inv-loop meet-μ-loop
-meet-mul-a t c =
-    let s = c .before .before .before .before .before .before .before in
-    omega (arith, s .pre .1 .linked .few, s .pre .1 .known)
-
-meet-add-a :
-    (t : ℕ) →
-    meet-lts.Need-add-a (meet-below t, meet.Post) (meet-at t) meet.Post meet-Inv-loop meet-μ-loop
-meet-add-a t c =
-    let s = c .before .before .before .before .before .before .before in
-    omega (arith, s .pre .1 .linked .few, s .pre .1 .known)
-
-meet-mul-e :
-    (t : ℕ) →
-    meet-lts.Need-mul-e (meet-below t, meet.Post) (meet-at t) meet.Post meet-Inv-loop meet-μ-loop
-meet-mul-e t c =
-    let s = c .before .before .before .before .before .before .before in
-    omega (arith, s .pre .1 .linked .few, s .pre .1 .known)
-
-meet-add-e :
-    (t : ℕ) →
-    meet-lts.Need-add-e (meet-below t, meet.Post) (meet-at t) meet.Post meet-Inv-loop meet-μ-loop
-meet-add-e t c =
-    let s = c .before .before .before .before .before .before .before in
-    omega (arith, s .pre .1 .linked .few, s .pre .1 .known)
-
-meet-mul-e-2 :
-    (t : ℕ) →
-    meet-lts.Need-mul-e-2
-    (meet-below t, meet.Post)
-    (meet-at t)
-    meet.Post
-    meet-Inv-loop
-    meet-μ-loop
-meet-mul-e-2 t c =
-    let s = c .before .before .before .before .before .before .before in
-    omega (arith, s .pre .1 .linked .few, s .pre .1 .known)
-
-meet-shared-slice-read-e :
-    (t : ℕ) →
-    meet-lts.Need-shared-slice-read-e
-    (meet-below t, meet.Post)
-    (meet-at t)
-    meet.Post
-    meet-Inv-loop
-    meet-μ-loop
-meet-shared-slice-read-e t c =
-    let s = c .before .before .before .before .before .before .before .before in
-    omega (arith, s .pre .1 .linked .inRecords, s .pre .1 .known)
-
-meet-add-e-2 :
-    (t : ℕ) →
-    meet-lts.Need-add-e-2
-    (meet-below t, meet.Post)
-    (meet-at t)
-    meet.Post
-    meet-Inv-loop
-    meet-μ-loop
-meet-add-e-2 t c =
-    let s = c .before .before .before .before .before .before .before .before in
-    omega (arith, s .pre .1 .linked .arity (s .args .t) (s .pre .1 .known), s .pre .1 .linked .few, s .pre .1 .known)
-
-meet-mul-ks :
-    (t : ℕ) →
-    meet-lts.Need-mul-ks (meet-below t, meet.Post) (meet-at t) meet.Post meet-Inv-loop meet-μ-loop
-meet-mul-ks t c =
-    let s = c .before .before .before .before .before .before .before .before in
-    omega (arith, s .pre .1 .linked .few, s .pre .1 .known)
-
-meet-sub-ks :
-    (t : ℕ) →
-    meet-lts.Need-sub-ks (meet-below t, meet.Post) (meet-at t) meet.Post meet-Inv-loop meet-μ-loop
-meet-sub-ks t c = search needs
-
-meet-part-ks-start :
-    (t : ℕ) →
-    meet-lts.Need-part-ks-start
-    (meet-below t, meet.Post)
-    (meet-at t)
-    meet.Post
-    meet-Inv-loop
-    meet-μ-loop
-meet-part-ks-start t c = search needs
-
-meet-part-ks-end :
-    (t : ℕ) →
-    meet-lts.Need-part-ks-end
-    (meet-below t, meet.Post)
-    (meet-at t)
-    meet.Post
-    meet-Inv-loop
-    meet-μ-loop
-meet-part-ks-end t c =
-    let s = c .before .before .before .before .before .before .before .before in
-    omega
-    (arith, s .pre .1 .linked .arity (s .args .t) (s .pre .1 .known), s .pre .1 .linked .inRecords, s .pre .1 .known)
+    meet-lts.Need-children-of-requires
+    (cites t) (meet-at t) meet.Post meet-Inv-loop meet-μ-loop
+meet-children-of-requires t c κs =
+    let s = c .before .before .before .before .before .before .before in (
+      omega (arith, s .pre .1 .linked .inRecords, s .pre .1 .known),
+      s .pre .1 .linked .arity (s .args .t) (s .pre .1 .known),
+    )
 
 meet-loop-holds :
     (t : ℕ) →
     meet-lts.Need-loop-holds
-    (meet-below t, meet.Post)
-    (meet-at t)
-    meet.Post
-    meet-Inv-loop
-    meet-μ-loop
+    (cites t) (meet-at t) meet.Post meet-Inv-loop meet-μ-loop
 meet-loop-holds t c =
-    let s = c .before .before .before .before .before .before .before .before .before in
-    record {
-      at = omega arith;
-      placesLong = refl;
-      termsLong = refl;
-      indentsLong = refl;
-      met = s .pre .1 .met;
-      out = unbound t s (c .before .before .if1 .left);
-      same = refl;
-    }
+    let s = c .before .before .before .before .before .before .before .before in (
+      c .children-of .ensures,
+      record {
+        at = omega arith;
+        placesLong = refl;
+        termsLong = refl;
+        indentsLong = refl;
+        met = s .pre .1 .met;
+        out = unbound t s (c .before .if1 .left);
+        same = refl;
+      },
+    )
 
 meet-add-meet :
     (t : ℕ) →
     meet-lts.Need-add-meet
-    (meet-below t, meet.Post)
-    (meet-at t)
-    meet.Post
-    meet-Inv-loop
-    meet-μ-loop
+    (cites t) (meet-at t) meet.Post meet-Inv-loop meet-μ-loop
 meet-add-meet t c =
     let s =
-    c .before .before .before .before .before .before .before .before .before .before .before .before .before
-    .before in omega (arith, s .pre .1 .deep)
+    c .before .before .before .before .before .before .before .before .before .before .before .before .before in omega (arith, s .pre .1 .deep)
 
 meet-mul-meet :
     (t : ℕ) →
     meet-lts.Need-mul-meet
-    (meet-below t, meet.Post)
-    (meet-at t)
-    meet.Post
-    meet-Inv-loop
-    meet-μ-loop
+    (cites t) (meet-at t) meet.Post meet-Inv-loop meet-μ-loop
 meet-mul-meet t c =
     omega (
       arith,
       few t
-          (c .before .before .before .before .before .before .before .before .before .before .before .before .before
-          .before),
+          (c .before .before .before .before .before .before .before .before .before .before .before .before .before),
       c .before .before .before .loop-test .taken,
+      ap length (c .before .before .before .before .loop .inv .0),
     )
 
-meet-shared-slice-read-meet : (t : ℕ) → meet-lts.Need-shared-slice-read-meet (
-  meet-below t,
-  meet.Post,
-) (meet-at t) meet.Post meet-Inv-loop meet-μ-loop
+meet-shared-slice-read-meet : (t : ℕ) → meet-lts.Need-shared-slice-read-meet (cites t) (meet-at t) meet.Post meet-Inv-loop meet-μ-loop
 meet-shared-slice-read-meet t c = search needs
 
 meet-meet-requires :
     (t : ℕ) →
     meet-lts.Need-meet-requires
-    (meet-below t, meet.Post)
-    (meet-at t)
-    meet.Post
-    meet-Inv-loop
-    meet-μ-loop
+    (cites t) (meet-at t) meet.Post meet-Inv-loop meet-μ-loop
 meet-meet-requires t c κs =
     let s =
-    c .before .before .before .before .before .before .before .before .before .before .before .before
-    .before .before .before in
+    c .before .before .before .before .before .before .before .before .before .before .before .before .before .before in
     let l = c .before .before .before .before .before .loop in
     let k =
     s .pre .1 .linked .lower (s .args .t) (s .pre .1 .known) (l .j)
-    (c .before .before .before .before .loop-test .taken) in (
+    (omega (arith, c .before .before .before .before .loop-test .taken, ap length (l .inv .0))) in
+    rw (l .inv .0) (
       omega (arith, k, s .pre .0),
       record {
         linked = s .pre .1 .linked;
         inWanted = s .pre .1 .inWanted;
-        inPlaces = omega (arith, s .pre .1 .inPlaces, l .inv .placesLong);
+        inPlaces = omega (arith, s .pre .1 .inPlaces, l .inv .1 .placesLong);
         known = omega (arith, k, s .pre .1 .known);
         deep = omega (arith, k, s .pre .1 .deep);
-        met = l .inv .met;
+        met = l .inv .1 .met;
       },
     )
 
 meet-add-j :
     (t : ℕ) →
-    meet-lts.Need-add-j (meet-below t, meet.Post) (meet-at t) meet.Post meet-Inv-loop meet-μ-loop
+    meet-lts.Need-add-j (cites t) (meet-at t) meet.Post meet-Inv-loop meet-μ-loop
 meet-add-j t c =
     omega (
       arith,
       few t
-          (c .before .before .before .before .before .before .before .before .before .before .before
-          .before .before .before
-          .before .before .before .before .before .before .before .before),
+          (c .before .before .before .before .before .before .before .before .before .before .before .before .before .before .before .before .before .before .before .before .before),
       c .before .before .before .before .before .before .before .before .before .before .before .loop-test .taken,
+      ap length (c .before .before .before .before .before .before .before .before .before .before .before .before .loop .inv .0),
     )
 
 meet-loop-less :
     (t : ℕ) →
     meet-lts.Need-loop-less
-    (meet-below t, meet.Post)
-    (meet-at t)
-    meet.Post
-    meet-Inv-loop
-    meet-μ-loop
+    (cites t) (meet-at t) meet.Post meet-Inv-loop meet-μ-loop
 meet-loop-less t c = search needs
 
 meet-loop-again :
     (t : ℕ) →
     meet-lts.Need-loop-again
-    (meet-below t, meet.Post)
-    (meet-at t)
-    meet.Post
-    meet-Inv-loop
-    meet-μ-loop
+    (cites t) (meet-at t) meet.Post meet-Inv-loop meet-μ-loop
 meet-loop-again t c =
-    let s =
-    c .before .before .before .before .before .before .before .before .before .before .before .before .before
-    .before .before .before .before .before .before .before .before .before in
+    let s = c .before .before .before .before .before .before .before .before .before .before .before .before .before .before .before .before .before .before .before .before .before in
     let l = c .before .before .before .before .before .before .before .before .before .before .before .before .loop in
-    let k =
-    s .pre .1 .linked .lower (s .args .t) (s .pre .1 .known) (l .j)
-    (c .before .before .before .before .before .before .before .before .before .before .before
-    .loop-test .taken) in
+    let low : l .j < length (kids t s) =
+    omega (arith, c .before .before .before .before .before .before .before .before .before .before .before .loop-test .taken, ap length (l .inv .0)) in
+    let k = s .pre .1 .linked .lower (s .args .t) (s .pre .1 .known) (l .j) low in
     let q = c .before .before .before .before .before .before .meet in
-    turning-again (kidsAt (s .args .records .now)) (wantedAt (s .args .wanted .now)) (s .args .n)
-    (s .pre .1 .linked .lower) (s .args .i) (s .args .t) (kids t s) (s .args .places .now) (s .args .terms .now)
-    (s .args .indents .now) (s .args .m) (l .places) (l .terms) (l .indents) (l .b) (l .j) (l .inv) (q .last .1 .1 .0)
-    (q .last .1 .1 .1 .0) (q .last .1 .1 .1 .1 .0) (q .result)
-    (c .before .before .before .before .before .before .before .before .before .before .before .loop-test .taken) k
-    (s .pre .1 .known)
-    (q .kept .1 .1 .0) (q .kept .1 .1 .1 .0) (q .kept .1 .1 .1 .1 .0) (q .ensures .met) (q .ensures .same)
+    let d = rw (l .inv .0) at (q .ensures) in (
+      l .inv .0,
+      turning-again (kidsAt (s .args .records .now)) (wantedAt (s .args .wanted .now)) (s .args .n)
+          (s .pre .1 .linked .lower) (s .args .i) (s .args .t) (kids t s) (s .args .places .now) (s .args .terms .now)
+          (s .args .indents .now) (s .args .m) (l .places) (l .terms) (l .indents) (l .b) (l .j) (l .inv .1)
+          (q .last .1 .1 .0) (q .last .1 .1 .1 .0) (q .last .1 .1 .1 .1 .0) (q .result) low k (s .pre .1 .known)
+          (q .kept .1 .1 .0) (q .kept .1 .1 .1 .0) (q .kept .1 .1 .1 .1 .0) (d .met) (d .same),
+    )
 
 meet-mul-if2 :
     (t : ℕ) →
     meet-lts.Need-mul-if2
-    (meet-below t, meet.Post)
-    (meet-at t)
-    meet.Post
-    meet-Inv-loop
-    meet-μ-loop
+    (cites t) (meet-at t) meet.Post meet-Inv-loop meet-μ-loop
 meet-mul-if2 t c =
-    let s = c .before .before .before .before .before .before .before .before .before .before .before in
+    let s = c .before .before .before .before .before .before .before .before .before .before in
     omega (arith, s .pre .1 .linked .few, s .pre .1 .known)
 
-meet-shared-slice-read-if2 : (t : ℕ) → meet-lts.Need-shared-slice-read-if2 (
-  meet-below t,
-  meet.Post,
-) (meet-at t) meet.Post meet-Inv-loop meet-μ-loop
+meet-shared-slice-read-if2 : (t : ℕ) → meet-lts.Need-shared-slice-read-if2 (cites t) (meet-at t) meet.Post meet-Inv-loop meet-μ-loop
 meet-shared-slice-read-if2 t c =
-    let s = c .before .before .before .before .before .before .before .before .before .before .before .before in
+    let s = c .before .before .before .before .before .before .before .before .before .before .before in
     omega (arith, s .pre .1 .inWanted, s .pre .1 .known)
 
 meet-same-length :
     (t : ℕ) →
     meet-lts.Need-same-length
-    (meet-below t, meet.Post)
-    (meet-at t)
-    meet.Post
-    meet-Inv-loop
-    meet-μ-loop
-meet-same-length t c = c .before .before .before .loop .inv .placesLong
+    (cites t) (meet-at t) meet.Post meet-Inv-loop meet-μ-loop
+meet-same-length t c = c .before .before .before .loop .inv .1 .placesLong
 
 meet-same-length-2 :
     (t : ℕ) →
     meet-lts.Need-same-length-2
-    (meet-below t, meet.Post)
-    (meet-at t)
-    meet.Post
-    meet-Inv-loop
-    meet-μ-loop
-meet-same-length-2 t c = c .before .before .before .loop .inv .termsLong
+    (cites t) (meet-at t) meet.Post meet-Inv-loop meet-μ-loop
+meet-same-length-2 t c = c .before .before .before .loop .inv .1 .termsLong
 
 meet-same-length-3 :
     (t : ℕ) →
     meet-lts.Need-same-length-3
-    (meet-below t, meet.Post)
-    (meet-at t)
-    meet.Post
-    meet-Inv-loop
-    meet-μ-loop
-meet-same-length-3 t c = c .before .before .before .loop .inv .indentsLong
+    (cites t) (meet-at t) meet.Post meet-Inv-loop meet-μ-loop
+meet-same-length-3 t c = c .before .before .before .loop .inv .1 .indentsLong
 
 meet-returns-2 :
     (t : ℕ) →
     meet-lts.Need-returns-2
-    (meet-below t, meet.Post)
-    (meet-at t)
-    meet.Post
-    meet-Inv-loop
-    meet-μ-loop
+    (cites t) (meet-at t) meet.Post meet-Inv-loop meet-μ-loop
 meet-returns-2 t c =
     let s =
-    c .before .before .before .before .before .before .before .before .before .before .before .before .before in
+    c .before .before .before .before .before .before .before .before .before .before .before .before in
     let l = c .before .before .before .loop in
     record {
-      met = l .inv .met;
+      met = l .inv .1 .met;
       same =
-          turned t s (l .places) (l .terms) (l .indents) (l .b) (l .j) (l .inv) (c .before .before .loop-test .left)
-          ∙ sym (is-unwanted t s (c .before .before .before .before .before .before .if1 .left) (c .if2 .taken));
+          turned t s (l .places) (l .terms) (l .indents) (l .b) (l .j) (l .inv .1) (omega (arith, c .before .before .loop-test .left, ap length (l .inv .0)))
+          ∙ sym (is-unwanted t s (c .before .before .before .before .before .if1 .left) (c .if2 .taken));
     }
 
 meet-add-places :
     (t : ℕ) →
     meet-lts.Need-add-places
-    (meet-below t, meet.Post)
-    (meet-at t)
-    meet.Post
-    meet-Inv-loop
-    meet-μ-loop
+    (cites t) (meet-at t) meet.Post meet-Inv-loop meet-μ-loop
 meet-add-places t c =
     let s =
-    c .before .before .before .before .before .before .before .before .before .before .before .before .before in
+    c .before .before .before .before .before .before .before .before .before .before .before .before in
     let l = c .before .before .before .loop in
-    omega (arith, room t s (l .places) (l .terms) (l .indents) (l .b) (l .j) (l .inv), l .inv .termsLong, s .good)
+    omega (arith, room t s (l .places) (l .terms) (l .indents) (l .b) (l .j) (l .inv .1), l .inv .1 .termsLong, s .good)
 
 meet-mul-places :
     (t : ℕ) →
     meet-lts.Need-mul-places
-    (meet-below t, meet.Post)
-    (meet-at t)
-    meet.Post
-    meet-Inv-loop
-    meet-μ-loop
+    (cites t) (meet-at t) meet.Post meet-Inv-loop meet-μ-loop
 meet-mul-places t c =
     let s =
-    c .before .before .before .before .before .before .before .before .before .before .before .before .before in
+    c .before .before .before .before .before .before .before .before .before .before .before .before in
     omega (arith, s .pre .1 .linked .few, s .pre .1 .known)
 
 meet-slice-write-places :
     (t : ℕ) →
     meet-lts.Need-slice-write-places
-    (meet-below t, meet.Post)
-    (meet-at t)
-    meet.Post
-    meet-Inv-loop
-    meet-μ-loop
+    (cites t) (meet-at t) meet.Post meet-Inv-loop meet-μ-loop
 meet-slice-write-places t c =
     let s =
-    c .before .before .before .before .before .before .before .before .before .before .before .before .before in
-    omega (arith, s .pre .1 .inPlaces, s .pre .1 .known, c .before .before .before .loop .inv .placesLong)
+    c .before .before .before .before .before .before .before .before .before .before .before .before in
+    omega (arith, s .pre .1 .inPlaces, s .pre .1 .known, c .before .before .before .loop .inv .1 .placesLong)
 
 meet-mul-terms :
     (t : ℕ) →
     meet-lts.Need-mul-terms
-    (meet-below t, meet.Post)
-    (meet-at t)
-    meet.Post
-    meet-Inv-loop
-    meet-μ-loop
+    (cites t) (meet-at t) meet.Post meet-Inv-loop meet-μ-loop
 meet-mul-terms t c =
     let s =
-    c .before .before .before .before .before .before .before .before .before .before .before .before .before in
+    c .before .before .before .before .before .before .before .before .before .before .before .before in
     let l = c .before .before .before .loop in
-    omega (arith, room t s (l .places) (l .terms) (l .indents) (l .b) (l .j) (l .inv), l .inv .termsLong, s .good)
+    omega (arith, room t s (l .places) (l .terms) (l .indents) (l .b) (l .j) (l .inv .1), l .inv .1 .termsLong, s .good)
 
 meet-slice-write-terms :
     (t : ℕ) →
     meet-lts.Need-slice-write-terms
-    (meet-below t, meet.Post)
-    (meet-at t)
-    meet.Post
-    meet-Inv-loop
-    meet-μ-loop
+    (cites t) (meet-at t) meet.Post meet-Inv-loop meet-μ-loop
 meet-slice-write-terms t c =
     let s =
-    c .before .before .before .before .before .before .before .before .before .before .before .before .before in
+    c .before .before .before .before .before .before .before .before .before .before .before .before in
     let l = c .before .before .before .loop in
-    room t s (l .places) (l .terms) (l .indents) (l .b) (l .j) (l .inv)
+    room t s (l .places) (l .terms) (l .indents) (l .b) (l .j) (l .inv .1)
 
 meet-mul-indents :
     (t : ℕ) →
     meet-lts.Need-mul-indents
-    (meet-below t, meet.Post)
-    (meet-at t)
-    meet.Post
-    meet-Inv-loop
-    meet-μ-loop
+    (cites t) (meet-at t) meet.Post meet-Inv-loop meet-μ-loop
 meet-mul-indents t c = meet-mul-terms t c
 
 meet-slice-write-indents :
     (t : ℕ) →
     meet-lts.Need-slice-write-indents
-    (meet-below t, meet.Post)
-    (meet-at t)
-    meet.Post
-    meet-Inv-loop
-    meet-μ-loop
+    (cites t) (meet-at t) meet.Post meet-Inv-loop meet-μ-loop
 meet-slice-write-indents t c =
     let s =
-    c .before .before .before .before .before .before .before .before .before .before .before .before .before in
+    c .before .before .before .before .before .before .before .before .before .before .before .before in
     let l = c .before .before .before .loop in
-    omega (arith, room t s (l .places) (l .terms) (l .indents) (l .b) (l .j) (l .inv), l .inv .met .long)
+    omega (arith, room t s (l .places) (l .terms) (l .indents) (l .b) (l .j) (l .inv .1), l .inv .1 .met .long)
 
 meet-add-result :
     (t : ℕ) →
     meet-lts.Need-add-result
-    (meet-below t, meet.Post)
-    (meet-at t)
-    meet.Post
-    meet-Inv-loop
-    meet-μ-loop
+    (cites t) (meet-at t) meet.Post meet-Inv-loop meet-μ-loop
 meet-add-result t c = meet-add-places t c
 
 meet-same-length-4 :
     (t : ℕ) →
     meet-lts.Need-same-length-4
-    (meet-below t, meet.Post)
-    (meet-at t)
-    meet.Post
-    meet-Inv-loop
-    meet-μ-loop
+    (cites t) (meet-at t) meet.Post meet-Inv-loop meet-μ-loop
 meet-same-length-4 t c =
     let s =
-    c .before .before .before .before .before .before .before .before .before .before .before .before .before in
+    c .before .before .before .before .before .before .before .before .before .before .before .before in
     let l = c .before .before .before .loop in
-    length-set (l .places) (s .args .t) (l .b + 1) ∙ l .inv .placesLong
+    length-set (l .places) (s .args .t) (l .b + 1) ∙ l .inv .1 .placesLong
 
 meet-same-length-5 :
     (t : ℕ) →
     meet-lts.Need-same-length-5
-    (meet-below t, meet.Post)
-    (meet-at t)
-    meet.Post
-    meet-Inv-loop
-    meet-μ-loop
+    (cites t) (meet-at t) meet.Post meet-Inv-loop meet-μ-loop
 meet-same-length-5 t c =
     let s =
-    c .before .before .before .before .before .before .before .before .before .before .before .before .before in
+    c .before .before .before .before .before .before .before .before .before .before .before .before in
     let l = c .before .before .before .loop in
-    length-set (l .terms) (l .b) (s .args .t) ∙ l .inv .termsLong
+    length-set (l .terms) (l .b) (s .args .t) ∙ l .inv .1 .termsLong
 
 meet-same-length-6 :
     (t : ℕ) →
     meet-lts.Need-same-length-6
-    (meet-below t, meet.Post)
-    (meet-at t)
-    meet.Post
-    meet-Inv-loop
-    meet-μ-loop
+    (cites t) (meet-at t) meet.Post meet-Inv-loop meet-μ-loop
 meet-same-length-6 t c =
     let s =
-    c .before .before .before .before .before .before .before .before .before .before .before .before .before in
+    c .before .before .before .before .before .before .before .before .before .before .before .before in
     let l = c .before .before .before .loop in
-    length-set (l .indents) (l .b) (s .args .i) ∙ l .inv .indentsLong
+    length-set (l .indents) (l .b) (s .args .i) ∙ l .inv .1 .indentsLong
 
 meet-returns-3 :
     (t : ℕ) →
     meet-lts.Need-returns-3
-    (meet-below t, meet.Post)
-    (meet-at t)
-    meet.Post
-    meet-Inv-loop
-    meet-μ-loop
+    (cites t) (meet-at t) meet.Post meet-Inv-loop meet-μ-loop
 meet-returns-3 t c =
     let s =
-    c .before .before .before .before .before .before .before .before .before .before .before .before .before in
+    c .before .before .before .before .before .before .before .before .before .before .before .before in
     let l = c .before .before .before .loop in
     let k : s .args .t < length (l .places) =
-    omega (arith, s .pre .1 .known, s .pre .1 .inPlaces, l .inv .placesLong) in
+    omega (arith, s .pre .1 .known, s .pre .1 .inPlaces, l .inv .1 .placesLong) in
     record {
       met =
-          met-more (l .places) (l .terms) (l .indents) (l .b) (s .args .t) (s .args .i) (l .inv .met) k (l .inv .out);
+          met-more (l .places) (l .terms) (l .indents) (l .b) (s .args .t) (s .args .i) (l .inv .1 .met) k (l .inv .1 .out);
       same =
           bounds-more (l .places) (l .terms) (l .indents) (l .b) (s .args .t) (s .args .i)
-          (l .inv .met) k (l .inv .out)
+          (l .inv .1 .met) k (l .inv .1 .out)
           ∙ (ap (λ (x : List Bound). x ++ one (s .args .t) (s .args .i))
-          (turned t s (l .places) (l .terms) (l .indents) (l .b) (l .j) (l .inv) (c .before .before .loop-test .left))
-          ∙ sym (is-wanted t s (c .before .before .before .before .before .before .if1 .left) (c .if2 .left)));
+          (turned t s (l .places) (l .terms) (l .indents) (l .b) (l .j) (l .inv .1) (omega (arith, c .before .before .loop-test .left, ap length (l .inv .0))))
+          ∙ sym (is-wanted t s (c .before .before .before .before .before .if1 .left) (c .if2 .left)));
     }
 
 pub +meet-spec : {M : Type 1} → statement M
@@ -636,25 +442,11 @@ pub +meet-spec : {M : Type 1} → statement M
     close
     μ-meet
     λ t. meet-lts.spec
-    (meet-below t, meet.Post)
-    (meet-at t)
-    meet.Post
-    meet-Inv-loop
-    meet-μ-loop
+    (cites t) (meet-at t) meet.Post meet-Inv-loop meet-μ-loop
     (meet-mul-if1 t)
     (meet-slice-read-if1 t)
     (meet-returns t)
-    (meet-mul-a t)
-    (meet-add-a t)
-    (meet-mul-e t)
-    (meet-add-e t)
-    (meet-mul-e-2 t)
-    (meet-shared-slice-read-e t)
-    (meet-add-e-2 t)
-    (meet-mul-ks t)
-    (meet-sub-ks t)
-    (meet-part-ks-start t)
-    (meet-part-ks-end t)
+    (meet-children-of-requires t)
     (meet-loop-holds t)
     (meet-add-meet t)
     (meet-mul-meet t)

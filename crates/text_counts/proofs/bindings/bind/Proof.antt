@@ -1,7 +1,7 @@
 -- `bindings::bind` meets its contract: counts, sizes, flags, and the root is met. Assumes nothing.
 use Prim.Native.Nat.{_-_, _<_}
 use mathlib.Core.Path.{ap, _∙_}
-use Rattle.text_pieces.specs.Readable.{kidsAt}
+use Rattle.term_rules.specs.Lent.{kidsAt}
 use Rattle.text_counts.specs.Met.{wantedAt, metAt}
 use Rattle.text_counts.proofs.bindings.TableLaws.{bounds-none}
 use Rattle.text_counts.proofs.bindings.WantedLaws.{wanted-of-marked, bindings-of-met, met-none}

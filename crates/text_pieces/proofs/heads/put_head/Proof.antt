@@ -1,6 +1,6 @@
 -- `heads::put_head` meets its contract, by the kind of the term. Assumes nothing.
-use Prim.Native.Nat.{ℕ, _+_, _*_, _-_, _^_, _≤_, _<_}
-use mathlib.Core.Path.{_≡_, ap, _∙_}
+use Prim.Native.Nat.{ℕ, _-_, _^_, _≤_, _<_}
+use mathlib.Core.Path.{_≡_, sym, ap, _∙_}
 use mathlib.Core.List.{List, [], _∷_}
 use lib.ListN.{length, getD, set, length-set}
 use lib.IntN.{pos}
@@ -11,8 +11,9 @@ use mir.Facts.{toZ-ofZ}
 use borrow.Rule.Slice.PartMut.{same-len-mid}
 use Rattle.decimal.specs.Decimal.{literalText}
 use Rattle.decimal.proofs.WrittenLaws.{stands-first, stands-fits, stands-then, wrote-of-stands}
-use Rattle.name.specs.Entries.{lengthAt, nameAt}
-use Rattle.text_pieces.specs.Readable.{nodes, kindAt, symbolNo, headText}
+use Rattle.name.specs.Entries.{nameAt, InEntries}
+use Rattle.term_rules.specs.Lent.{kindAt, symbolNo}
+use Rattle.text_pieces.specs.Readable.{nodes, headText}
 use Rattle.text_pieces.proofs.heads.NodeLaws.{head-of-literal, head-of-variable, head-of-application}
 use native.Mathlib.Omega.{arith}
 use borrow.Author.Needs.{needs}
@@ -50,23 +51,11 @@ same-literal :
 same-literal s l = toZ-ofZ (record { sfits = l })
 
 -- where the name of a term that is no literal stands
-held :
-    (s : tie.Start) →
-    (kindOf s ≡ 0 → ⊥) →
-    (symbolOf s * 32 + 32 ≤ length (s .args .names .now)) × (lengthAt (s .args .names .now) (symbolOf s) ≤ 31)
-held s z = (
-  s .pre .0 .inNames (s .args .t) (s .pre .1 .0) (omega arith),
-  s .pre .0 .short (s .args .t) (s .pre .1 .0) (omega arith),
-)
+held : (s : tie.Start) → (kindOf s ≡ 0 → ⊥) → InEntries (s .args .names .now) (symbolOf s)
+held s z = s .pre .0 .name (s .args .t) (s .pre .1 .0) (omega arith)
 
-mul-kind : tie.Need-mul-kind
-mul-kind c = search needs
-
-mul-kind-2 : tie.Need-mul-kind-2
-mul-kind-2 c = search needs
-
-shared-slice-read-kind : tie.Need-shared-slice-read-kind
-shared-slice-read-kind c = search needs
+kind-of-requires : tie.Need-kind-of-requires
+kind-of-requires c κs = omega (arith, c .before .before .before .pre .0 .inRecords)
 
 mul-put-literal : tie.Need-mul-put-literal
 mul-put-literal c = search needs
@@ -77,7 +66,7 @@ shared-slice-copy-out-put-literal c = search needs
 put-literal-requires : tie.Need-put-literal-requires
 put-literal-requires c κs =
     let s = c .before .before .before .before .before .before .before in
-    rw (same-literal s (c .put-literal-arg2 .given)) (rw (literal s (c .before .before .if1 .taken)) at (s .pre .1 .1))
+    rw (same-literal s (c .put-literal-arg2 .given)) (rw (literal s (sym (c .before .before .before .kind-of .ensures) ∙ c .before .before .if1 .taken)) at (s .pre .1 .1))
 
 same-length : tie.Need-same-length
 same-length c = search needs
@@ -85,27 +74,21 @@ same-length c = search needs
 returns : tie.Need-returns
 returns c =
     let s = c .before .before .before .before .before .before .before .before .before .before in
-    rw (literal s (c .before .before .before .before .before .if1 .taken))
+    rw (literal s
+    (sym (c .before .before .before .before .before .before .kind-of .ensures)
+    ∙ c .before .before .before .before .before .if1 .taken))
     (rw (same-literal s (c .before .before .before .put-literal-arg2 .given)) at (c .before .before
     .put-literal .ensures))
 
-mul-k : tie.Need-mul-k
-mul-k c = search needs
-
-add-k : tie.Need-add-k
-add-k c = search needs
-
-mul-k-2 : tie.Need-mul-k-2
-mul-k-2 c = search needs
-
-shared-slice-read-k : tie.Need-shared-slice-read-k
-shared-slice-read-k c = search needs
+symbol-of-requires : tie.Need-symbol-of-requires
+symbol-of-requires c κs = omega (arith, c .before .before .before .before .before .pre .0 .inRecords)
 
 put-symbol-requires : tie.Need-put-symbol-requires
 put-symbol-requires c κs =
     let s = c .before .before .before .before .before .before .before .before in
-    let h = held s (c .before .before .before .if1 .left) in
-    (h .0, (h .1, rw (variable s (c .before .if2 .taken)) at (s .pre .1 .1)))
+    let h = held s (λ e. c .before .before .before .if1 .left (c .before .before .before .before .kind-of .ensures ∙ e)) in
+    let o : kindOf s ≡ 1 = sym (c .before .before .before .before .kind-of .ensures) ∙ c .before .if2 .taken in
+    rw (c .before .before .symbol-of .ensures) (h, rw (variable s o) at (s .pre .1 .1))
 
 same-length-2 : tie.Need-same-length-2
 same-length-2 c = search needs
@@ -113,12 +96,23 @@ same-length-2 c = search needs
 returns-2 : tie.Need-returns-2
 returns-2 c =
     let s = c .before .before .before .before .before .before .before .before .before .before .before in
-    rw (variable s (c .before .before .before .before .if2 .taken)) (c .before .before .put-symbol .ensures)
+    let o : kindOf s ≡ 1 = sym (c .before .before .before .before .before .before .before .kind-of .ensures) ∙ c .before .before .before .before .if2 .taken in
+    rw (variable s o) (rw (c .before .before .before .before .before .symbol-of .ensures) at (c .before .before .put-symbol .ensures))
+
+-- an application's head, from the tests on the kind that was read
+head-is :
+    (s : tie.Start) (k : ℕ) → k ≡ kindOf s → (k ≡ 0 → ⊥) → (k ≡ 1 → ⊥) → head s ≡ 40 ∷ nameOf s
+head-is s k e z o = application s (λ q. z (e ∙ q)) (λ q. o (e ∙ q))
 
 slice-write-out : tie.Need-slice-write-out
 slice-write-out c =
     let s = c .before .before .before .before .before .before .before in
-    omega (arith, s .pre .1 .1, ap length (application s (c .before .before .if1 .left) (c .if2 .left)))
+    omega (
+      arith,
+      s .pre .1 .1,
+      ap length (head-is s (c .before .before .before .kind-of .result) (c .before .before .before .kind-of .ensures)
+          (c .before .before .if1 .left) (c .if2 .left)),
+    )
 
 sub-put-symbol : tie.Need-sub-put-symbol
 sub-put-symbol c =
@@ -126,7 +120,8 @@ sub-put-symbol c =
     simp length-set (omega (
       arith,
       s .pre .1 .1,
-      ap length (application s (c .before .before .if1 .left) (c .if2 .left)),
+      ap length (head-is s (c .before .before .before .kind-of .result) (c .before .before .before .kind-of .ensures)
+          (c .before .before .if1 .left) (c .if2 .left)),
     ))
 
 part-put-symbol-start : tie.Need-part-put-symbol-start
@@ -136,7 +131,8 @@ part-put-symbol-start c =
     simp length-set (omega (
       arith,
       s .pre .1 .1,
-      ap length (application s (c .before .before .if1 .left) (c .if2 .left)),
+      ap length (head-is s (c .before .before .before .kind-of .result) (c .before .before .before .kind-of .ensures)
+          (c .before .before .if1 .left) (c .if2 .left)),
     )) in
     h
 
@@ -146,15 +142,15 @@ part-put-symbol-end c = search needs
 put-symbol-requires-2 : tie.Need-put-symbol-requires-2
 put-symbol-requires-2 c κs =
     let s = c .before .before .before .before .before .before .before .before in
-    let h = held s (c .before .before .before .if1 .left) in
-    let e = ap length (application s (c .before .before .before .if1 .left) (c .before .if2 .left)) in (
-      h .0,
-      (
-        h .1,
-        stands-fits (s .args .out .now) (40 ∷ []) _ 1
-            (stands-first (s .args .out .now) 40 (omega (arith, s .pre .1 .1, e))) (nameOf s)
-            (omega (arith, s .pre .1 .1, e)),
-      ),
+    let h = held s (λ e. c .before .before .before .if1 .left (c .before .before .before .before .kind-of .ensures ∙ e)) in
+    let e = ap length (head-is s (c .before .before .before .before .kind-of .result)
+    (c .before .before .before .before .kind-of .ensures)
+    (c .before .before .before .if1 .left) (c .before .if2 .left)) in
+    rw (c .before .before .symbol-of .ensures) (
+      h,
+      stands-fits (s .args .out .now) (40 ∷ []) _ 1
+          (stands-first (s .args .out .now) 40 (omega (arith, s .pre .1 .1, e))) (nameOf s)
+          (omega (arith, s .pre .1 .1, e)),
     )
 
 add-result : tie.Need-add-result
@@ -164,9 +160,9 @@ add-result c =
       arith,
       s .pre .1 .1,
       s .good,
-      ap length (application s (c .before .before .before .before .before .before .if1 .left)
-          (c .before .before .before .before .if2 .left)),
+      ap length (head-is s (c .before .before .before .before .before .before .before .kind-of .result) (c .before .before .before .before .before .before .before .kind-of .ensures) (c .before .before .before .before .before .before .if1 .left) (c .before .before .before .before .if2 .left)),
       c .before .before .put-symbol2 .ensures .long,
+      ap (λ (k : ℕ). length (nameAt (s .args .names .now) k)) (c .before .before .before .before .before .symbol-of .ensures),
     )
 
 same-length-3 : tie.Need-same-length-3
@@ -182,30 +178,24 @@ returns-3 c =
     let s = c .before .before .before .before .before .before .before .before .before .before .before in
     let o = s .args .out .now in
     let e =
-    application s (c .before .before .before .before .before .before .if1 .left)
-    (c .before .before .before .before .if2 .left) in
+    head-is s (c .before .before .before .before .before .before .before .kind-of .result) (c .before .before .before .before .before .before .before .kind-of .ensures) (c .before .before .before .before .before .before .if1 .left) (c .before .before .before .before .if2 .left) in
     rw e
     (wrote-of-stands o (40 ∷ nameOf s) _ _
     (stands-then o (40 ∷ []) _ 1 (stands-first o 40 (omega (arith, s .pre .1 .1, ap length e))) (nameOf s)
     (c .before .before .put-symbol2 .last .0) (c .before .before .put-symbol2 .result)
-    (c .before .before .put-symbol2 .ensures)))
+    (rw (c .before .before .before .before .before .symbol-of .ensures) at (c .before .before .put-symbol2 .ensures))))
 
 pub put-head-spec : {M : Type 1} → statement M
 put-head-spec =
     tie.close
     (tie.spec
-    mul-kind
-    mul-kind-2
-    shared-slice-read-kind
+    kind-of-requires
     mul-put-literal
     shared-slice-copy-out-put-literal
     put-literal-requires
     same-length
     returns
-    mul-k
-    add-k
-    mul-k-2
-    shared-slice-read-k
+    symbol-of-requires
     put-symbol-requires
     same-length-2
     returns-2

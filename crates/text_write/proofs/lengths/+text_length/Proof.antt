@@ -2,10 +2,12 @@
 use Prim.Native.Nat.{_+_, _*_, _-_, _^_, _≤_, ℕ, _<_}
 use mathlib.Core.Path.{_≡_, sym, ap, _∙_}
 use mathlib.Core.List.{List, [], _∷_, _++_}
-use lib.ListN.{length, getD, drop, length-take}
+use lib.ListN.{length, getD}
 use Rattle.text_rules.specs.Forms.{each, form}
 use Rattle.text_pieces.specs.Pieces.{capped, nameText}
-use Rattle.text_pieces.specs.Readable.{nodes, kindAt, arityAt, kidsAt, headText}
+use Rattle.term_rules.specs.Lent.{kindAt, kidsAt}
+use Rattle.term_layout.proofs.KidsLaws.{kids-length}
+use Rattle.text_pieces.specs.Readable.{nodes, headText}
 use Rattle.text_write.specs.Piece.{View, gapOf, piece, view}
 use Rattle.text_write.proofs.PieceLaws.{
   body-step,
@@ -27,6 +29,8 @@ use Rattle.text_pieces.proofs.heads.head_length.Reads as head-length-reads
 use Rattle.text_pieces.proofs.add.Reads as add-reads
 use Rattle.text_pieces.proofs.gap_length.Reads as gap-length-reads
 use Rattle.text_pieces.proofs.name_length.Reads as name-length-reads
+use Rattle.term_layout.proofs.kind_of.Reads as kind-of-reads
+use Rattle.term_layout.proofs.children_of.Reads as children-of-reads
 use Rattle.text_write.proofs.lengths.+text_length.{statement}
 use Rattle.text_write.proofs.lengths.+text_length.Tie.{close}
 
@@ -42,28 +46,37 @@ text-length-below t =
     and 6 text-length-kinds.ps (falls 6 text-length-kinds.ps _<_ μ-text-length t) text-length.Pre
 
 abbrev text-length-Inv-loop : text-length-lts.InvT-loop
-text-length-Inv-loop records literals names places wides stem n start bare limit lim m i t b acc₀ gap a e ks j₀ acc j =
-    Measuring (headText (nodes records literals names t))
+text-length-Inv-loop records literals names places wides stem n start bare limit lim m i t b acc₀ gap ks j₀ acc j =
+    (ks ≡ kidsAt records t)
+    × Measuring (headText (nodes records literals names t))
     (gapOf (view records literals names places wides stem start bare limit) m i t)
-    (piece (view records literals names places wides stem start bare limit) 0 m (i + 2)) ks acc j
+    (piece (view records literals names places wides stem start bare limit) 0 m (i + 2)) (kidsAt records t) acc j
 
 abbrev text-length-μ-loop : text-length-lts.MeasureT-loop
-text-length-μ-loop records literals names places wides stem n start bare limit lim m i t b acc₀ gap a e ks j₀ acc j =
+text-length-μ-loop records literals names places wides stem n start bare limit lim m i t b acc₀ gap ks j₀ acc j =
     length ks - j
 
-abbrev Start : ℕ → Type 0
-Start t = text-length-lts.Start (
+-- what the callees ask and tell
+abbrev cites : ℕ → text-length-lts.Claims
+cites t = (
   name-length-reads.Asked,
   name-length-reads.Learnt,
   head-length-reads.Asked,
   head-length-reads.Learnt,
+  kind-of-reads.Asked,
+  kind-of-reads.Learnt,
   gap-length-reads.Asked,
   gap-length-reads.Learnt,
+  children-of-reads.Asked,
+  children-of-reads.Learnt,
   text-length-below t,
   text-length.Post,
   add-reads.Asked,
   add-reads.Learnt,
-) (text-length-at t) text-length.Post text-length-Inv-loop text-length-μ-loop
+)
+
+abbrev Start : ℕ → Type 0
+Start t = text-length-lts.Start (cites t) (text-length-at t) text-length.Post text-length-Inv-loop text-length-μ-loop
 
 -- what the call goes by, and what it measures
 abbrev seen : (t : ℕ) → Start t → View
@@ -131,666 +144,173 @@ few : (t : ℕ) (s : Start t) → length (kids t s) ≤ 8
 few t s =
     omega (
       arith,
-      length-take
-          (s .args .t * 11 + 3 + arityAt (s .args .records .now) (s .args .t) - (s .args .t * 11 + 3))
-          (drop (s .args .t * 11 + 3) (s .args .records .now)),
+      kids-length (s .args .records .now) (s .args .t),
       s .pre .1 .0 .readable .arity (s .args .t) (s .pre .1 .1 .0),
     )
 
-text-length-mul-b : (t : ℕ) → text-length-lts.Need-mul-b (
-  name-length-reads.Asked,
-  name-length-reads.Learnt,
-  head-length-reads.Asked,
-  head-length-reads.Learnt,
-  gap-length-reads.Asked,
-  gap-length-reads.Learnt,
-  text-length-below t,
-  text-length.Post,
-  add-reads.Asked,
-  add-reads.Learnt,
-) (text-length-at t) text-length.Post text-length-Inv-loop text-length-μ-loop
+text-length-mul-b : (t : ℕ) → text-length-lts.Need-mul-b (cites t) (text-length-at t) text-length.Post text-length-Inv-loop text-length-μ-loop
 text-length-mul-b t c = search needs
 
-text-length-shared-slice-read-b : (t : ℕ) → text-length-lts.Need-shared-slice-read-b (
-  name-length-reads.Asked,
-  name-length-reads.Learnt,
-  head-length-reads.Asked,
-  head-length-reads.Learnt,
-  gap-length-reads.Asked,
-  gap-length-reads.Learnt,
-  text-length-below t,
-  text-length.Post,
-  add-reads.Asked,
-  add-reads.Learnt,
-) (text-length-at t) text-length.Post text-length-Inv-loop text-length-μ-loop
+text-length-shared-slice-read-b : (t : ℕ) → text-length-lts.Need-shared-slice-read-b (cites t) (text-length-at t) text-length.Post text-length-Inv-loop text-length-μ-loop
 text-length-shared-slice-read-b t c = search needs
 
-text-length-sub-name-length : (t : ℕ) → text-length-lts.Need-sub-name-length (
-  name-length-reads.Asked,
-  name-length-reads.Learnt,
-  head-length-reads.Asked,
-  head-length-reads.Learnt,
-  gap-length-reads.Asked,
-  gap-length-reads.Learnt,
-  text-length-below t,
-  text-length.Post,
-  add-reads.Asked,
-  add-reads.Learnt,
-) (text-length-at t) text-length.Post text-length-Inv-loop text-length-μ-loop
+text-length-sub-name-length : (t : ℕ) → text-length-lts.Need-sub-name-length (cites t) (text-length-at t) text-length.Post text-length-Inv-loop text-length-μ-loop
 text-length-sub-name-length t c = search needs
 
-text-length-name-length-requires : (t : ℕ) → text-length-lts.Need-name-length-requires (
-  name-length-reads.Asked,
-  name-length-reads.Learnt,
-  head-length-reads.Asked,
-  head-length-reads.Learnt,
-  gap-length-reads.Asked,
-  gap-length-reads.Learnt,
-  text-length-below t,
-  text-length.Post,
-  add-reads.Asked,
-  add-reads.Learnt,
-) (text-length-at t) text-length.Post text-length-Inv-loop text-length-μ-loop
+text-length-name-length-requires : (t : ℕ) → text-length-lts.Need-name-length-requires (cites t) (text-length-at t) text-length.Post text-length-Inv-loop text-length-μ-loop
 text-length-name-length-requires t c κs =
     let s = c .before .before .before .before .before .before .before in omega (arith, counts t s, c .if1 .taken)
 
-text-length-returns : (t : ℕ) → text-length-lts.Need-returns (
-  name-length-reads.Asked,
-  name-length-reads.Learnt,
-  head-length-reads.Asked,
-  head-length-reads.Learnt,
-  gap-length-reads.Asked,
-  gap-length-reads.Learnt,
-  text-length-below t,
-  text-length.Post,
-  add-reads.Asked,
-  add-reads.Learnt,
-) (text-length-at t) text-length.Post text-length-Inv-loop text-length-μ-loop
+text-length-returns : (t : ℕ) → text-length-lts.Need-returns (cites t) (text-length-at t) text-length.Post text-length-Inv-loop text-length-μ-loop
 text-length-returns t c =
     let s = c .before .before .before .before .before .before .before .before in
     c .name-length .ensures ∙ ap (λ (x : List ℕ). capped (length x)) (sym (by-name t s (c .before .if1 .taken)))
 
-text-length-head-length-requires : (t : ℕ) → text-length-lts.Need-head-length-requires (
-  name-length-reads.Asked,
-  name-length-reads.Learnt,
-  head-length-reads.Asked,
-  head-length-reads.Learnt,
-  gap-length-reads.Asked,
-  gap-length-reads.Learnt,
-  text-length-below t,
-  text-length.Post,
-  add-reads.Asked,
-  add-reads.Learnt,
-) (text-length-at t) text-length.Post text-length-Inv-loop text-length-μ-loop
+text-length-head-length-requires : (t : ℕ) → text-length-lts.Need-head-length-requires (cites t) (text-length-at t) text-length.Post text-length-Inv-loop text-length-μ-loop
 text-length-head-length-requires t c κs =
     let s = c .before .before .before .before .before .before .before in (s .pre .1 .0 .readable, s .pre .1 .1 .0)
 
-text-length-mul-if2 : (t : ℕ) → text-length-lts.Need-mul-if2 (
-  name-length-reads.Asked,
-  name-length-reads.Learnt,
-  head-length-reads.Asked,
-  head-length-reads.Learnt,
-  gap-length-reads.Asked,
-  gap-length-reads.Learnt,
-  text-length-below t,
-  text-length.Post,
-  add-reads.Asked,
-  add-reads.Learnt,
-) (text-length-at t) text-length.Post text-length-Inv-loop text-length-μ-loop
-text-length-mul-if2 t c = search needs
+text-length-kind-of-requires : (t : ℕ) → text-length-lts.Need-kind-of-requires (cites t) (text-length-at t) text-length.Post text-length-Inv-loop text-length-μ-loop
+text-length-kind-of-requires t c κs =
+    let s = c .before .before .before .before .before .before .before .before in omega (arith, s .pre .1 .0 .readable .inRecords, s .pre .1 .1 .0)
 
-text-length-mul-if2-2 : (t : ℕ) → text-length-lts.Need-mul-if2-2 (
-  name-length-reads.Asked,
-  name-length-reads.Learnt,
-  head-length-reads.Asked,
-  head-length-reads.Learnt,
-  gap-length-reads.Asked,
-  gap-length-reads.Learnt,
-  text-length-below t,
-  text-length.Post,
-  add-reads.Asked,
-  add-reads.Learnt,
-) (text-length-at t) text-length.Post text-length-Inv-loop text-length-μ-loop
-text-length-mul-if2-2 t c = search needs
-
-text-length-shared-slice-read-if2 : (t : ℕ) → text-length-lts.Need-shared-slice-read-if2 (
-  name-length-reads.Asked,
-  name-length-reads.Learnt,
-  head-length-reads.Asked,
-  head-length-reads.Learnt,
-  gap-length-reads.Asked,
-  gap-length-reads.Learnt,
-  text-length-below t,
-  text-length.Post,
-  add-reads.Asked,
-  add-reads.Learnt,
-) (text-length-at t) text-length.Post text-length-Inv-loop text-length-μ-loop
-text-length-shared-slice-read-if2 t c = search needs
-
-text-length-returns-2 : (t : ℕ) → text-length-lts.Need-returns-2 (
-  name-length-reads.Asked,
-  name-length-reads.Learnt,
-  head-length-reads.Asked,
-  head-length-reads.Learnt,
-  gap-length-reads.Asked,
-  gap-length-reads.Learnt,
-  text-length-below t,
-  text-length.Post,
-  add-reads.Asked,
-  add-reads.Learnt,
-) (text-length-at t) text-length.Post text-length-Inv-loop text-length-μ-loop
+text-length-returns-2 : (t : ℕ) → text-length-lts.Need-returns-2 (cites t) (text-length-at t) text-length.Post text-length-Inv-loop text-length-μ-loop
 text-length-returns-2 t c =
     let s = c .before .before .before .before .before .before .before .before .before .before in
     c .before .before .head-length .ensures
     ∙ ap (λ (x : List ℕ). capped (length x))
-    (sym (by-leaf t s (c .before .before .before .if1 .left) (c .if2 .taken)))
+    (sym (by-leaf t s (c .before .before .before .if1 .left) (λ e. c .if2 .taken (c .before .kind-of .ensures ∙ e))))
 
-text-length-mul-gap-length : (t : ℕ) → text-length-lts.Need-mul-gap-length (
-  name-length-reads.Asked,
-  name-length-reads.Learnt,
-  head-length-reads.Asked,
-  head-length-reads.Learnt,
-  gap-length-reads.Asked,
-  gap-length-reads.Learnt,
-  text-length-below t,
-  text-length.Post,
-  add-reads.Asked,
-  add-reads.Learnt,
-) (text-length-at t) text-length.Post text-length-Inv-loop text-length-μ-loop
+text-length-mul-gap-length : (t : ℕ) → text-length-lts.Need-mul-gap-length (cites t) (text-length-at t) text-length.Post text-length-Inv-loop text-length-μ-loop
 text-length-mul-gap-length t c = search needs
 
 text-length-shared-slice-read-gap-length :
-    (t : ℕ) → text-length-lts.Need-shared-slice-read-gap-length (
-      name-length-reads.Asked,
-      name-length-reads.Learnt,
-      head-length-reads.Asked,
-      head-length-reads.Learnt,
-      gap-length-reads.Asked,
-      gap-length-reads.Learnt,
-      text-length-below t,
-      text-length.Post,
-      add-reads.Asked,
-      add-reads.Learnt,
-    ) (text-length-at t) text-length.Post text-length-Inv-loop text-length-μ-loop
+    (t : ℕ) → text-length-lts.Need-shared-slice-read-gap-length (cites t) (text-length-at t) text-length.Post text-length-Inv-loop text-length-μ-loop
 text-length-shared-slice-read-gap-length t c = search needs
 
-text-length-add-gap-length : (t : ℕ) → text-length-lts.Need-add-gap-length (
-  name-length-reads.Asked,
-  name-length-reads.Learnt,
-  head-length-reads.Asked,
-  head-length-reads.Learnt,
-  gap-length-reads.Asked,
-  gap-length-reads.Learnt,
-  text-length-below t,
-  text-length.Post,
-  add-reads.Asked,
-  add-reads.Learnt,
-) (text-length-at t) text-length.Post text-length-Inv-loop text-length-μ-loop
+text-length-add-gap-length : (t : ℕ) → text-length-lts.Need-add-gap-length (cites t) (text-length-at t) text-length.Post text-length-Inv-loop text-length-μ-loop
 text-length-add-gap-length t c =
     let s = c .before .before .before .before .before .before .before .before .before .before .before in
     omega (arith, s .pre .1 .0 .wideLow (s .args .t) (s .pre .1 .1 .0), s .pre .1 .1 .1)
 
-text-length-add-gap-length-2 : (t : ℕ) → text-length-lts.Need-add-gap-length-2 (
-  name-length-reads.Asked,
-  name-length-reads.Learnt,
-  head-length-reads.Asked,
-  head-length-reads.Learnt,
-  gap-length-reads.Asked,
-  gap-length-reads.Learnt,
-  text-length-below t,
-  text-length.Post,
-  add-reads.Asked,
-  add-reads.Learnt,
-) (text-length-at t) text-length.Post text-length-Inv-loop text-length-μ-loop
+text-length-add-gap-length-2 : (t : ℕ) → text-length-lts.Need-add-gap-length-2 (cites t) (text-length-at t) text-length.Post text-length-Inv-loop text-length-μ-loop
 text-length-add-gap-length-2 t c =
     let s = c .before .before .before .before .before .before .before .before .before .before .before in
     omega (arith, s .pre .1 .1 .1)
 
-text-length-add-gap-length-3 : (t : ℕ) → text-length-lts.Need-add-gap-length-3 (
-  name-length-reads.Asked,
-  name-length-reads.Learnt,
-  head-length-reads.Asked,
-  head-length-reads.Learnt,
-  gap-length-reads.Asked,
-  gap-length-reads.Learnt,
-  text-length-below t,
-  text-length.Post,
-  add-reads.Asked,
-  add-reads.Learnt,
-) (text-length-at t) text-length.Post text-length-Inv-loop text-length-μ-loop
+text-length-add-gap-length-3 : (t : ℕ) → text-length-lts.Need-add-gap-length-3 (cites t) (text-length-at t) text-length.Post text-length-Inv-loop text-length-μ-loop
 text-length-add-gap-length-3 t c =
     let s = c .before .before .before .before .before .before .before .before .before .before .before in
     omega (arith, s .pre .1 .1 .1)
 
-text-length-gap-length-requires : (t : ℕ) → text-length-lts.Need-gap-length-requires (
-  name-length-reads.Asked,
-  name-length-reads.Learnt,
-  head-length-reads.Asked,
-  head-length-reads.Learnt,
-  gap-length-reads.Asked,
-  gap-length-reads.Learnt,
-  text-length-below t,
-  text-length.Post,
-  add-reads.Asked,
-  add-reads.Learnt,
-) (text-length-at t) text-length.Post text-length-Inv-loop text-length-μ-loop
+text-length-gap-length-requires : (t : ℕ) → text-length-lts.Need-gap-length-requires (cites t) (text-length-at t) text-length.Post text-length-Inv-loop text-length-μ-loop
 text-length-gap-length-requires t c κs =
     let s = c .before .before .before .before .before .before .before .before .before .before .before in
     omega (arith, s .pre .1 .1 .1)
 
-text-length-mul-a : (t : ℕ) → text-length-lts.Need-mul-a (
-  name-length-reads.Asked,
-  name-length-reads.Learnt,
-  head-length-reads.Asked,
-  head-length-reads.Learnt,
-  gap-length-reads.Asked,
-  gap-length-reads.Learnt,
-  text-length-below t,
-  text-length.Post,
-  add-reads.Asked,
-  add-reads.Learnt,
-) (text-length-at t) text-length.Post text-length-Inv-loop text-length-μ-loop
-text-length-mul-a t c = search needs
-
-text-length-add-a : (t : ℕ) → text-length-lts.Need-add-a (
-  name-length-reads.Asked,
-  name-length-reads.Learnt,
-  head-length-reads.Asked,
-  head-length-reads.Learnt,
-  gap-length-reads.Asked,
-  gap-length-reads.Learnt,
-  text-length-below t,
-  text-length.Post,
-  add-reads.Asked,
-  add-reads.Learnt,
-) (text-length-at t) text-length.Post text-length-Inv-loop text-length-μ-loop
-text-length-add-a t c = search needs
-
-text-length-mul-e : (t : ℕ) → text-length-lts.Need-mul-e (
-  name-length-reads.Asked,
-  name-length-reads.Learnt,
-  head-length-reads.Asked,
-  head-length-reads.Learnt,
-  gap-length-reads.Asked,
-  gap-length-reads.Learnt,
-  text-length-below t,
-  text-length.Post,
-  add-reads.Asked,
-  add-reads.Learnt,
-) (text-length-at t) text-length.Post text-length-Inv-loop text-length-μ-loop
-text-length-mul-e t c = search needs
-
-text-length-add-e : (t : ℕ) → text-length-lts.Need-add-e (
-  name-length-reads.Asked,
-  name-length-reads.Learnt,
-  head-length-reads.Asked,
-  head-length-reads.Learnt,
-  gap-length-reads.Asked,
-  gap-length-reads.Learnt,
-  text-length-below t,
-  text-length.Post,
-  add-reads.Asked,
-  add-reads.Learnt,
-) (text-length-at t) text-length.Post text-length-Inv-loop text-length-μ-loop
-text-length-add-e t c = search needs
-
-text-length-mul-e-2 : (t : ℕ) → text-length-lts.Need-mul-e-2 (
-  name-length-reads.Asked,
-  name-length-reads.Learnt,
-  head-length-reads.Asked,
-  head-length-reads.Learnt,
-  gap-length-reads.Asked,
-  gap-length-reads.Learnt,
-  text-length-below t,
-  text-length.Post,
-  add-reads.Asked,
-  add-reads.Learnt,
-) (text-length-at t) text-length.Post text-length-Inv-loop text-length-μ-loop
-text-length-mul-e-2 t c = search needs
-
-text-length-shared-slice-read-e : (t : ℕ) → text-length-lts.Need-shared-slice-read-e (
-  name-length-reads.Asked,
-  name-length-reads.Learnt,
-  head-length-reads.Asked,
-  head-length-reads.Learnt,
-  gap-length-reads.Asked,
-  gap-length-reads.Learnt,
-  text-length-below t,
-  text-length.Post,
-  add-reads.Asked,
-  add-reads.Learnt,
-) (text-length-at t) text-length.Post text-length-Inv-loop text-length-μ-loop
-text-length-shared-slice-read-e t c = search needs
-
-text-length-add-e-2 : (t : ℕ) → text-length-lts.Need-add-e-2 (
-  name-length-reads.Asked,
-  name-length-reads.Learnt,
-  head-length-reads.Asked,
-  head-length-reads.Learnt,
-  gap-length-reads.Asked,
-  gap-length-reads.Learnt,
-  text-length-below t,
-  text-length.Post,
-  add-reads.Asked,
-  add-reads.Learnt,
-) (text-length-at t) text-length.Post text-length-Inv-loop text-length-μ-loop
-text-length-add-e-2 t c =
-    let s =
-    c .before .before .before .before .before .before .before .before .before .before .before .before .before in
-    omega
-    (arith, s .pre .1 .0 .readable .arity (s .args .t) (s .pre .1 .1 .0), s .pre .1 .0 .readable .few, s .pre .1 .1 .0)
-
-text-length-mul-ks : (t : ℕ) → text-length-lts.Need-mul-ks (
-  name-length-reads.Asked,
-  name-length-reads.Learnt,
-  head-length-reads.Asked,
-  head-length-reads.Learnt,
-  gap-length-reads.Asked,
-  gap-length-reads.Learnt,
-  text-length-below t,
-  text-length.Post,
-  add-reads.Asked,
-  add-reads.Learnt,
-) (text-length-at t) text-length.Post text-length-Inv-loop text-length-μ-loop
-text-length-mul-ks t c = search needs
-
-text-length-sub-ks : (t : ℕ) → text-length-lts.Need-sub-ks (
-  name-length-reads.Asked,
-  name-length-reads.Learnt,
-  head-length-reads.Asked,
-  head-length-reads.Learnt,
-  gap-length-reads.Asked,
-  gap-length-reads.Learnt,
-  text-length-below t,
-  text-length.Post,
-  add-reads.Asked,
-  add-reads.Learnt,
-) (text-length-at t) text-length.Post text-length-Inv-loop text-length-μ-loop
-text-length-sub-ks t c = search needs
-
-text-length-part-ks-start : (t : ℕ) → text-length-lts.Need-part-ks-start (
-  name-length-reads.Asked,
-  name-length-reads.Learnt,
-  head-length-reads.Asked,
-  head-length-reads.Learnt,
-  gap-length-reads.Asked,
-  gap-length-reads.Learnt,
-  text-length-below t,
-  text-length.Post,
-  add-reads.Asked,
-  add-reads.Learnt,
-) (text-length-at t) text-length.Post text-length-Inv-loop text-length-μ-loop
-text-length-part-ks-start t c = search needs
-
-text-length-part-ks-end : (t : ℕ) → text-length-lts.Need-part-ks-end (
-  name-length-reads.Asked,
-  name-length-reads.Learnt,
-  head-length-reads.Asked,
-  head-length-reads.Learnt,
-  gap-length-reads.Asked,
-  gap-length-reads.Learnt,
-  text-length-below t,
-  text-length.Post,
-  add-reads.Asked,
-  add-reads.Learnt,
-) (text-length-at t) text-length.Post text-length-Inv-loop text-length-μ-loop
-text-length-part-ks-end t c =
-    let s =
-    c .before .before .before .before .before .before .before .before .before .before .before .before .before in
-    omega (
-      arith,
+text-length-children-of-requires : (t : ℕ) → text-length-lts.Need-children-of-requires (cites t) (text-length-at t) text-length.Post text-length-Inv-loop text-length-μ-loop
+text-length-children-of-requires t c κs =
+    let s = c .before .before .before .before .before .before .before .before .before .before .before .before in (
+      omega (arith, s .pre .1 .0 .readable .inRecords, s .pre .1 .1 .0),
       s .pre .1 .0 .readable .arity (s .args .t) (s .pre .1 .1 .0),
-      s .pre .1 .0 .readable .inRecords,
-      s .pre .1 .1 .0,
     )
 
-text-length-loop-holds : (t : ℕ) → text-length-lts.Need-loop-holds (
-  name-length-reads.Asked,
-  name-length-reads.Learnt,
-  head-length-reads.Asked,
-  head-length-reads.Learnt,
-  gap-length-reads.Asked,
-  gap-length-reads.Learnt,
-  text-length-below t,
-  text-length.Post,
-  add-reads.Asked,
-  add-reads.Learnt,
-) (text-length-at t) text-length.Post text-length-Inv-loop text-length-μ-loop
+text-length-loop-holds : (t : ℕ) → text-length-lts.Need-loop-holds (cites t) (text-length-at t) text-length.Post text-length-Inv-loop text-length-μ-loop
 text-length-loop-holds t c =
     let s =
-    c .before .before .before .before .before .before .before .before .before .before .before
-    .before .before .before in
-    measuring-none (head t s) (gap t s) (child t s) (kids t s)
-    (c .before .before .before .before .before .before .head-length .result)
-    (c .before .before .before .before .before .before .head-length .ensures)
+    c .before .before .before .before .before .before .before .before .before .before .before .before .before in (
+      c .children-of .ensures,
+      measuring-none (head t s) (gap t s) (child t s) (kids t s)
+          (c .before .before .before .before .before .head-length .result)
+          (c .before .before .before .before .before .head-length .ensures),
+    )
 
-text-length-mul-k : (t : ℕ) → text-length-lts.Need-mul-k (
-  name-length-reads.Asked,
-  name-length-reads.Learnt,
-  head-length-reads.Asked,
-  head-length-reads.Learnt,
-  gap-length-reads.Asked,
-  gap-length-reads.Learnt,
-  text-length-below t,
-  text-length.Post,
-  add-reads.Asked,
-  add-reads.Learnt,
-) (text-length-at t) text-length.Post text-length-Inv-loop text-length-μ-loop
+text-length-mul-k : (t : ℕ) → text-length-lts.Need-mul-k (cites t) (text-length-at t) text-length.Post text-length-Inv-loop text-length-μ-loop
 text-length-mul-k t c =
     omega (
       arith,
       few t
-          (c .before .before .before .before .before .before .before .before .before .before .before
-          .before .before .before
-          .before .before),
+          (c .before .before .before .before .before .before .before .before .before .before .before .before .before .before .before),
       c .loop-test .taken,
+      ap length (c .before .loop .inv .0),
     )
 
-text-length-shared-slice-read-k : (t : ℕ) → text-length-lts.Need-shared-slice-read-k (
-  name-length-reads.Asked,
-  name-length-reads.Learnt,
-  head-length-reads.Asked,
-  head-length-reads.Learnt,
-  gap-length-reads.Asked,
-  gap-length-reads.Learnt,
-  text-length-below t,
-  text-length.Post,
-  add-reads.Asked,
-  add-reads.Learnt,
-) (text-length-at t) text-length.Post text-length-Inv-loop text-length-μ-loop
+text-length-shared-slice-read-k : (t : ℕ) → text-length-lts.Need-shared-slice-read-k (cites t) (text-length-at t) text-length.Post text-length-Inv-loop text-length-μ-loop
 text-length-shared-slice-read-k t c = search needs
 
-text-length-add-text-length : (t : ℕ) → text-length-lts.Need-add-text-length (
-  name-length-reads.Asked,
-  name-length-reads.Learnt,
-  head-length-reads.Asked,
-  head-length-reads.Learnt,
-  gap-length-reads.Asked,
-  gap-length-reads.Learnt,
-  text-length-below t,
-  text-length.Post,
-  add-reads.Asked,
-  add-reads.Learnt,
-) (text-length-at t) text-length.Post text-length-Inv-loop text-length-μ-loop
+text-length-add-text-length : (t : ℕ) → text-length-lts.Need-add-text-length (cites t) (text-length-at t) text-length.Post text-length-Inv-loop text-length-μ-loop
 text-length-add-text-length t c =
     let s =
-    c .before .before .before .before .before .before .before .before .before .before .before .before .before .before
-    .before .before .before in omega (arith, s .pre .1 .1 .1)
+    c .before .before .before .before .before .before .before .before .before .before .before .before .before .before .before .before in omega (arith, s .pre .1 .1 .1)
 
-text-length-text-length-requires : (t : ℕ) → text-length-lts.Need-text-length-requires (
-  name-length-reads.Asked,
-  name-length-reads.Learnt,
-  head-length-reads.Asked,
-  head-length-reads.Learnt,
-  gap-length-reads.Asked,
-  gap-length-reads.Learnt,
-  text-length-below t,
-  text-length.Post,
-  add-reads.Asked,
-  add-reads.Learnt,
-) (text-length-at t) text-length.Post text-length-Inv-loop text-length-μ-loop
+text-length-text-length-requires : (t : ℕ) → text-length-lts.Need-text-length-requires (cites t) (text-length-at t) text-length.Post text-length-Inv-loop text-length-μ-loop
 text-length-text-length-requires t c κs =
     let s =
-    c .before .before .before .before .before .before .before .before .before .before .before .before .before
-    .before .before .before .before in
+    c .before .before .before .before .before .before .before .before .before .before .before .before .before .before .before .before in
     let k : getD (kids t s) (c .before .before .loop .j) 0 < s .args .t =
     s .pre .1 .0 .readable .lower (s .args .t) (s .pre .1 .1 .0) (c .before .before .loop .j)
-    (c .before .loop-test .taken) in (
+    (omega (arith, c .before .loop-test .taken, ap length (c .before .before .loop .inv .0))) in
+    rw (c .before .before .loop .inv .0) (
       omega (arith, k, s .pre .0),
       (s .pre .1 .0, (omega (arith, k, s .pre .1 .1 .0), omega (arith, k, s .pre .1 .1 .1))),
     )
 
-text-length-add-requires : (t : ℕ) → text-length-lts.Need-add-requires (
-  name-length-reads.Asked,
-  name-length-reads.Learnt,
-  head-length-reads.Asked,
-  head-length-reads.Learnt,
-  gap-length-reads.Asked,
-  gap-length-reads.Learnt,
-  text-length-below t,
-  text-length.Post,
-  add-reads.Asked,
-  add-reads.Learnt,
-) (text-length-at t) text-length.Post text-length-Inv-loop text-length-μ-loop
-text-length-add-requires t c κs = omega (arith, c .before .before .before .loop .inv .same)
+text-length-add-requires : (t : ℕ) → text-length-lts.Need-add-requires (cites t) (text-length-at t) text-length.Post text-length-Inv-loop text-length-μ-loop
+text-length-add-requires t c κs = omega (arith, c .before .before .before .loop .inv .1 .same)
 
-text-length-add-requires-2 : (t : ℕ) → text-length-lts.Need-add-requires-2 (
-  name-length-reads.Asked,
-  name-length-reads.Learnt,
-  head-length-reads.Asked,
-  head-length-reads.Learnt,
-  gap-length-reads.Asked,
-  gap-length-reads.Learnt,
-  text-length-below t,
-  text-length.Post,
-  add-reads.Asked,
-  add-reads.Learnt,
-) (text-length-at t) text-length.Post text-length-Inv-loop text-length-μ-loop
+text-length-add-requires-2 : (t : ℕ) → text-length-lts.Need-add-requires-2 (cites t) (text-length-at t) text-length.Post text-length-Inv-loop text-length-μ-loop
 text-length-add-requires-2 t c κs = omega (arith, c .add .ensures)
 
-text-length-add-j : (t : ℕ) → text-length-lts.Need-add-j (
-  name-length-reads.Asked,
-  name-length-reads.Learnt,
-  head-length-reads.Asked,
-  head-length-reads.Learnt,
-  gap-length-reads.Asked,
-  gap-length-reads.Learnt,
-  text-length-below t,
-  text-length.Post,
-  add-reads.Asked,
-  add-reads.Learnt,
-) (text-length-at t) text-length.Post text-length-Inv-loop text-length-μ-loop
+text-length-add-j : (t : ℕ) → text-length-lts.Need-add-j (cites t) (text-length-at t) text-length.Post text-length-Inv-loop text-length-μ-loop
 text-length-add-j t c =
     omega (
       arith,
       few t
-          (c .before .before .before .before .before .before .before .before .before .before .before
-          .before .before .before
-          .before .before .before .before .before .before),
+          (c .before .before .before .before .before .before .before .before .before .before .before .before .before .before .before .before .before .before .before),
       c .before .before .before .before .loop-test .taken,
+      ap length (c .before .before .before .before .before .loop .inv .0),
     )
 
-text-length-loop-less : (t : ℕ) → text-length-lts.Need-loop-less (
-  name-length-reads.Asked,
-  name-length-reads.Learnt,
-  head-length-reads.Asked,
-  head-length-reads.Learnt,
-  gap-length-reads.Asked,
-  gap-length-reads.Learnt,
-  text-length-below t,
-  text-length.Post,
-  add-reads.Asked,
-  add-reads.Learnt,
-) (text-length-at t) text-length.Post text-length-Inv-loop text-length-μ-loop
+text-length-loop-less : (t : ℕ) → text-length-lts.Need-loop-less (cites t) (text-length-at t) text-length.Post text-length-Inv-loop text-length-μ-loop
 text-length-loop-less t c = search needs
 
-text-length-loop-again : (t : ℕ) → text-length-lts.Need-loop-again (
-  name-length-reads.Asked,
-  name-length-reads.Learnt,
-  head-length-reads.Asked,
-  head-length-reads.Learnt,
-  gap-length-reads.Asked,
-  gap-length-reads.Learnt,
-  text-length-below t,
-  text-length.Post,
-  add-reads.Asked,
-  add-reads.Learnt,
-) (text-length-at t) text-length.Post text-length-Inv-loop text-length-μ-loop
+text-length-loop-again : (t : ℕ) → text-length-lts.Need-loop-again (cites t) (text-length-at t) text-length.Post text-length-Inv-loop text-length-μ-loop
 text-length-loop-again t c =
     let s =
-    c .before .before .before .before .before .before .before .before .before .before .before .before .before
-    .before .before .before .before .before .before .before in
-    let l = c .before .before .before .before .before .loop in
-    measuring-again (head t s) (gap t s) (child t s) (kids t s) (l .acc) (l .j) (l .inv)
-    (c .before .before .before .before .loop-test .taken)
-    (c .before .before .before .before .before .before .before .before .gap-length .result) (c .before .add .result)
-    (c .before .before .text-length .result) (c .add2 .result)
-    (c .before .before .before .before .before .before .before .before .gap-length .ensures)
-    (c .before .add .ensures) (c .before .before .text-length .ensures) (c .add2 .ensures)
+    c .before .before .before .before .before .before .before .before .before .before .before .before .before .before .before .before .before .before .before in
+    let l = c .before .before .before .before .before .loop in (
+      l .inv .0,
+      measuring-again (head t s) (gap t s) (child t s) (kids t s) (l .acc) (l .j) (l .inv .1)
+          (omega (arith, c .before .before .before .before .loop-test .taken, ap length (c .before .before .before .before .before .loop .inv .0)))
+          (c .before .before .before .before .before .before .before .gap-length .result) (c .before .add .result)
+          (c .before .before .text-length .result) (c .add2 .result)
+          (c .before .before .before .before .before .before .before .gap-length .ensures)
+          (c .before .add .ensures) (rw (l .inv .0) at (c .before .before .text-length .ensures)) (c .add2 .ensures),
+    )
 
-text-length-add-requires-3 : (t : ℕ) → text-length-lts.Need-add-requires-3 (
-  name-length-reads.Asked,
-  name-length-reads.Learnt,
-  head-length-reads.Asked,
-  head-length-reads.Learnt,
-  gap-length-reads.Asked,
-  gap-length-reads.Learnt,
-  text-length-below t,
-  text-length.Post,
-  add-reads.Asked,
-  add-reads.Learnt,
-) (text-length-at t) text-length.Post text-length-Inv-loop text-length-μ-loop
-text-length-add-requires-3 t c κs = omega (arith, c .before .loop .inv .same)
+text-length-add-requires-3 : (t : ℕ) → text-length-lts.Need-add-requires-3 (cites t) (text-length-at t) text-length.Post text-length-Inv-loop text-length-μ-loop
+text-length-add-requires-3 t c κs = omega (arith, c .before .loop .inv .1 .same)
 
-text-length-returns-3 : (t : ℕ) → text-length-lts.Need-returns-3 (
-  name-length-reads.Asked,
-  name-length-reads.Learnt,
-  head-length-reads.Asked,
-  head-length-reads.Learnt,
-  gap-length-reads.Asked,
-  gap-length-reads.Learnt,
-  text-length-below t,
-  text-length.Post,
-  add-reads.Asked,
-  add-reads.Learnt,
-) (text-length-at t) text-length.Post text-length-Inv-loop text-length-μ-loop
+text-length-returns-3 : (t : ℕ) → text-length-lts.Need-returns-3 (cites t) (text-length-at t) text-length.Post text-length-Inv-loop text-length-μ-loop
 text-length-returns-3 t c =
     let s =
-    c .before .before .before .before .before .before .before .before .before .before .before .before .before
-    .before .before .before .before in
+    c .before .before .before .before .before .before .before .before .before .before .before .before .before .before .before .before in
     let l = c .before .before .loop in
-    measuring-end (head t s) (gap t s) (child t s) (kids t s) (l .acc) (l .j) (l .inv) (c .before .loop-test .left)
+    measuring-end (head t s) (gap t s) (child t s) (kids t s) (l .acc) (l .j) (l .inv .1) (omega (arith, c .before .loop-test .left, ap length (c .before .before .loop .inv .0)))
     (c .add3 .result) (c .add3 .ensures)
     ∙ ap (λ (x : List ℕ). capped (length x))
-    (sym (by-app t s (c .before .before .before .before .before .before .before .before .before .before .if1 .left)
-    (c .before .before .before .before .before .before .before .if2 .left)))
+    (sym (by-app t s (c .before .before .before .before .before .before .before .before .before .if1 .left)
+    (sym (c .before .before .before .before .before .before .before .kind-of .ensures) ∙ c .before .before .before .before .before .before .if2 .left)))
 
 pub +text-length-spec : {M : Type 1} → statement M
-+text-length-spec = close μ-text-length λ t. text-length-lts.spec (
-  name-length-reads.Asked,
-  name-length-reads.Learnt,
-  head-length-reads.Asked,
-  head-length-reads.Learnt,
-  gap-length-reads.Asked,
-  gap-length-reads.Learnt,
-  text-length-below t,
-  text-length.Post,
-  add-reads.Asked,
-  add-reads.Learnt,
-)
-    (text-length-at t)
-    text-length.Post
-    text-length-Inv-loop
-    text-length-μ-loop
++text-length-spec = close μ-text-length λ t. text-length-lts.spec (cites t) (text-length-at t) text-length.Post text-length-Inv-loop text-length-μ-loop
     (text-length-mul-b t)
     (text-length-shared-slice-read-b t)
     (text-length-sub-name-length t)
     (text-length-name-length-requires t)
     (text-length-returns t)
     (text-length-head-length-requires t)
-    (text-length-mul-if2 t)
-    (text-length-mul-if2-2 t)
-    (text-length-shared-slice-read-if2 t)
+    (text-length-kind-of-requires t)
     (text-length-returns-2 t)
     (text-length-mul-gap-length t)
     (text-length-shared-slice-read-gap-length t)
@@ -798,17 +318,7 @@ pub +text-length-spec : {M : Type 1} → statement M
     (text-length-add-gap-length-2 t)
     (text-length-add-gap-length-3 t)
     (text-length-gap-length-requires t)
-    (text-length-mul-a t)
-    (text-length-add-a t)
-    (text-length-mul-e t)
-    (text-length-add-e t)
-    (text-length-mul-e-2 t)
-    (text-length-shared-slice-read-e t)
-    (text-length-add-e-2 t)
-    (text-length-mul-ks t)
-    (text-length-sub-ks t)
-    (text-length-part-ks-start t)
-    (text-length-part-ks-end t)
+    (text-length-children-of-requires t)
     (text-length-loop-holds t)
     (text-length-mul-k t)
     (text-length-shared-slice-read-k t)

@@ -2,12 +2,14 @@
 use Prim.Native.Nat.{ℕ, _+_, _*_, _-_, _≤_, _<_}
 use mathlib.Core.Path.{_≡_, refl, sym, ap, _∙_}
 use mathlib.Core.List.{List, [], _∷_, _++_}
-use lib.ListN.{length, getD, drop, length-take}
+use lib.ListN.{length, getD}
 use Rattle.term_rules.specs.Nodes.{Node}
 use Rattle.text_rules.specs.Forms.{Called, each, form, childText, line}
 use Rattle.text_rules.proofs.FormLaws.{line-step, childText-is}
 use Rattle.text_pieces.specs.Pieces.{capped}
-use Rattle.text_pieces.specs.Readable.{nodes, kindAt, arityAt, kidsAt, headText}
+use Rattle.term_rules.specs.Lent.{kindAt, kidsAt}
+use Rattle.term_layout.proofs.KidsLaws.{kids-length}
+use Rattle.text_pieces.specs.Readable.{nodes, headText}
 use Rattle.text_write.proofs.PieceLaws.{lower-of-readable, form-of-leaf, form-of-applied}
 use Rattle.text_write.proofs.MeasuringLaws.{Measuring, measuring-none, measuring-again, measuring-end}
 use Rattle.text_write.specs.Widths.{calledBy}
@@ -17,14 +19,15 @@ use Rattle.text_write.proofs.widths.width.Statement.{statement}
 use Rattle.text_write.proofs.widths.width.Tie as tie
 
 abbrev Inv-loop : tie.InvT-loop
-Inv-loop records literals names places wides stem n start bare t acc₀ a e ks j₀ acc j =
-    Measuring (headText (nodes records literals names t)) (32 ∷ [])
+Inv-loop records literals names places wides stem n start bare t acc₀ ks j₀ acc j =
+    (ks ≡ kidsAt records t)
+    × Measuring (headText (nodes records literals names t)) (32 ∷ [])
     (childText (calledBy places stem start bare)
     (line (nodes records literals names) (calledBy places stem start bare)))
-    ks acc j
+    (kidsAt records t) acc j
 
 abbrev μ-loop : tie.MeasureT-loop
-μ-loop records literals names places wides stem n start bare t acc₀ a e ks j₀ acc j = length ks - j
+μ-loop records literals names places wides stem n start bare t acc₀ ks j₀ acc j = length ks - j
 
 abbrev Start : Type 0
 Start = tie.Start Inv-loop μ-loop
@@ -48,8 +51,7 @@ few : (s : Start) → length (kids s) ≤ 8
 few s =
     omega (
       arith,
-      length-take (s .args .t * 11 + 3 + arityAt (s .args .records .now) (s .args .t) - (s .args .t * 11 + 3))
-          (drop (s .args .t * 11 + 3) (s .args .records .now)),
+      kids-length (s .args .records .now) (s .args .t),
       s .pre .0 .readable .arity (s .args .t) (s .pre .1 .0),
     )
 
@@ -85,70 +87,38 @@ by-app s e =
 head-length-requires : tie.Need-head-length-requires Inv-loop μ-loop
 head-length-requires c κs = let s = c .before .before .before .before .before in (s .pre .0 .readable, s .pre .1 .0)
 
-mul-if1 : tie.Need-mul-if1 Inv-loop μ-loop
-mul-if1 c = search needs
-
-mul-if1-2 : tie.Need-mul-if1-2 Inv-loop μ-loop
-mul-if1-2 c = search needs
-
-shared-slice-read-if1 : tie.Need-shared-slice-read-if1 Inv-loop μ-loop
-shared-slice-read-if1 c = search needs
+kind-of-requires : tie.Need-kind-of-requires Inv-loop μ-loop
+kind-of-requires c κs =
+    let s = c .before .before .before .before .before .before in
+    omega (arith, s .pre .0 .readable .inRecords, s .pre .1 .0)
 
 returns : tie.Need-returns Inv-loop μ-loop
 returns c =
     let s = c .before .before .before .before .before .before .before .before in
-    c .before .before .head-length .ensures ∙ ap (λ (x : List ℕ). capped (length x)) (sym (by-leaf s (c .if1 .taken)))
+    c .before .before .head-length .ensures ∙ ap (λ (x : List ℕ). capped (length x)) (sym (by-leaf s (λ e. c .if1 .taken (c .before .kind-of .ensures ∙ e))))
 
-mul-a : tie.Need-mul-a Inv-loop μ-loop
-mul-a c = search needs
-
-add-a : tie.Need-add-a Inv-loop μ-loop
-add-a c = search needs
-
-mul-e : tie.Need-mul-e Inv-loop μ-loop
-mul-e c = search needs
-
-add-e : tie.Need-add-e Inv-loop μ-loop
-add-e c = search needs
-
-mul-e-2 : tie.Need-mul-e-2 Inv-loop μ-loop
-mul-e-2 c = search needs
-
-shared-slice-read-e : tie.Need-shared-slice-read-e Inv-loop μ-loop
-shared-slice-read-e c = search needs
-
-add-e-2 : tie.Need-add-e-2 Inv-loop μ-loop
-add-e-2 c =
-    let s = c .before .before .before .before .before .before .before .before .before in
-    omega (arith, s .pre .0 .readable .arity (s .args .t) (s .pre .1 .0), s .pre .0 .readable .few, s .pre .1 .0)
-
-mul-ks : tie.Need-mul-ks Inv-loop μ-loop
-mul-ks c = search needs
-
-sub-ks : tie.Need-sub-ks Inv-loop μ-loop
-sub-ks c = search needs
-
-part-ks-start : tie.Need-part-ks-start Inv-loop μ-loop
-part-ks-start c = search needs
-
-part-ks-end : tie.Need-part-ks-end Inv-loop μ-loop
-part-ks-end c =
-    let s = c .before .before .before .before .before .before .before .before .before in
-    omega
-    (arith, s .pre .0 .readable .arity (s .args .t) (s .pre .1 .0), s .pre .0 .readable .inRecords, s .pre .1 .0)
+children-of-requires : tie.Need-children-of-requires Inv-loop μ-loop
+children-of-requires c κs =
+    let s = c .before .before .before .before .before .before .before .before in (
+      omega (arith, s .pre .0 .readable .inRecords, s .pre .1 .0),
+      s .pre .0 .readable .arity (s .args .t) (s .pre .1 .0),
+    )
 
 loop-holds : tie.Need-loop-holds Inv-loop μ-loop
 loop-holds c =
-    let s = c .before .before .before .before .before .before .before .before .before .before in
-    measuring-none (head s) (32 ∷ []) (child s) (kids s) (c .before .before .before .before .head-length .result)
-    (c .before .before .before .before .head-length .ensures)
+    let s = c .before .before .before .before .before .before .before .before .before in (
+      c .children-of .ensures,
+      measuring-none (head s) (32 ∷ []) (child s) (kids s) (c .before .before .before .head-length .result)
+          (c .before .before .before .head-length .ensures),
+    )
 
 mul-shown-width : tie.Need-mul-shown-width Inv-loop μ-loop
 mul-shown-width c =
     omega (
       arith,
-      few (c .before .before .before .before .before .before .before .before .before .before .before .before),
+      few (c .before .before .before .before .before .before .before .before .before .before .before),
       c .loop-test .taken,
+      ap length (c .before .loop .inv .0),
     )
 
 shared-slice-read-shown-width : tie.Need-shared-slice-read-shown-width Inv-loop μ-loop
@@ -157,8 +127,9 @@ shared-slice-read-shown-width c = search needs
 shown-width-requires : tie.Need-shown-width-requires Inv-loop μ-loop
 shown-width-requires c κs =
     let s =
-    c .before .before .before .before .before .before .before .before .before .before .before .before .before in
-    let k = below s (c .before .before .loop .j) (c .before .loop-test .taken) in (
+    c .before .before .before .before .before .before .before .before .before .before .before .before in
+    let k = below s (c .before .before .loop .j) (omega (arith, c .before .loop-test .taken, ap length (c .before .before .loop .inv .0))) in
+    rw (c .before .before .loop .inv .0) (
       omega (arith, k, s .pre .1 .0, s .pre .0 .inPlaces),
       (
         omega (arith, k, s .pre .1 .0, s .pre .0 .inWides),
@@ -167,7 +138,7 @@ shown-width-requires c κs =
     )
 
 add-requires : tie.Need-add-requires Inv-loop μ-loop
-add-requires c κs = omega (arith, c .before .before .before .loop .inv .same)
+add-requires c κs = omega (arith, c .before .before .before .loop .inv .1 .same)
 
 add-requires-2 : tie.Need-add-requires-2 Inv-loop μ-loop
 add-requires-2 c κs = omega (arith, c .add .ensures)
@@ -177,10 +148,9 @@ add-j c =
     omega (
       arith,
       few
-          (c .before .before .before .before .before .before .before .before .before .before .before
-          .before .before .before
-          .before .before),
+          (c .before .before .before .before .before .before .before .before .before .before .before .before .before .before .before),
       c .before .before .before .before .loop-test .taken,
+      ap length (c .before .before .before .before .before .loop .inv .0),
     )
 
 loop-less : tie.Need-loop-less Inv-loop μ-loop
@@ -189,30 +159,32 @@ loop-less c = search needs
 loop-again : tie.Need-loop-again Inv-loop μ-loop
 loop-again c =
     let s =
-    c .before .before .before .before .before .before .before .before .before .before .before .before .before
-    .before .before .before in
+    c .before .before .before .before .before .before .before .before .before .before .before .before .before .before .before in
     let l = c .before .before .before .before .before .loop in
-    let k = below s (l .j) (c .before .before .before .before .loop-test .taken) in
-    measuring-again (head s) (32 ∷ []) (child s) (kids s) (l .acc) (l .j) (l .inv)
-    (c .before .before .before .before .loop-test .taken) 1 (c .before .add .result)
-    (c .before .before .shown-width .result) _ refl (c .before .add .ensures)
-    (c .before .before .shown-width .ensures .right (line (node s) (called s) (getD (kids s) (l .j) 0))
-    (s .pre .1 .1 (getD (kids s) (l .j) 0) k)
-    ∙ ap (λ (x : List ℕ). capped (length x))
-    (sym (childText-is (called s) (line (node s) (called s)) (getD (kids s) (l .j) 0))))
-    (c .add2 .ensures)
+    let k = below s (l .j) (omega (arith, c .before .before .before .before .loop-test .taken, ap length (c .before .before .before .before .before .loop .inv .0))) in
+    let w = rw (l .inv .0) at (c .before .before .shown-width .ensures) in (
+      l .inv .0,
+      measuring-again (head s) (32 ∷ []) (child s) (kids s) (l .acc) (l .j) (l .inv .1)
+          (omega (arith, c .before .before .before .before .loop-test .taken, ap length (c .before .before .before .before .before .loop .inv .0))) 1 (c .before .add .result)
+          (c .before .before .shown-width .result) _ refl (c .before .add .ensures)
+          (w .right (line (node s) (called s) (getD (kids s) (l .j) 0))
+          (s .pre .1 .1 (getD (kids s) (l .j) 0) k)
+          ∙ ap (λ (x : List ℕ). capped (length x))
+          (sym (childText-is (called s) (line (node s) (called s)) (getD (kids s) (l .j) 0))))
+          (c .add2 .ensures),
+    )
 
 add-requires-3 : tie.Need-add-requires-3 Inv-loop μ-loop
-add-requires-3 c κs = omega (arith, c .before .loop .inv .same)
+add-requires-3 c κs = omega (arith, c .before .loop .inv .1 .same)
 
 returns-2 : tie.Need-returns-2 Inv-loop μ-loop
 returns-2 c =
     let s =
-    c .before .before .before .before .before .before .before .before .before .before .before .before .before in
+    c .before .before .before .before .before .before .before .before .before .before .before .before in
     let l = c .before .before .loop in
-    measuring-end (head s) (32 ∷ []) (child s) (kids s) (l .acc) (l .j) (l .inv)
-    (c .before .loop-test .left) _ (c .add3 .ensures)
-    ∙ ap (λ (x : List ℕ). capped (length x)) (sym (by-app s (c .before .before .before .before .before .if1 .left)))
+    measuring-end (head s) (32 ∷ []) (child s) (kids s) (l .acc) (l .j) (l .inv .1)
+    (omega (arith, c .before .loop-test .left, ap length (c .before .before .loop .inv .0))) _ (c .add3 .ensures)
+    ∙ ap (λ (x : List ℕ). capped (length x)) (sym (by-app s (sym (c .before .before .before .before .before .kind-of .ensures) ∙ c .before .before .before .before .if1 .left)))
 
 pub width-spec : {M : Type 1} → statement M
 width-spec =
@@ -221,21 +193,9 @@ width-spec =
     Inv-loop
     μ-loop
     head-length-requires
-    mul-if1
-    mul-if1-2
-    shared-slice-read-if1
+    kind-of-requires
     returns
-    mul-a
-    add-a
-    mul-e
-    add-e
-    mul-e-2
-    shared-slice-read-e
-    add-e-2
-    mul-ks
-    sub-ks
-    part-ks-start
-    part-ks-end
+    children-of-requires
     loop-holds
     mul-shown-width
     shared-slice-read-shown-width

@@ -1,29 +1,29 @@
--- `term_record::put_record` meets its contract. The eleven numbers are written one by one. Assumes nothing.
+-- `term_layout::put_record` meets its contract. Its numbers are written one by one. Assumes nothing.
 use lib.ListN.{length, length-set}
 use mir.Syntax.{w64}
 use mir.ValLaws.{toZ-ofZ}
 use native.Mathlib.Numerals.{add-one}
-use Rattle.term_record.proofs.RecordLaws.{numbers-length}
+use Rattle.term_layout.proofs.NumberLaws.{numbers-length}
 use lib.IntN.{pos}
 use Prim.Native.Nat.{_≤_, _-_, _+_, _*_}
 use mathlib.Core.Path.{_≡_, refl, _∙_}
 use lib.Seq.{paste, paste-zero, paste-suc}
-use Rattle.term_rules.specs.Lent.{numbers}
-use Rattle.term_record.specs.Flat.{filled}
+use Rattle.term_rules.specs.Lent.{width, numbers}
+use Rattle.term_layout.specs.Padded.{padded}
 use borrow.Author.Needs.{needs}
 use native.Mathlib.Omega.{arith}
-use Rattle.term_record.proofs.put_record.Statement.{statement}
-use Rattle.term_record.proofs.put_record.Tie as tie
+use Rattle.term_layout.proofs.put_record.Statement.{statement}
+use Rattle.term_layout.proofs.put_record.Tie as tie
 
 abbrev Inv-loop : tie.InvT-loop
-Inv-loop records₀ literals i kind symbol literal children at j₀ records j =
-    (at ≡ i * 11)
-    × ((j ≤ 11)
-    × ((records ≡ paste records₀ (i * 11) (numbers (filled kind symbol (pos 0) children)) j)
+Inv-loop records₀ literals i kind symbol count literal children at j₀ records j =
+    (at ≡ i * width)
+    × ((j ≤ width)
+    × ((records ≡ paste records₀ (i * width) (numbers (padded kind symbol count (pos 0) children)) j)
     × (length records ≡ length records₀)))
 
 abbrev μ-loop : tie.MeasureT-loop
-μ-loop records₀ literals i kind symbol literal children at j₀ records j = 11 - j
+μ-loop records₀ literals i kind symbol count literal children at j₀ records j = width - j
 
 mul-literal : tie.Need-mul-literal Inv-loop μ-loop
 mul-literal c = search needs
@@ -41,8 +41,8 @@ loop-holds c =
       (
         omega arith,
         (
-          paste-zero (g .records .now) (g .i * 11)
-              (numbers (filled (g .kind) (g .symbol) (pos 0) (g .children .now))),
+          paste-zero (g .records .now) (g .i * width)
+              (numbers (padded (g .kind) (g .symbol) (g .count) (pos 0) (g .children .now))),
           refl,
         ),
       ),
@@ -71,16 +71,16 @@ loop-again c =
     let g = c .before .before .before .before .before .args in
     let l = c .before .before .loop in
     let pre = c .before .before .before .before .before .pre in
-    let e = numbers-length (g .kind) (g .symbol) (pos 0) (g .children .now) (pre .1) in
-    let n = numbers (filled (g .kind) (g .symbol) (pos 0) (g .children .now)) in (
+    let e = numbers-length (g .kind) (g .symbol) (g .count) (pos 0) (g .children .now) (pre .1) in
+    let n = numbers (padded (g .kind) (g .symbol) (g .count) (pos 0) (g .children .now)) in (
       refl,
       (
         omega arith,
         (
           rw (l .inv .1 .1 .0, c .number-at .ensures)
-              (rw add-one (paste-suc (g .records .now) (g .i * 11) n (l .j) 0 (omega (arith, pre .0 .numbers))
+              (rw add-one (paste-suc (g .records .now) (g .i * width) n (l .j) 0 (omega (arith, pre .0 .numbers))
               (omega (arith, e)))),
-          length-set (l .records) (g .i * 11 + l .j) (c .number-at .result) ∙ l .inv .1 .1 .1,
+          length-set (l .records) (g .i * width + l .j) (c .number-at .result) ∙ l .inv .1 .1 .1,
         ),
       ),
     )
@@ -95,7 +95,7 @@ returns : tie.Need-returns Inv-loop μ-loop
 returns c =
     let g = c .before .before .before .before .args in
     let l = c .before .loop in
-    let e : l .j ≡ 11 = omega arith in
+    let e : l .j ≡ width = omega arith in
     (rw e at (l .inv .1 .1 .0), rw (toZ-ofZ w64 (g .literal) (c .before .before .before .before .fits .literal)))
 
 pub put-record-spec : {M : Type 1} → statement M

@@ -1,10 +1,21 @@
--- Laws on a list into which another was pasted: what stood before it, and what stands there now. Assumes nothing.
-use Prim.Native.Nat.{ℕ, zero, suc, _+_, _≤_, _<_}
+-- Laws on a list into which another was pasted: what stood before it, what stands there now, and what stands past it.
+-- Assumes nothing.
+use Prim.Native.Nat.{ℕ, zero, suc, _+_, _-_, _≤_, _<_}
 use mathlib.Core.Path.{_≡_, refl, sym, ap, _∙_}
 use mathlib.Core.List.{List, _++_, append-assoc}
 use native.Mathlib.Omega.{arith}
 use lib.ListN.{length, getD, take, drop, replicate, length-drop, length-append, take-append-drop, List·getD-append}
-use lib.Seq.{paste, length-take-le, take-append-le, drop-append-le, drop-at, drop-drop, getD-take, getD-append-add}
+use lib.Seq.{
+  paste,
+  drop-paste,
+  length-take-le,
+  take-append-le,
+  drop-append-le,
+  drop-at,
+  drop-drop,
+  getD-take,
+  getD-append-add,
+}
 
 module _ {A : Type 0} where
   -- a part of the first of two lists
@@ -54,6 +65,17 @@ module _ {A : Type 0} where
         ∙ ap (λ (j : ℕ). getD (take from d ++ take k v) (j + i) z) (sym n)
         ∙ getD-append-add (take from d) (take k v) i z
         ∙ getD-take k v i z l
+
+    -- what stands past what was pasted
+    pub drop-paste-past : (n : ℕ) → from + k ≤ n → drop n (paste d from v k) ≡ drop n d
+    drop-paste-past n l =
+        let m : ℕ = n - (from + k) in
+        let e : n ≡ from + k + m = omega arith in
+        ap (λ (i : ℕ). drop i (paste d from v k)) e
+        ∙ sym (drop-drop m (from + k) (paste d from v k))
+        ∙ ap (drop m) (drop-paste d from v k h b)
+        ∙ drop-drop m (from + k) d
+        ∙ ap (λ (i : ℕ). drop i d) (sym e)
 
 pub getD-zeros : (n i : ℕ) → _≡_ {A = ℕ} (getD (replicate n 0) i 0) 0
 getD-zeros zero i = refl

@@ -1,0 +1,2 @@
+-- The definitions of the crate `term_layout`.
+pub mod Padded
