@@ -131,7 +131,7 @@ lent-left A storeOf seen ts ts′ ns ns′ f g n m model l a back =
       held =
           (λ i. lentStore (records i) (b .entries i) (storeOf wanted .terms) (storeOf wanted .symbols))
           ∙ lentStore-after ts ns (storeOf wanted) (storeOf wanted .terms) (storeOf wanted .symbols)
-          (b .long ∙ ap (λ (k : ℕ). k * 11) (l .room)) (b .wide ∙ l .room) (b .named);
+          (b .long ∙ ap (λ (k : ℕ). recordsLength k) (l .room)) (b .wide ∙ l .room) (b .named);
       unchanged = λ e. (
         records ∙ ap (recordsAfter ts) e ∙ recordsAfter-same ts ns n m (l .eight),
         b .kept (ap (λ (s : Store). s .names) e),

@@ -44,7 +44,7 @@ pub record Worked (A : Type 0) (storeOf : A → Store) (f : Flat) (ns : List (Li
   pub literals : take (g .room) (g .literals) ≡ storeOf wanted .literals
   pub entries : ns′ ≡ entriesAfter ns (storeOf wanted .names)
   pub kept : storeOf wanted .names ≡ entriesOf (take 128 ns) → ns′ ≡ ns
-  pub long : length (storeOf wanted .records) ≡ f .room * 11
+  pub long : length (storeOf wanted .records) ≡ recordsLength (f .room)
   pub wide : length (storeOf wanted .literals) ≡ f .room
   pub named : length (storeOf wanted .names) ≡ min 128 (length ns) * 32
 

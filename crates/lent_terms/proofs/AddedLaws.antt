@@ -138,7 +138,7 @@ lent-added ts ts′ ns ns′ f n m model r l a back =
       held =
           (λ i. lentStore (records i) (b .entries i) (wanted .1 .terms) (wanted .1 .symbols))
           ∙ lentStore-after ts ns (wanted .1) (wanted .1 .terms) (wanted .1 .symbols)
-          (b .long ∙ ap (λ (k : ℕ). k * 11) (l .room)) (b .wide ∙ l .room) (b .named);
+          (b .long ∙ ap (λ (k : ℕ). recordsLength k) (l .room)) (b .wide ∙ l .room) (b .named);
       unchanged = λ e. (
         records ∙ ap (recordsAfter ts) e ∙ recordsAfter-same ts ns n m (l .eight),
         b .kept (ap (λ (s : Store). s .names) e),

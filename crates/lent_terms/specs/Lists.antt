@@ -32,6 +32,6 @@ pub record AddedIn (f : Flat) (ns : List (List ℕ)) (n m : ℕ) (wanted : Answe
   pub literals : take (r .flat .room) (r .flat .literals) ≡ wanted .1 .literals
   pub entries : ns′ ≡ entriesAfter ns (wanted .1 .names)
   pub kept : wanted .1 .names ≡ entriesOf (take 128 ns) → ns′ ≡ ns
-  pub long : length (wanted .1 .records) ≡ f .room * 11
+  pub long : length (wanted .1 .records) ≡ recordsLength (f .room)
   pub wide : length (wanted .1 .literals) ≡ f .room
   pub named : length (wanted .1 .names) ≡ min 128 (length ns) * 32

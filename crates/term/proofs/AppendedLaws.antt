@@ -15,7 +15,7 @@ use Rattle.name.specs.Entries.{nameAt, entry, putName}
 use Rattle.name.specs.declared.Found.the-variants.{At, Missing}
 use Rattle.name.proofs.EntryLaws.{entry-length}
 use Rattle.term_rules.specs.declared.Term.{Term}
-use Rattle.term_rules.specs.Lent.{Store, store, numbers, symbolAt, termRoom, symbolRoom}
+use Rattle.term_rules.specs.Lent.{Store, store, width, recordsLength, numbers, symbolAt, termRoom, symbolRoom}
 use Rattle.term_rules.specs.WellFormed.{wellFormed}
 use Rattle.term_rules.specs.Nodes.{Node, literal, variable, application, nodeAt, sameNode, recordOf}
 use Rattle.term_rules.specs.Adding.{
@@ -182,10 +182,10 @@ module _ (s b : Store) (t : Term) (room : ltb (s .terms) (termRoom s) ≡ true) 
   unfolding withRecord
   record-one = ap (λ (n : ℕ). n + 1) ts
 
-  record-within : OnlyWithin (s .terms * 11) (s .terms * 11 + 11) (s .records) (withRecord b t .records)
+  record-within : OnlyWithin (recordsLength (s .terms)) (recordsLength (s .terms) + width) (s .records) (withRecord b t .records)
   unfolding withRecord
   record-within =
-      rw (rs, ts) (within-paste (s .records) (s .terms * 11) (numbers t) 11 (room-of-terms s room .records)
+      rw (rs, ts) (within-paste (s .records) (recordsLength (s .terms)) (numbers t) width (room-of-terms s room .records)
       (omega (arith, wide)))
 
   literal-within : OnlyWithin (s .terms) (s .terms + 1) (s .literals) (withRecord b t .literals)

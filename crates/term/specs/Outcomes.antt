@@ -7,7 +7,7 @@ use mathlib.Core.List.{List}
 use mathlib.Core.Logic.{_⊎_}
 use lib.ListN.{length, getD, take, drop}
 use Rattle.name.specs.Name.{valid}
-use Rattle.term_rules.specs.Lent.{Store, symbolAt, termRoom, symbolRoom}
+use Rattle.term_rules.specs.Lent.{Store, width, recordsLength, symbolAt, termRoom, symbolRoom}
 use Rattle.term_rules.specs.WellFormed.{wellFormed}
 use Rattle.term_rules.specs.Nodes.{Node, literal, variable, application, nodeAt}
 use Rattle.term_rules.specs.Growing.{Takes}
@@ -66,7 +66,7 @@ NamesAfter s (application n ks) t = NameAfter s n t
 -- "append it, with its name if new": exactly one record more; free records and free names are as they were
 pub record Appended (s : Store) (node : Node) (t : Store) : Type 0 where
   pub one-more : t .terms ≡ s .terms + 1
-  pub records : OnlyWithin (s .terms * 11) (s .terms * 11 + 11) (s .records) (t .records)
+  pub records : OnlyWithin (recordsLength (s .terms)) (recordsLength (s .terms) + width) (s .records) (t .records)
   pub literals : OnlyWithin (s .terms) (s .terms + 1) (s .literals) (t .literals)
   pub names : NamesAfter s node t
 
