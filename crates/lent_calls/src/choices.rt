@@ -1,4 +1,4 @@
-// Best and variants on lent structs as steps of a run: an array of 40 records is lent to the call and comes back by
+// Best and variants on lent structs as steps of a run: an array of 1,024 records is lent to the call and comes back by
 // value. Assumes nothing.
 use best_root::BestAnswer;
 use lent_entries::Name;
@@ -7,21 +7,21 @@ use variants_root::VariantsAnswer;
 
 // What best answered, and the records after it.
 pub struct Chosen {
-    pub ts: [Term; 40],
+    pub ts: [Term; 1024],
     pub answer: BestAnswer,
 }
 
 // The same of variants.
 pub struct Varied {
-    pub ts: [Term; 40],
+    pub ts: [Term; 1024],
     pub answer: VariantsAnswer,
 }
 
-fn with_best(answer: BestAnswer, ts: [Term; 40]) -> Chosen {
+fn with_best(answer: BestAnswer, ts: [Term; 1024]) -> Chosen {
     Chosen { ts, answer }
 }
 
-fn with_variants(answer: VariantsAnswer, ts: [Term; 40]) -> Varied {
+fn with_variants(answer: VariantsAnswer, ts: [Term; 1024]) -> Varied {
     Varied { ts, answer }
 }
 
@@ -29,7 +29,7 @@ pub fn best(
     file: &[u8],
     sort: u64,
     value: u64,
-    mut ts: [Term; 40],
+    mut ts: [Term; 1024],
     ns: &mut [Name],
     terms: usize,
     symbols: usize,
@@ -43,7 +43,7 @@ pub fn variants(
     sort: u64,
     value: u64,
     most: usize,
-    mut ts: [Term; 40],
+    mut ts: [Term; 1024],
     ns: &mut [Name],
     terms: usize,
     symbols: usize,

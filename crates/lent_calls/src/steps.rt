@@ -1,4 +1,4 @@
-// Each call of the store and both texts on lent structs as a step of a run: an array of 40 records is lent to it, and
+// Each call of the store and both texts on lent structs as a step of a run: an array of 1,024 records is lent to it, and
 // comes back by value where the call adds. Best and variants are in the module `choices`. Assumes nothing.
 use lent_entries::Name;
 use lent_texts::lets;
@@ -15,13 +15,13 @@ use text::Text;
 
 // What an adding call answered, and the records after it.
 pub struct Step {
-    pub ts: [Term; 40],
+    pub ts: [Term; 1024],
     pub answer: Added,
 }
 
 // A store's records, and how many terms and symbols it has.
 pub struct Held {
-    pub ts: [Term; 40],
+    pub ts: [Term; 1024],
     pub terms: usize,
     pub symbols: usize,
 }
@@ -39,7 +39,7 @@ fn no_term() -> Term {
 // A store with no term.
 pub fn empty() -> Held {
     let t = no_term();
-    let ts = [t; 40];
+    let ts = [t; 1024];
     Held {
         ts,
         terms: 0,
@@ -47,12 +47,12 @@ pub fn empty() -> Held {
     }
 }
 
-fn with_added(answer: Added, ts: [Term; 40]) -> Step {
+fn with_added(answer: Added, ts: [Term; 1024]) -> Step {
     Step { ts, answer }
 }
 
 pub fn add_literal(
-    mut ts: [Term; 40],
+    mut ts: [Term; 1024],
     ns: &[Name],
     terms: usize,
     symbols: usize,
@@ -63,7 +63,7 @@ pub fn add_literal(
 }
 
 pub fn add_variable(
-    mut ts: [Term; 40],
+    mut ts: [Term; 1024],
     ns: &mut [Name],
     terms: usize,
     symbols: usize,
@@ -74,7 +74,7 @@ pub fn add_variable(
 }
 
 pub fn add_application(
-    mut ts: [Term; 40],
+    mut ts: [Term; 1024],
     ns: &mut [Name],
     terms: usize,
     symbols: usize,
@@ -86,7 +86,7 @@ pub fn add_application(
 }
 
 pub fn find_literal(
-    ts: [Term; 40],
+    ts: [Term; 1024],
     ns: &[Name],
     terms: usize,
     symbols: usize,
@@ -96,7 +96,7 @@ pub fn find_literal(
 }
 
 pub fn find_variable(
-    ts: [Term; 40],
+    ts: [Term; 1024],
     ns: &[Name],
     terms: usize,
     symbols: usize,
@@ -106,7 +106,7 @@ pub fn find_variable(
 }
 
 pub fn find_application(
-    ts: [Term; 40],
+    ts: [Term; 1024],
     ns: &[Name],
     terms: usize,
     symbols: usize,
@@ -116,16 +116,16 @@ pub fn find_application(
     lent_terms::find_application(&ts, ns, terms, symbols, name, children)
 }
 
-pub fn size(ts: [Term; 40], ns: &[Name], terms: usize, symbols: usize) -> Counted {
+pub fn size(ts: [Term; 1024], ns: &[Name], terms: usize, symbols: usize) -> Counted {
     lent_terms::size(&ts, ns, terms, symbols)
 }
 
-pub fn get(ts: [Term; 40], ns: &[Name], terms: usize, symbols: usize, i: usize) -> Got {
+pub fn get(ts: [Term; 1024], ns: &[Name], terms: usize, symbols: usize, i: usize) -> Got {
     lent_terms::get(&ts, ns, terms, symbols, i)
 }
 
 pub fn compare(
-    ts: [Term; 40],
+    ts: [Term; 1024],
     ns: &[Name],
     terms: usize,
     symbols: usize,
@@ -136,7 +136,7 @@ pub fn compare(
 }
 
 pub fn sort(
-    ts: [Term; 40],
+    ts: [Term; 1024],
     ns: &[Name],
     terms: usize,
     symbols: usize,
@@ -146,7 +146,7 @@ pub fn sort(
 }
 
 pub fn plain_text(
-    ts: [Term; 40],
+    ts: [Term; 1024],
     ns: &[Name],
     terms: usize,
     symbols: usize,
@@ -157,7 +157,7 @@ pub fn plain_text(
 }
 
 pub fn let_text(
-    ts: [Term; 40],
+    ts: [Term; 1024],
     ns: &[Name],
     terms: usize,
     symbols: usize,

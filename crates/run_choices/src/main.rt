@@ -26,7 +26,7 @@ fn best(file: &[u8], value: u64) {
     let h = steps::empty();
     let ts = h.ts;
     let e = [0u8; 32];
-    let mut ns = [e; 12];
+    let mut ns = [e; 128];
     let s = choices::best(file, 0, value, ts, &mut ns, 0, 0);
     let ts = s.ts;
     let answer = s.answer;
@@ -63,7 +63,7 @@ fn variants(file: &[u8]) {
     let h = steps::empty();
     let ts = h.ts;
     let e = [0u8; 32];
-    let mut ns = [e; 12];
+    let mut ns = [e; 128];
     let mut costs = [0u64; 9];
     let mut found = [0u64; 9];
     let s = choices::variants(file, 0, 0, 9, ts, &mut ns, 0, 0, &mut costs, &mut found);

@@ -1,6 +1,6 @@
-// Each call of the store and both texts on lent structs over real data, a line a call. First the 2,000 calls of
-// `run_terms` on a lent slice of 40 term records and a lent slice of 12 name entries; then its size, each term with its
-// texts, and what can be found: as the oracle answers them (oracle/lent-runs). Assumes nothing.
+// Each call of the store and both texts on lent structs over real data, a line a call. First 2,200 calls that fill a lent
+// slice of 1,024 term records and a lent slice of 128 name entries; then its size, every eighth term with its texts, and
+// what can be found: as the oracle answers them (oracle/lent-runs). Assumes nothing.
 use lent_calls::steps;
 use lent_calls::steps::Held;
 use lent_calls::steps::Step;
@@ -72,41 +72,55 @@ fn value(x: u64) -> i64 {
     values[i]
 }
 
-fn add_literal(h: Held, ns: &[Name], x: u64) -> Held {
+// A literal from -8 to 7, or from 64 to 1,023.
+fn literal(x: u64) -> i64 {
+    let n = x / 16 % 1024;
+    if n < 64 {
+        return value(x);
+    }
+    n as i64
+}
+
+fn add_literal(h: Held, ns: &[Name], z: i64) -> Held {
     let ts = h.ts;
-    let z = value(x);
     let s = steps::add_literal(ts, ns, h.terms, h.symbols, z);
     added(s, h.terms, h.symbols)
 }
 
 fn add_variable(h: Held, ns: &mut [Name], x: u64) -> Held {
     let ts = h.ts;
-    let name = [118, run_output::digit(x / 16)];
+    let name = [
+        118,
+        run_output::digit(x / 16),
+        run_output::digit(x / 256 % 4),
+    ];
     let s = steps::add_variable(ts, ns, h.terms, h.symbols, &name);
     added(s, h.terms, h.symbols)
 }
 
-fn add_application(h: Held, ns: &mut [Name], x: u64) -> Held {
+fn add_application(h: Held, ns: &mut [Name], x: u64, i: usize) -> Held {
     let ts = h.ts;
-    let name = [102, run_output::digit(x / 16 % 3)];
-    let children = [x / 64 % 32, x / 2048 % 32, x / 65536 % 32];
+    let name = [102, run_output::digit(x / 16), run_output::digit(x / 512)];
+    let m = i as u64 / 2 + 1;
+    let children = [x / 64 % m, x / 2048 % m, x / 64 % m];
     let n = (x / 16 % 4) as usize;
     let s = steps::add_application(ts, ns, h.terms, h.symbols, &name, &children[..n]);
     added(s, h.terms, h.symbols)
 }
 
-fn find_application(h: Held, ns: &[Name], x: u64) {
+fn find_application(h: Held, ns: &[Name], x: u64, i: usize) {
     let ts = h.ts;
-    let name = [102, run_output::digit(x / 16 % 3)];
-    let children = [x / 64 % 32, x / 2048 % 32, x / 65536 % 32];
+    let name = [102, run_output::digit(x / 16), run_output::digit(x / 512)];
+    let m = i as u64 / 2 + 1;
+    let children = [x / 64 % m, x / 2048 % m, x / 64 % m];
     let n = (x / 16 % 4) as usize;
     looked(steps::find_application(ts, ns, h.terms, h.symbols, &name, &children[..n]));
 }
 
 fn compare(h: Held, ns: &[Name], x: u64) {
     let ts = h.ts;
-    let a = (x / 64 % 40) as usize;
-    let b = (x / 4096 % 40) as usize;
+    let a = (x / 64 % 1040) as usize;
+    let b = (x / 4096 % 1040) as usize;
     let answer = steps::compare(ts, ns, h.terms, h.symbols, a, b);
     match answer {
         Compared::Order(order) => write_order(order),
@@ -116,7 +130,12 @@ fn compare(h: Held, ns: &[Name], x: u64) {
 
 fn sort(h: Held, ns: &[Name], x: u64) {
     let ts = h.ts;
-    let mut list = [x / 64 % 40, x / 2048 % 40, x / 65536 % 40, x / 131072 % 40];
+    let mut list = [
+        x / 64 % 1024,
+        x / 2048 % 1024,
+        x / 65536 % 1024,
+        x / 131072 % 1024,
+    ];
     let answer = steps::sort(ts, ns, h.terms, h.symbols, &mut list);
     match answer {
         Verdict::Done => run_output::write_line(b"sorted", &list),
@@ -124,24 +143,29 @@ fn sort(h: Held, ns: &[Name], x: u64) {
     }
 }
 
-// Makes the call of `x`; the store after it.
-fn turn(h: Held, ns: &mut [Name], x: u64) -> Held {
-    let which = x / 1048576 % 8;
-    if which < 2 {
-        return add_literal(h, ns, x);
+// A lookup or a comparison.
+fn look(h: Held, ns: &[Name], x: u64, i: usize) {
+    if x / 16 % 2 == 0 {
+        find_application(h, ns, x, i);
+        return;
     }
-    if which == 2 {
+    compare(h, ns, x);
+}
+
+// Makes the call of `x`, after `i` calls; the store after it.
+fn turn(h: Held, ns: &mut [Name], x: u64, i: usize) -> Held {
+    let which = x / 1048576 % 8;
+    if which == 0 {
         return add_variable(h, ns, x);
     }
-    if which < 5 {
-        return add_application(h, ns, x);
+    if which == 1 {
+        return add_literal(h, ns, literal(x));
     }
-    if which == 5 {
-        find_application(h, ns, x);
-        return h;
+    if which < 6 {
+        return add_application(h, ns, x, i);
     }
     if which == 6 {
-        compare(h, ns, x);
+        look(h, ns, x, i);
         return h;
     }
     sort(h, ns, x);
@@ -152,9 +176,9 @@ fn turns(ns: &mut [Name]) -> Held {
     let mut h = steps::empty();
     let mut x: u64 = 1;
     let mut i: usize = 0;
-    while i < 2000 {
+    while i < 2200 {
         x = next(x);
-        h = turn(h, ns, x);
+        h = turn(h, ns, x, i);
         i += 1;
     }
     h
@@ -234,26 +258,48 @@ fn get(h: Held, ns: &[Name], t: usize) {
 
 fn plain(h: Held, ns: &[Name], t: usize) {
     let ts = h.ts;
-    let mut out = [0u8; 300];
+    let mut out = [0u8; 4096];
     let answer = steps::plain_text(ts, ns, h.terms, h.symbols, t, &mut out);
     run_output::write_plain(answer, &out);
 }
 
+// With the zero flag.
 fn bound(h: Held, ns: &[Name], t: usize) {
     let ts = h.ts;
-    let mut out = [0u8; 300];
-    let answer = steps::let_text(ts, ns, h.terms, h.symbols, t, b"", b"t", 0, false, &mut out);
+    let mut out = [0u8; 4096];
+    let answer = steps::let_text(ts, ns, h.terms, h.symbols, t, b"", b"t", 0, true, &mut out);
     run_output::write_let(answer, &out);
 }
 
-// Each term and its texts, and the number past the last.
+// With a prefix, and start counts on both sides of their limit.
+fn counted(h: Held, ns: &[Name], t: usize) {
+    let ts = h.ts;
+    let mut out = [0u8; 4096];
+    let start = 4294966000 + (t % 2048) as u64;
+    let answer = steps::let_text(
+        ts,
+        ns,
+        h.terms,
+        h.symbols,
+        t,
+        b"p-",
+        b"t",
+        start,
+        false,
+        &mut out,
+    );
+    run_output::write_let(answer, &out);
+}
+
+// Every eighth term and its texts, and the number past the last.
 fn all_terms(h: Held, ns: &[Name]) {
     let mut t: usize = 0;
-    while t < 41 {
+    while t < 1025 {
         get(h, ns, t);
         plain(h, ns, t);
         bound(h, ns, t);
-        t += 1;
+        counted(h, ns, t);
+        t += 8;
     }
 }
 
@@ -265,7 +311,7 @@ fn find_literal(h: Held, ns: &[Name], x: u64) {
 
 fn find_variable(h: Held, ns: &[Name], x: u64) {
     let ts = h.ts;
-    let name = [118, run_output::digit(x)];
+    let name = [118, run_output::digit(x), 48];
     looked(steps::find_variable(ts, ns, h.terms, h.symbols, &name));
 }
 
@@ -287,7 +333,7 @@ fn all_variables(h: Held, ns: &[Name]) {
 
 fn main() {
     let e = [0u8; 32];
-    let mut ns = [e; 12];
+    let mut ns = [e; 128];
     let h = turns(&mut ns);
     size(h, &ns);
     all_terms(h, &ns);

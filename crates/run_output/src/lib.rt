@@ -9,20 +9,13 @@ pub fn digit(n: u64) -> u8 {
     48 + (n % 10) as u8
 }
 
-// A number below 1,000.
 fn write_number(n: u64) {
-    if n < 10 {
-        let one = [digit(n)];
-        io::write_all(STDOUT_FILENO, &one);
+    if 20 < decimal::digits_length(n) {
         return;
     }
-    if n < 100 {
-        let two = [digit(n / 10), digit(n)];
-        io::write_all(STDOUT_FILENO, &two);
-        return;
-    }
-    let three = [digit(n / 100), digit(n / 10), digit(n)];
-    io::write_all(STDOUT_FILENO, &three);
+    let mut digits = [0u8; 20];
+    let k = decimal::put_digits(&mut digits, n);
+    io::write_all(STDOUT_FILENO, &digits[..k]);
 }
 
 // The first `n` numbers, a space before each.

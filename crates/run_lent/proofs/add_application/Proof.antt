@@ -10,6 +10,21 @@ use Rattle.run_lent.proofs.add_application.Tie as tie
 digit-requires : tie.Need-digit-requires
 digit-requires c κs = search needs
 
+digit-requires-2 : tie.Need-digit-requires-2
+digit-requires-2 c κs = search needs
+
+add-m : tie.Need-add-m
+add-m c = search needs
+
+rem-t14 : tie.Need-rem-t14
+rem-t14 c = search needs
+
+rem-t16 : tie.Need-rem-t16
+rem-t16 c = search needs
+
+rem-n : tie.Need-rem-n
+rem-n c = search needs
+
 slice-aggregate-add-application : tie.Need-slice-aggregate-add-application
 slice-aggregate-add-application c = search needs
 
@@ -18,7 +33,7 @@ array-share-prefix-children c = search needs
 
 slice-aggregate-add-application-2 : tie.Need-slice-aggregate-add-application-2
 slice-aggregate-add-application-2 c =
-    let g = c .before .before .before .before .before .args in
+    let g = c .before .before .before .before .before .before .args in
     sym (length-take-le (g .x / 16 % 4) _ (omega arith))
 
 add-application-requires : tie.Need-add-application-requires
@@ -38,6 +53,11 @@ add-application-spec =
     tie.close
     (tie.spec
     digit-requires
+    digit-requires-2
+    add-m
+    rem-t14
+    rem-t16
+    rem-n
     slice-aggregate-add-application
     array-share-prefix-children
     slice-aggregate-add-application-2

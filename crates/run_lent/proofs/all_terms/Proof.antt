@@ -1,4 +1,4 @@
--- `run_lent::all_terms` is safe and ends: 41 terms. Assumes nothing.
+-- `run_lent::all_terms` is safe and ends: 1,025 terms, eight at a time. Assumes nothing.
 use Prim.Native.Nat.{_≤_, _-_}
 use borrow.Author.Needs.{needs}
 use native.Mathlib.Omega.{arith}
@@ -6,10 +6,10 @@ use Rattle.run_lent.proofs.all_terms.Statement.{statement}
 use Rattle.run_lent.proofs.all_terms.Tie as tie
 
 abbrev Inv-loop : tie.InvT-loop
-Inv-loop h ns t₀ t = (t ≤ 41)
+Inv-loop h ns t₀ t = (t ≤ 1032)
 
 abbrev μ-loop : tie.MeasureT-loop
-μ-loop h ns t₀ t = 41 - t
+μ-loop h ns t₀ t = 1032 - t
 
 loop-holds : tie.Need-loop-holds Inv-loop μ-loop
 loop-holds c = search needs
@@ -22,6 +22,9 @@ plain-requires c κs = search needs
 
 bound-requires : tie.Need-bound-requires Inv-loop μ-loop
 bound-requires c κs = search needs
+
+counted-requires : tie.Need-counted-requires Inv-loop μ-loop
+counted-requires c κs = search needs
 
 add-t : tie.Need-add-t Inv-loop μ-loop
 add-t c = search needs
@@ -45,6 +48,7 @@ all-terms-spec =
     get-requires
     plain-requires
     bound-requires
+    counted-requires
     add-t
     loop-less
     loop-again

@@ -10,6 +10,21 @@ use Rattle.run_lent.proofs.find_application.Tie as tie
 digit-requires : tie.Need-digit-requires
 digit-requires c κs = search needs
 
+digit-requires-2 : tie.Need-digit-requires-2
+digit-requires-2 c κs = search needs
+
+add-m : tie.Need-add-m
+add-m c = search needs
+
+rem-t13 : tie.Need-rem-t13
+rem-t13 c = search needs
+
+rem-t15 : tie.Need-rem-t15
+rem-t15 c = search needs
+
+rem-n : tie.Need-rem-n
+rem-n c = search needs
+
 slice-aggregate-find-application : tie.Need-slice-aggregate-find-application
 slice-aggregate-find-application c = search needs
 
@@ -18,7 +33,7 @@ array-share-prefix-children c = search needs
 
 slice-aggregate-find-application-2 : tie.Need-slice-aggregate-find-application-2
 slice-aggregate-find-application-2 c =
-    let g = c .before .before .before .before .args in
+    let g = c .before .before .before .before .before .args in
     sym (length-take-le (g .x / 16 % 4) _ (omega arith))
 
 find-application-requires : tie.Need-find-application-requires
@@ -35,6 +50,11 @@ find-application-spec =
     tie.close
     (tie.spec
     digit-requires
+    digit-requires-2
+    add-m
+    rem-t13
+    rem-t15
+    rem-n
     slice-aggregate-find-application
     array-share-prefix-children
     slice-aggregate-find-application-2

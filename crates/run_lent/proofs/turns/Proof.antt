@@ -1,4 +1,4 @@
--- `run_lent::turns` is safe and ends: 2,000 turns, and the lent entries keep their number. Assumes nothing.
+-- `run_lent::turns` is safe and ends: 2,200 turns, and the lent entries keep their number. Assumes nothing.
 use Prim.Native.Nat.{_≤_, _-_}
 use mathlib.Core.Path.{_≡_}
 use lib.ListN.{length}
@@ -8,10 +8,10 @@ use Rattle.run_lent.proofs.turns.Statement.{statement}
 use Rattle.run_lent.proofs.turns.Tie as tie
 
 abbrev Inv-loop : tie.InvT-loop
-Inv-loop ns₀ h₀ x₀ i₀ ns h x i = (i ≤ 2000) × (length ns ≡ length ns₀)
+Inv-loop ns₀ h₀ x₀ i₀ ns h x i = (i ≤ 2200) × (length ns ≡ length ns₀)
 
 abbrev μ-loop : tie.MeasureT-loop
-μ-loop ns₀ h₀ x₀ i₀ ns h x i = 2000 - i
+μ-loop ns₀ h₀ x₀ i₀ ns h x i = 2200 - i
 
 empty-requires : tie.Need-empty-requires Inv-loop μ-loop
 empty-requires c κs = search needs

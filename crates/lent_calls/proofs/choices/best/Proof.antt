@@ -20,7 +20,7 @@ use contract.Running.{givenOf, tables, tablesOf}
 use types.Kit.{Given, Item, ‵, raw, group, _⊛_, ⋆, _$_, _∵_, !, qed, by, move, keep, drop, use0, use1, split}
 use types.Kit.{join, fsplit, fjoin, feqL, suffices, frame, done}
 use types.Part.{agg, whole, sub, look-in}
-use types.Run.{look, init, forget, stop, hop, fld, from, load, lit, addr, of-opd, and-then, no-more, assigns}
+use types.Run.{look, init, forget, stop, hop, fld, from, load, addr, of-opd, and-then, no-more, assigns}
 use types.Run.{land, returns, enter, alloc1, alloc0, params1, pass1, pass0, free1, free0}
 use sound.WpLaws.{FmC, fmOf, WpFn-mono}
 use denote.RattleType.{RattleType, owns}
@@ -45,7 +45,7 @@ use denote.Enum.Laws as EL
 use Rattle.term_rules.specs.declared.Term.{Term}
 use Rattle.term_rules.proofs.Term as T
 use Rattle.term_rules.proofs.Term.Laws as T′
-use Rattle.lent.proofs.Lending.{ref, array-lent, array-back}
+use Rattle.lent.proofs.Lending.{ref, big-lit, array-lent, array-back}
 use Rattle.lent.proofs.ArrayLaws.{records-makes, records-typed}
 use Rattle.lent.proofs.Calling.{Of, calls-changing, calls-any}
 use Rattle.lent_extract.proofs.best as wrk
@@ -74,7 +74,7 @@ abbrev Entry : RattleType
 Entry = Array u8 32
 
 abbrev Records : RattleType
-Records = Array T.the-row 40
+Records = Array T.the-row 1024
 
 abbrev term-vals : Term → List Val
 term-vals t = T′.lowered t ∷ []
@@ -87,7 +87,7 @@ stayed = (
     (
       stay-dropped (plain (λ _. u64)) yes,
       (
-        stay-dropped (arrayOf (plain (λ _. T.the-row)) 40) yes,
+        stay-dropped (arrayOf (plain (λ _. T.the-row)) 1024) yes,
         (
           gave-slice (1 ∷
               []) tt (arrayOf (plain (λ _. u8)) 32),
@@ -214,7 +214,7 @@ module _ {M : Type 1} (𝓤 : URA M) (H : Heap 𝓤) (A : Atoms 𝓤) (W : Given
           (
             (v-value ∷ []),
             (
-              (sliceVal (l, 0) 40 ∷ []),
+              (sliceVal (l, 0) 1024 ∷ []),
               ((v-ns ∷ []), ((v-terms ∷ []), ((v-symbols ∷ []), tt))),
             ),
           ),
@@ -225,7 +225,7 @@ module _ {M : Type 1} (𝓤 : URA M) (H : Heap 𝓤) (A : Atoms 𝓤) (W : Given
   )
 
   abbrev Lent : ℕ → ℕ → GName → Fml
-  Lent l ν δ = MutSlice (named 1) (ν ∷ []) T.the-row .own (ref l 0 δ ts) (sliceVal (l, 0) 40 ∷ [])
+  Lent l ν δ = MutSlice (named 1) (ν ∷ []) T.the-row .own (ref l 0 δ ts) (sliceVal (l, 0) 1024 ∷ [])
 
   goes-lib :
       (l ν : ℕ) (δ : GName) →
@@ -247,7 +247,7 @@ module _ {M : Type 1} (𝓤 : URA M) (H : Heap 𝓤) (A : Atoms 𝓤) (W : Given
       (r : BestAnswer) (u : Val) (zs : List Term) (y : Val) → Is R.the-row r (u ∷ []) → Is Records zs (y ∷ []) →
       ent 𝓤 (emp 𝓤) (Aft .pre (to-aft r u zs y))
   goes-aft r u zs y isr isz =
-      qed W [] ∵ nothing ! $ owned ! Records (Is Records) (records-makes W 40) zs _ isz $ fjoin ! $
+      qed W [] ∵ nothing ! $ owned ! Records (Is Records) (records-makes W 1024) zs _ isz $ fjoin ! $
       owned ! R.the-row (Is R.the-row) (EL.makes R.the-type R′.the-plain 𝓤 H A) r _ isr $ fjoin ! $ nothing ! $
       join ! $ frame ! $ done !
 
@@ -325,15 +325,15 @@ module _ {M : Type 1} (𝓤 : URA M) (H : Heap 𝓤) (A : Atoms 𝓤) (W : Given
           ),
         )) $ pass1 ! (init ! 24 refl (uint-lawful 𝓤 H A W w64 .typed sort _ is-sort .0)) $
         pass1 ! (init ! 22 refl (uint-lawful 𝓤 H A W w64 .typed value _ is-value .0)) $ pass1 ! (init ! 20 refl
-        (records-typed W 40 ts _ is-ts)) $ pass1 ! (init ! 18 refl (tt, (tt, (record { fits = room-ns .0 }, tt)))) $
+        (records-typed W 1024 ts _ is-ts)) $ pass1 ! (init ! 18 refl (tt, (tt, (record { fits = room-ns .0 }, tt)))) $
         pass1 ! (init ! 16 refl (uint-lawful 𝓤 H A W w64 .typed terms _ is-terms .0)) $ pass1 ! (init ! 14 refl
         (uint-lawful 𝓤 H A W w64 .typed symbols _ is-symbols .0)) $ pass0 ! $ move ! (30 ∷ []) $ split ! $ move
         ! (1 ∷ []) $ split ! $ move ! (33 ∷ []) $ fsplit ! $ move ! (1 ∷ []) $ fsplit ! $ move ! (1 ∷ []) $
         fsplit ! $ move ! (1 ∷ []) $ fsplit ! $ move ! (1 ∷ []) $ fsplit ! $ move ! (1 ∷ []) $ fsplit ! $ move
         ! (1 ∷ []) $ fsplit ! $ assigns ! (of-opd ! (load ! (from ! (stop !)) (look ! 31 refl))) (from ! (stop
-        !)) (init ! 23 refl (records-typed W 40 ts _ is-ts)) $ assigns ! (addr ! (from ! (stop !))) (from ! (stop
+        !)) (init ! 23 refl (records-typed W 1024 ts _ is-ts)) $ assigns ! (addr ! (from ! (stop !))) (from ! (stop
         !)) (init ! 19 refl (tt, tt)) $ assigns ! (agg ! (and-then ! (load ! (from ! (stop !)) (look ! 19
-        refl)) (and-then ! (lit ! tt) (no-more !)))) (from ! (stop !)) (init ! 17 refl (
+        refl)) (and-then ! (big-lit ! (record { fits = lit< tt })) (no-more !)))) (from ! (stop !)) (init ! 17 refl (
           tt,
           (
             tt,
@@ -362,7 +362,7 @@ module _ {M : Type 1} (𝓤 : URA M) (H : Heap 𝓤) (A : Atoms 𝓤) (W : Given
           ),
         )) $
         -- the records are lent
-        move ! (23 ∷ []) $ array-lent ! tt T.the-row tt 40 l₈ (named 1) (records-makes W 40) (lit< tt, lit< tt) ts _
+        move ! (23 ∷ []) $ array-lent ! tt T.the-row tt 1024 l₈ (named 1) (records-makes W 1024) (lit< tt, lit< tt) ts _
         is-ts (λ ν δ. move ! (13 ∷ 0 ∷ 11 ∷ 10 ∷ 1 ∷ 6 ∷ []) $ group ! 6 $ use1 W (raw (Lib .pre (to-lib l₈ ν
         δ))) (goes-lib l₈ ν δ) $ calls-changing ! fm wrk.ended (wrk.clauses 𝓤 H A mem run) known-wrk (to-lib l₈
         ν δ) (λ r ws. LentBest ts (ns .now) terms symbols (bestAt (file .now) sort value (lentStore ts (ns
@@ -377,10 +377,10 @@ module _ {M : Type 1} (𝓤 : URA M) (H : Heap 𝓤) (A : Atoms 𝓤) (W : Given
         q₀) ⊛ ‵ (flft (ν ∷ []) fullShare) ⊛ ‵ (flft κ₁ q₁) ⊛ ‵ ftrue) (id⊢ 𝓤 _) $ split ! $ move ! (1 ∷ []) $
         split ! $ move ! (1 ∷ []) $ split ! $
         -- they are back
-        move ! (2 ∷ 12 ∷ 8 ∷ []) $ array-back ! tt T.the-row 40 l₈ term-vals (T′.lowers .val-is) (ws .1 .1 .1
+        move ! (2 ∷ 12 ∷ 8 ∷ []) $ array-back ! tt T.the-row 1024 l₈ term-vals (T′.lowers .val-is) (ws .1 .1 .1
         .0) (λ isz. land ! (from ! (stop !)) (init ! 28 refl (EL.lawful R.the-type R′.the-laws 𝓤 H A W tt
         .typed r _ isr .0)) $ assigns ! (of-opd ! (load ! (from ! (stop !)) (look ! 0 refl))) (from ! (stop !))
-        (init ! 18 refl (records-typed W 40 (ws .1 .1 .1 .0) _ isz)) $ use0 W (raw (Aft .pre (to-aft r u (ws .1 .1
+        (init ! 18 refl (records-typed W 1024 (ws .1 .1 .1 .0) _ isz)) $ use0 W (raw (Aft .pre (to-aft r u (ws .1 .1
         .1 .0) (only (array-vals term-vals (ws .1 .1 .1 .0)))))) (goes-aft r u (ws .1 .1 .1 .0) (only
         (array-vals term-vals (ws .1 .1 .1 .0))) isr isz) $ calls-any ! fm aft.ended (aft.clauses 𝓤 H A mem
         run) known-aft (to-aft r u (ws .1 .1 .1 .0) (only (array-vals term-vals (ws .1 .1 .1 .0)))) (and-then !
@@ -432,7 +432,7 @@ module _ {M : Type 1} (𝓤 : URA M) (H : Heap 𝓤) (A : Atoms 𝓤) (W : Given
             uint-tells w64,
             (
               array-tells T.the-row
-                  term-vals (T′.lowers .val-is) 40,
+                  term-vals (T′.lowers .val-is) 1024,
               (
                 mut-slice-tells (named 1) (κs .1 .0) Entry,
                 (
@@ -465,7 +465,7 @@ module _ {M : Type 1} (𝓤 : URA M) (H : Heap 𝓤) (A : Atoms 𝓤) (W : Given
             goes-dropped 𝓤 H A W 2 (plain (λ _. u64)) yes (λ κs x f.
                 refl),
             (
-              goes-dropped 𝓤 H A W 2 (arrayOf (plain (λ _. T.the-row)) 40) yes (λ κs x f. refl),
+              goes-dropped 𝓤 H A W 2 (arrayOf (plain (λ _. T.the-row)) 1024) yes (λ κs x f. refl),
               (
                 goes-gave-slice
                     𝓤 H A W 2 1 tt (arrayOf (plain (λ _. u8)) 32),

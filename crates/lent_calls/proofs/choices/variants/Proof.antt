@@ -20,7 +20,7 @@ use contract.Running.{givenOf, tables, tablesOf}
 use types.Kit.{Given, Item, ‵, raw, group, _⊛_, ⋆, _$_, _∵_, !, qed, by, move, keep, drop, use0, use1, split}
 use types.Kit.{join, fsplit, fjoin, feqL, suffices, frame, done}
 use types.Part.{agg, whole, sub, look-in}
-use types.Run.{look, init, forget, stop, hop, fld, from, load, lit, addr, of-opd, and-then, no-more, assigns}
+use types.Run.{look, init, forget, stop, hop, fld, from, load, addr, of-opd, and-then, no-more, assigns}
 use types.Run.{land, returns, enter, alloc1, alloc0, params1, pass1, pass0, free1, free0}
 use sound.WpLaws.{FmC, fmOf, WpFn-mono}
 use denote.RattleType.{RattleType, owns}
@@ -45,7 +45,7 @@ use denote.Enum.Laws as EL
 use Rattle.term_rules.specs.declared.Term.{Term}
 use Rattle.term_rules.proofs.Term as T
 use Rattle.term_rules.proofs.Term.Laws as T′
-use Rattle.lent.proofs.Lending.{ref, array-lent, array-back}
+use Rattle.lent.proofs.Lending.{ref, big-lit, array-lent, array-back}
 use Rattle.lent.proofs.ArrayLaws.{records-makes, records-typed}
 use Rattle.lent.proofs.Calling.{Of, calls-changing, calls-any}
 use Rattle.lent_extract.proofs.variants as wrk
@@ -75,7 +75,7 @@ abbrev Entry : RattleType
 Entry = Array u8 32
 
 abbrev Records : RattleType
-Records = Array T.the-row 40
+Records = Array T.the-row 1024
 
 abbrev term-vals : Term → List Val
 term-vals t = T′.lowered t ∷ []
@@ -91,7 +91,7 @@ stayed = (
         stay-dropped (plain (λ _. usize)) yes,
         (
           stay-dropped (arrayOf (plain (λ
-              _. T.the-row)) 40) yes,
+              _. T.the-row)) 1024) yes,
           (
             gave-slice (1 ∷ []) tt (arrayOf (plain (λ _. u8)) 32),
             (
@@ -265,7 +265,7 @@ module _ {M : Type 1} (𝓤 : URA M) (H : Heap 𝓤) (A : Atoms 𝓤) (W : Given
             (
               (v-most ∷ []),
               (
-                (sliceVal (l, 0) 40 ∷ []),
+                (sliceVal (l, 0) 1024 ∷ []),
                 (
                   (v-ns ∷ []),
                   (
@@ -287,7 +287,7 @@ module _ {M : Type 1} (𝓤 : URA M) (H : Heap 𝓤) (A : Atoms 𝓤) (W : Given
   )
 
   abbrev Lent : ℕ → ℕ → GName → Fml
-  Lent l ν δ = MutSlice (named 1) (ν ∷ []) T.the-row .own (ref l 0 δ ts) (sliceVal (l, 0) 40 ∷ [])
+  Lent l ν δ = MutSlice (named 1) (ν ∷ []) T.the-row .own (ref l 0 δ ts) (sliceVal (l, 0) 1024 ∷ [])
 
   goes-lib :
       (l ν : ℕ) (δ : GName) →
@@ -311,7 +311,7 @@ module _ {M : Type 1} (𝓤 : URA M) (H : Heap 𝓤) (A : Atoms 𝓤) (W : Given
       (r : VariantsAnswer) (u : Val) (zs : List Term) (y : Val) → Is R.the-row r (u ∷ []) → Is Records zs (y ∷ []) →
       ent 𝓤 (emp 𝓤) (Aft .pre (to-aft r u zs y))
   goes-aft r u zs y isr isz =
-      qed W [] ∵ nothing ! $ owned ! Records (Is Records) (records-makes W 40) zs _ isz $ fjoin ! $
+      qed W [] ∵ nothing ! $ owned ! Records (Is Records) (records-makes W 1024) zs _ isz $ fjoin ! $
       owned ! R.the-row (Is R.the-row) (EL.makes R.the-type R′.the-plain 𝓤 H A) r _ isr $ fjoin ! $ nothing ! $
       join ! $ frame ! $ done !
 
@@ -380,7 +380,7 @@ module _ {M : Type 1} (𝓤 : URA M) (H : Heap 𝓤) (A : Atoms 𝓤) (W : Given
         pass1 ! (init ! 40 refl (tt, (tt, (record { fits = room-file .0 }, tt)))) $ pass1 ! (init ! 38 refl
         (uint-lawful 𝓤 H A W w64 .typed sort _ is-sort .0)) $ pass1 ! (init ! 36 refl (uint-lawful 𝓤 H A W w64
         .typed value _ is-value .0)) $ pass1 ! (init ! 34 refl (uint-lawful 𝓤 H A W w64 .typed most _ is-most
-        .0)) $ pass1 ! (init ! 32 refl (records-typed W 40 ts _ is-ts)) $ pass1 ! (init ! 30 refl (
+        .0)) $ pass1 ! (init ! 32 refl (records-typed W 1024 ts _ is-ts)) $ pass1 ! (init ! 30 refl (
           tt,
           (
             tt,
@@ -398,9 +398,10 @@ module _ {M : Type 1} (𝓤 : URA M) (H : Heap 𝓤) (A : Atoms 𝓤) (W : Given
         move ! (1 ∷ []) $ fsplit ! $ move ! (1 ∷ []) $ fsplit ! $ move ! (1 ∷ []) $ fsplit ! $ move ! (1 ∷ [])
         $ fsplit ! $ move ! (1 ∷ []) $ fsplit ! $ move ! (1 ∷ []) $ fsplit ! $ move ! (1 ∷ []) $ fsplit ! $
         move ! (1 ∷ []) $ fsplit ! $ move ! (1 ∷ []) $ fsplit ! $ assigns ! (of-opd ! (load ! (from ! (stop !))
-        (look ! 48 refl))) (from ! (stop !)) (init ! 36 refl (records-typed W 40 ts _ is-ts)) $ assigns ! (addr !
+        (look ! 48 refl))) (from ! (stop !)) (init ! 36 refl (records-typed W 1024 ts _ is-ts)) $ assigns ! (addr !
         (from ! (stop !))) (from ! (stop !)) (init ! 32 refl (tt, tt)) $ assigns ! (agg ! (and-then ! (load !
-        (from ! (stop !)) (look ! 32 refl)) (and-then ! (lit ! tt) (no-more !)))) (from ! (stop !)) (init ! 30
+        (from ! (stop !)) (look ! 32 refl)) (and-then ! (big-lit ! (record { fits = lit< tt })) (no-more !)))) (from !
+        (stop !)) (init ! 30
         refl (tt, (tt, (record { fits = lit< tt }, tt)))) $ assigns ! (addr ! (from ! (fld ! refl (hop !
         (look-in ! 46 (sub ! 0 refl (whole !))) (stop !))))) (from ! (stop !)) (init ! 28 refl (tt, tt)) $
         assigns ! (agg ! (and-then ! (load ! (from ! (stop !)) (look ! 28 refl)) (and-then ! (load ! (from !
@@ -415,7 +416,8 @@ module _ {M : Type 1} (𝓤 : URA M) (H : Heap 𝓤) (A : Atoms 𝓤) (W : Given
         (fld ! refl (stop !))) (look-in ! 38 (sub ! 1 refl (whole !)))) (no-more !)))) (from ! (stop !)) (init
         ! 18 refl (tt, (tt, (record { fits = room-found .0 }, tt)))) $
         -- the records are lent
-        move ! (36 ∷ []) $ array-lent ! tt T.the-row tt 40 l₁₁ (named 1) (records-makes W 40) (lit< tt, lit< tt) ts _
+        move ! (36 ∷ []) $ array-lent ! tt T.the-row tt 1024 l₁₁ (named 1) (records-makes W 1024) (lit< tt, lit< tt)
+        ts _
         is-ts (λ ν δ. move ! (18 ∷ 0 ∷ 17 ∷ 16 ∷ 14 ∷ 13 ∷ 1 ∷ 8 ∷ 5 ∷ 3 ∷ []) $ group ! 10 $ use1 W (raw (Lib
         .pre (to-lib l₁₁ ν δ))) (goes-lib l₁₁ ν δ) $ calls-changing ! fm wrk.ended (wrk.clauses 𝓤 H A mem run)
         known-wrk (to-lib l₁₁ ν δ) (λ r ws. LentVariants ts (ns .now) terms symbols (variantsAt (file .now)
@@ -436,10 +438,10 @@ module _ {M : Type 1} (𝓤 : URA M) (H : Heap 𝓤) (A : Atoms 𝓤) (W : Given
         move ! (1 ∷ []) $ split ! $ move ! (1 ∷ []) $ split ! $ move ! (1 ∷ []) $ split ! $ move ! (1 ∷ []) $
         split ! $
         -- they are back
-        move ! (4 ∷ 17 ∷ 12 ∷ []) $ array-back ! tt T.the-row 40 l₁₁ term-vals (T′.lowers .val-is) (ws .1 .1 .1
+        move ! (4 ∷ 17 ∷ 12 ∷ []) $ array-back ! tt T.the-row 1024 l₁₁ term-vals (T′.lowers .val-is) (ws .1 .1 .1
         .1 .0) (λ isz. land ! (from ! (stop !)) (init ! 42 refl (EL.lawful R.the-type R′.the-laws 𝓤 H A W tt
         .typed r _ isr .0)) $ assigns ! (of-opd ! (load ! (from ! (stop !)) (look ! 0 refl))) (from ! (stop !))
-        (init ! 24 refl (records-typed W 40 (ws .1 .1 .1 .1 .0) _ isz)) $ use0 W (raw (Aft .pre (to-aft r u (ws .1
+        (init ! 24 refl (records-typed W 1024 (ws .1 .1 .1 .1 .0) _ isz)) $ use0 W (raw (Aft .pre (to-aft r u (ws .1
         .1 .1 .1 .0) (only (array-vals term-vals (ws .1 .1 .1 .1 .0)))))) (goes-aft r u (ws .1 .1 .1 .1 .0)
         (only (array-vals term-vals (ws .1 .1 .1 .1 .0))) isr isz) $ calls-any ! fm aft.ended (aft.clauses 𝓤 H
         A mem run) known-aft (to-aft r u (ws .1 .1 .1 .1 .0) (only (array-vals term-vals (ws .1 .1 .1 .1 .0))))
@@ -494,7 +496,7 @@ module _ {M : Type 1} (𝓤 : URA M) (H : Heap 𝓤) (A : Atoms 𝓤) (W : Given
             (
               uint-tells w64,
               (
-                array-tells T.the-row term-vals (T′.lowers .val-is) 40,
+                array-tells T.the-row term-vals (T′.lowers .val-is) 1024,
                 (
                   mut-slice-tells (named 1) (κs .1 .0) Entry,
                   (
@@ -539,7 +541,7 @@ module _ {M : Type 1} (𝓤 : URA M) (H : Heap 𝓤) (A : Atoms 𝓤) (W : Given
               goes-dropped 𝓤 H A W 4 (plain (λ _. usize)) yes (λ κs x f. refl),
               (
                 goes-dropped 𝓤 H A W 4 (arrayOf
-                    (plain (λ _. T.the-row)) 40) yes (λ κs x f. refl),
+                    (plain (λ _. T.the-row)) 1024) yes (λ κs x f. refl),
                 (
                   goes-gave-slice 𝓤 H A W 4 1 tt (arrayOf (plain (λ _.
                       u8)) 32),

@@ -20,7 +20,7 @@ use contract.Running.{givenOf, tables, tablesOf}
 use types.Kit.{Given, Item, ‵, raw, group, _⊛_, ⋆, _$_, _∵_, !, qed, by, move, keep, drop, use0, use1, split}
 use types.Kit.{join, fsplit, fjoin, feqL, suffices, frame, done}
 use types.Part.{agg, whole, sub, look-in}
-use types.Run.{look, init, forget, stop, hop, fld, from, load, lit, addr, of-opd, and-then, no-more, assigns}
+use types.Run.{look, init, forget, stop, hop, fld, from, load, addr, of-opd, and-then, no-more, assigns}
 use types.Run.{land, returns, enter, alloc1, alloc0, params1, pass1, pass0, free1, free0}
 use sound.WpLaws.{FmC, fmOf, WpFn-mono}
 use denote.RattleType.{RattleType, owns}
@@ -45,7 +45,7 @@ use denote.Enum.Laws as EL
 use Rattle.term_rules.specs.declared.Term.{Term}
 use Rattle.term_rules.proofs.Term as T
 use Rattle.term_rules.proofs.Term.Laws as T′
-use Rattle.lent.proofs.Lending.{ref, array-lent, array-back}
+use Rattle.lent.proofs.Lending.{ref, big-lit, array-lent, array-back}
 use Rattle.lent.proofs.ArrayLaws.{records-makes, records-typed}
 use Rattle.lent.proofs.Calling.{Of, calls-changing, calls-any}
 use Rattle.lent_terms.proofs.add_variable as wrk
@@ -74,14 +74,14 @@ abbrev Entry : RattleType
 Entry = Array u8 32
 
 abbrev Records : RattleType
-Records = Array T.the-row 40
+Records = Array T.the-row 1024
 
 abbrev term-vals : Term → List Val
 term-vals t = T′.lowered t ∷ []
 
 abbrev stayed : Stays (it.ended .signature .params) (it.ended .kept)
 stayed = (
-  stay-dropped (arrayOf (plain (λ _. T.the-row)) 40) yes,
+  stay-dropped (arrayOf (plain (λ _. T.the-row)) 1024) yes,
   (
     gave-slice (0 ∷ []) tt (arrayOf (plain (λ _. u8))
         32),
@@ -173,7 +173,7 @@ module _ {M : Type 1} (𝓤 : URA M) (H : Heap 𝓤) (A : Atoms 𝓤) (W : Given
         ),
       ),
       (
-        (sliceVal (l, 0) 40 ∷ []),
+        (sliceVal (l, 0) 1024 ∷ []),
         (
           (v-ns ∷ []),
           (
@@ -193,7 +193,7 @@ module _ {M : Type 1} (𝓤 : URA M) (H : Heap 𝓤) (A : Atoms 𝓤) (W : Given
   )
 
   abbrev Lent : ℕ → ℕ → GName → Fml
-  Lent l ν δ = MutSlice (named 0) (ν ∷ []) T.the-row .own (ref l 0 δ ts) (sliceVal (l, 0) 40 ∷ [])
+  Lent l ν δ = MutSlice (named 0) (ν ∷ []) T.the-row .own (ref l 0 δ ts) (sliceVal (l, 0) 1024 ∷ [])
 
   goes-lib :
       (l ν : ℕ) (δ : GName) →
@@ -214,7 +214,7 @@ module _ {M : Type 1} (𝓤 : URA M) (H : Heap 𝓤) (A : Atoms 𝓤) (W : Given
       (r : Added) (u : Val) (zs : List Term) (y : Val) → Is R.the-row r (u ∷ []) → Is Records zs (y ∷ []) →
       ent 𝓤 (emp 𝓤) (Aft .pre (to-aft r u zs y))
   goes-aft r u zs y isr isz =
-      qed W [] ∵ nothing ! $ owned ! Records (Is Records) (records-makes W 40) zs _ isz $ fjoin ! $
+      qed W [] ∵ nothing ! $ owned ! Records (Is Records) (records-makes W 1024) zs _ isz $ fjoin ! $
       owned ! R.the-row (Is R.the-row) (EL.makes R.the-type R′.the-plain 𝓤 H A) r _ isr $ fjoin ! $ nothing ! $
       join ! $ frame ! $ done !
 
@@ -277,7 +277,7 @@ module _ {M : Type 1} (𝓤 : URA M) (H : Heap 𝓤) (A : Atoms 𝓤) (W : Given
         v-terms ∷ v-symbols ∷ v-name ∷ []) _ $ alloc1 ! (λ l₀. alloc1 ! (λ l₁. alloc1 ! (λ l₂. alloc1 ! (λ l₃.
         alloc1 ! (λ l₄. alloc1 ! (λ l₅. alloc1 ! (λ l₆. alloc1 ! (λ l₇. alloc1 ! (λ l₈. alloc1 ! (λ l₉. alloc1
         ! (λ l₁₀. alloc1 ! (λ l₁₁. alloc1 ! (λ l₁₂. alloc0 ! $ params1 ! $ pass1 ! (init ! 22 refl
-        (records-typed W 40 ts _ is-ts)) $ pass1 ! (init ! 20 refl (tt, (tt, (record { fits = room-ns .0 }, tt)))) $
+        (records-typed W 1024 ts _ is-ts)) $ pass1 ! (init ! 20 refl (tt, (tt, (record { fits = room-ns .0 }, tt)))) $
         pass1 ! (init ! 18 refl (uint-lawful 𝓤 H A W w64 .typed terms _ is-terms .0)) $ pass1 ! (init ! 16 refl
         (uint-lawful 𝓤 H A W w64 .typed symbols _ is-symbols .0)) $ pass1 ! (init ! 14 refl (
           tt,
@@ -293,9 +293,10 @@ module _ {M : Type 1} (𝓤 : URA M) (H : Heap 𝓤) (A : Atoms 𝓤) (W : Given
         )) $ pass0 ! $ move ! (26 ∷ []) $ split ! $ move ! (1 ∷ []) $ split ! $ move
         ! (29 ∷ []) $ fsplit ! $ move ! (1 ∷ []) $ fsplit ! $ move ! (1 ∷ []) $ fsplit ! $ move ! (1 ∷ []) $
         fsplit ! $ move ! (1 ∷ []) $ fsplit ! $ assigns ! (of-opd ! (load ! (from ! (stop !)) (look ! 31
-        refl))) (from ! (stop !)) (init ! 21 refl (records-typed W 40 ts _ is-ts)) $ assigns ! (addr ! (from ! (stop
+        refl))) (from ! (stop !)) (init ! 21 refl (records-typed W 1024 ts _ is-ts)) $ assigns ! (addr ! (from ! (stop
         !))) (from ! (stop !)) (init ! 17 refl (tt, tt)) $ assigns ! (agg ! (and-then ! (load ! (from ! (stop
-        !)) (look ! 17 refl)) (and-then ! (lit ! tt) (no-more !)))) (from ! (stop !)) (init ! 15 refl (
+        !)) (look ! 17 refl)) (and-then ! (big-lit ! (record { fits = lit< tt })) (no-more !)))) (from ! (stop !))
+        (init ! 15 refl (
           tt,
           (
             tt,
@@ -309,7 +310,7 @@ module _ {M : Type 1} (𝓤 : URA M) (H : Heap 𝓤) (A : Atoms 𝓤) (W : Given
           (tt, (record { fits = room-ns .0 }, tt)),
         )) $
         -- the records are lent
-        move ! (21 ∷ []) $ array-lent ! tt T.the-row tt 40 l₆ (named 0) (records-makes W 40) (lit< tt, lit< tt) ts _
+        move ! (21 ∷ []) $ array-lent ! tt T.the-row tt 1024 l₆ (named 0) (records-makes W 1024) (lit< tt, lit< tt) ts _
         is-ts (λ ν δ. move ! (0 ∷ 11 ∷ 9 ∷ 1 ∷ 7 ∷ 3 ∷ []) $ group ! 6 $ use1 W (raw (Lib .pre (to-lib l₆ ν
         δ))) (goes-lib l₆ ν δ) $ calls-changing ! fm wrk.ended (wrk.clauses 𝓤 H A mem run) known-wrk (to-lib l₆
         ν δ) (λ r ws. LentAdded ts (ns .now) terms symbols (addVariable (lentStore ts (ns .now) terms symbols)
@@ -322,10 +323,10 @@ module _ {M : Type 1} (𝓤 : URA M) (H : Heap 𝓤) (A : Atoms 𝓤) (W : Given
         W (‵ (flft (ν ∷ []) fullShare) ⊛ ‵ (flft κ₀ q₀) ⊛ ‵ (flft κ₁ q₁) ⊛ ‵ ftrue) (id⊢ 𝓤 _) $ split ! $ move
         ! (1 ∷ []) $ split ! $ move ! (1 ∷ []) $ split ! $
         -- they are back
-        move ! (3 ∷ 10 ∷ 9 ∷ []) $ array-back ! tt T.the-row 40 l₆ term-vals (T′.lowers .val-is) (ws .0) (λ
+        move ! (3 ∷ 10 ∷ 9 ∷ []) $ array-back ! tt T.the-row 1024 l₆ term-vals (T′.lowers .val-is) (ws .0) (λ
         isz. land ! (from ! (stop !)) (init ! 24 refl (EL.lawful R.the-type R′.the-laws 𝓤 H A W tt .typed r _
         isr .0)) $ assigns ! (of-opd ! (load ! (from ! (stop !)) (look ! 0 refl))) (from ! (stop !)) (init ! 14
-        refl (records-typed W 40 (ws .0) _ isz)) $ use0 W (raw (Aft .pre (to-aft r u (ws .0) (only (array-vals
+        refl (records-typed W 1024 (ws .0) _ isz)) $ use0 W (raw (Aft .pre (to-aft r u (ws .0) (only (array-vals
         term-vals (ws .0)))))) (goes-aft r u (ws .0) (only (array-vals term-vals (ws .0))) isr isz) $ calls-any
         ! fm aft.ended (aft.clauses 𝓤 H A mem run) known-aft (to-aft r u (ws .0) (only (array-vals term-vals
         (ws .0)))) (and-then ! (load ! (from ! (stop !)) (look ! 25 refl)) (and-then ! (load ! (from ! (stop
@@ -349,7 +350,7 @@ module _ {M : Type 1} (𝓤 : URA M) (H : Heap 𝓤) (A : Atoms 𝓤) (W : Given
       walked 𝓤 H A it.ended stayed (it.clauses 𝓤 H A mem run) (WpFn 𝓤 H (𝓣 .C) (𝓣 .Λ) code.function)
       (λ κs. ((array-vals term-vals), (slice-vals, ((uint-vals w64), ((uint-vals w64), (slice-vals, tt))))))
       (λ κs. (
-        array-tells T.the-row term-vals (T′.lowers .val-is) 40,
+        array-tells T.the-row term-vals (T′.lowers .val-is) 1024,
         (
           mut-slice-tells (named 0) (κs .0) Entry,
           (uint-tells w64, (uint-tells w64, (shr-slice-tells (named 1) (κs .1 .0) u8, tt))),
@@ -363,7 +364,7 @@ module _ {M : Type 1} (𝓤 : URA M) (H : Heap 𝓤) (A : Atoms 𝓤) (W : Given
   meets : Meets 𝓤 H A it.signature (WpFn 𝓤 H (𝓣 .C) (𝓣 .Λ) code.function) (it.spec 𝓤 H A mem run)
   meets =
       walk-meets 𝓤 H A it.ended stayed W (
-        goes-dropped 𝓤 H A W 2 (arrayOf (plain (λ _. T.the-row)) 40) yes (λ κs x f. refl),
+        goes-dropped 𝓤 H A W 2 (arrayOf (plain (λ _. T.the-row)) 1024) yes (λ κs x f. refl),
         (
           goes-gave-slice 𝓤 H A
               W 2 0 tt (arrayOf (plain (λ _. u8)) 32),

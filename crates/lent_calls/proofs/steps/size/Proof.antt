@@ -20,7 +20,7 @@ use contract.Running.{givenOf, tables, tablesOf}
 use types.Kit.{Given, Item, ‵, raw, group, _⊛_, ⋆, _$_, _∵_, !, qed, by, move, keep, use1, split}
 use types.Kit.{join, fsplit, fjoin, suffices, frame, done}
 use types.Part.{agg}
-use types.Run.{look, init, forget, stop, from, load, lit, addr, of-opd, and-then, no-more, assigns}
+use types.Run.{look, init, forget, stop, from, load, addr, of-opd, and-then, no-more, assigns}
 use types.Run.{land, returns, enter, alloc1, alloc0, params1, pass1, pass0, free1, free0}
 use sound.WpLaws.{FmC, fmOf, WpFn-mono}
 use denote.RattleType.{RattleType, owns}
@@ -44,7 +44,7 @@ use denote.Enum.Laws as EL
 use Rattle.term_rules.specs.declared.Term.{Term}
 use Rattle.term_rules.proofs.Term as T
 use Rattle.term_rules.proofs.Term.Laws as T′
-use Rattle.lent.proofs.Lending.{ref, array-shown, array-unshown}
+use Rattle.lent.proofs.Lending.{ref, big-lit, array-shown, array-unshown}
 use Rattle.lent.proofs.ArrayLaws.{records-makes, records-typed}
 use Rattle.lent.proofs.Calling.{Of, calls-any}
 use Rattle.lent_terms.proofs.size as wrk
@@ -63,14 +63,14 @@ abbrev Entry : RattleType
 Entry = Array u8 32
 
 abbrev Records : RattleType
-Records = Array T.the-row 40
+Records = Array T.the-row 1024
 
 abbrev term-vals : Term → List Val
 term-vals t = T′.lowered t ∷ []
 
 abbrev stayed : Stays (it.ended .signature .params) (it.ended .kept)
 stayed = (
-  stay-dropped (arrayOf (plain (λ _. T.the-row)) 40) yes,
+  stay-dropped (arrayOf (plain (λ _. T.the-row)) 1024) yes,
   (
     stay-dropped (shrSliceOf (0 ∷ []) tt (arrayOf (plain
         (λ _. u8)) 32)) yes,
@@ -128,7 +128,7 @@ module _ {M : Type 1} (𝓤 : URA M) (H : Heap 𝓤) (A : Atoms 𝓤) (W : Given
       (ref l 0 δ ts, (ns, (terms, (symbols, tt)))),
       (
         (sliceVal
-            (l, 0) 40 ∷ []),
+            (l, 0) 1024 ∷ []),
         ((v-ns ∷ []), ((v-terms ∷ []), ((v-symbols ∷ []), tt))),
       ),
     ),
@@ -136,7 +136,7 @@ module _ {M : Type 1} (𝓤 : URA M) (H : Heap 𝓤) (A : Atoms 𝓤) (W : Given
   )
 
   abbrev Lent : ℕ → ℕ → GName → Fml
-  Lent l ν δ = ShrSlice (named 0) (ν ∷ []) T.the-row .own (ref l 0 δ ts) (sliceVal (l, 0) 40 ∷ [])
+  Lent l ν δ = ShrSlice (named 0) (ν ∷ []) T.the-row .own (ref l 0 δ ts) (sliceVal (l, 0) 1024 ∷ [])
 
   goes-lib :
       (l ν : ℕ) (δ : GName) →
@@ -185,17 +185,21 @@ module _ {M : Type 1} (𝓤 : URA M) (H : Heap 𝓤) (A : Atoms 𝓤) (W : Given
           ),
         ) at) ∷ []) ∵ enter ! C Λ code.function (v-ts ∷ v-ns ∷ v-terms ∷ v-symbols ∷ []) _ $
         alloc1 ! (λ l₀. alloc1 ! (λ l₁. alloc1 ! (λ l₂. alloc1 ! (λ l₃. alloc1 ! (λ l₄. alloc1 ! (λ l₅. alloc1
-        ! (λ l₆. alloc1 ! (λ l₇. alloc0 ! $ params1 ! $ pass1 ! (init ! 12 refl (records-typed W 40 ts _ is-ts)) $
+        ! (λ l₆. alloc1 ! (λ l₇. alloc0 ! $ params1 ! $ pass1 ! (init ! 12 refl (records-typed W 1024 ts _ is-ts)) $
         pass1 ! (init ! 10 refl (tt, (tt, (record { fits = room-ns .0 }, tt)))) $ pass1 ! (init ! 8 refl
         (uint-lawful 𝓤 H A W w64 .typed terms _ is-terms .0)) $ pass1 ! (init ! 6 refl (uint-lawful 𝓤 H A W w64
         .typed symbols _ is-symbols .0)) $ pass0 ! $ move ! (16 ∷ []) $ split ! $ move ! (18 ∷ []) $ fsplit ! $
         move ! (1 ∷ []) $ fsplit ! $ move ! (1 ∷ []) $ fsplit ! $ move ! (1 ∷ []) $ fsplit ! $ assigns !
-        (of-opd ! (load ! (from ! (stop !)) (look ! 19 refl))) (from ! (stop !)) (init ! 11 refl (records-typed W 40
+        (of-opd ! (load ! (from ! (stop !)) (look ! 19 refl))) (from ! (stop !)) (init ! 11 refl (records-typed W 1024
         ts _ is-ts)) $ assigns ! (addr ! (from ! (stop !))) (from ! (stop !)) (init ! 9 refl (tt, tt)) $
-        assigns ! (agg ! (and-then ! (load ! (from ! (stop !)) (look ! 9 refl)) (and-then ! (lit ! tt) (no-more
+        assigns ! (agg ! (and-then ! (load ! (from ! (stop !)) (look ! 9 refl)) (and-then ! (big-lit ! (record {
+          fits
+              = lit< tt;
+        })) (no-more
         !)))) (from ! (stop !)) (init ! 7 refl (tt, (tt, (record { fits = lit< tt }, tt)))) $
         -- the records are lent
-        move ! (11 ∷ []) $ array-shown ! tt T.the-row tt 40 l₅ (named 0) (records-makes W 40) (lit< tt, lit< tt) ts _
+        move ! (11 ∷ []) $ array-shown ! tt T.the-row tt 1024 l₅ (named 0) (records-makes W 1024) (lit< tt, lit< tt)
+        ts _
         is-ts (λ ν δ. move ! (0 ∷ 8 ∷ 1 ∷ 6 ∷ []) $ group ! 4 $ use1 W (raw (Lib .pre (to-lib l₅ ν δ)))
         (goes-lib l₅ ν δ) $ calls-any ! fm wrk.ended (wrk.clauses 𝓤 H A mem run) known-wrk (to-lib l₅ ν δ)
         (and-then ! (load ! (from ! (stop !)) (look ! 7 refl)) (and-then ! (load ! (from ! (stop !)) (look ! 16
@@ -203,7 +207,7 @@ module _ {M : Type 1} (𝓤 : URA M) (H : Heap 𝓤) (A : Atoms 𝓤) (W : Given
         (look ! 12 refl)) (no-more !))))) (λ u r isr. use1 W (‵ (flft (ν ∷ []) fullShare) ⊛ ‵ (flft κ₀ q₀) ⊛ ‵
         ftrue) (id⊢ 𝓤 _) $ split ! $ move ! (1 ∷ []) $ split ! $
         -- they are back
-        move ! (2 ∷ 3 ∷ []) $ array-unshown ! tt T.the-row 40 l₅ term-vals (T′.lowers .val-is) ts _ is-ts $
+        move ! (2 ∷ 3 ∷ []) $ array-unshown ! tt T.the-row 1024 l₅ term-vals (T′.lowers .val-is) ts _ is-ts $
         land ! (from ! (stop !)) (init ! 21 refl (EL.lawful R.the-type R′.the-laws 𝓤 H A W tt .typed r _ isr
         .0)) $ returns ! (look ! 21 refl) $ forget ! 8 refl $ forget ! 10 refl $ forget ! 0 refl $ forget ! 13
         refl $ forget ! 15 refl $ forget ! 17 refl $ forget ! 19 refl $ forget ! 21 refl $ move ! (21 ∷ 22 ∷
@@ -220,7 +224,7 @@ module _ {M : Type 1} (𝓤 : URA M) (H : Heap 𝓤) (A : Atoms 𝓤) (W : Given
       walked 𝓤 H A it.ended stayed (it.clauses 𝓤 H A mem run) (WpFn 𝓤 H (𝓣 .C) (𝓣 .Λ) code.function)
       (λ κs. ((array-vals term-vals), (slice-vals, ((uint-vals w64), ((uint-vals w64), tt)))))
       (λ κs. (
-        array-tells T.the-row term-vals (T′.lowers .val-is) 40,
+        array-tells T.the-row term-vals (T′.lowers .val-is) 1024,
         (
           shr-slice-tells (named 0) (κs .0) Entry,
           (uint-tells w64, (uint-tells w64, tt)),
@@ -233,7 +237,7 @@ module _ {M : Type 1} (𝓤 : URA M) (H : Heap 𝓤) (A : Atoms 𝓤) (W : Given
   meets : Meets 𝓤 H A it.signature (WpFn 𝓤 H (𝓣 .C) (𝓣 .Λ) code.function) (it.spec 𝓤 H A mem run)
   meets =
       walk-meets 𝓤 H A it.ended stayed W (
-        goes-dropped 𝓤 H A W 1 (arrayOf (plain (λ _. T.the-row)) 40) yes (λ κs x f. refl),
+        goes-dropped 𝓤 H A W 1 (arrayOf (plain (λ _. T.the-row)) 1024) yes (λ κs x f. refl),
         (
           goes-dropped 𝓤 H A W 1
               (shrSliceOf (0 ∷ []) tt (arrayOf (plain (λ _. u8)) 32)) yes (λ κs x f. refl),

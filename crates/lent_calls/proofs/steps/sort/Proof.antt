@@ -20,7 +20,7 @@ use contract.Running.{givenOf, tables, tablesOf}
 use types.Kit.{Given, Item, ‵, raw, group, _⊛_, ⋆, _$_, _∵_, !, qed, by, move, keep, use1, split}
 use types.Kit.{join, fsplit, fjoin, feqL, suffices, frame, done}
 use types.Part.{agg, whole, sub, look-in}
-use types.Run.{look, init, forget, stop, hop, fld, from, load, lit, addr, of-opd, and-then, no-more, assigns}
+use types.Run.{look, init, forget, stop, hop, fld, from, load, addr, of-opd, and-then, no-more, assigns}
 use types.Run.{land, returns, enter, alloc1, alloc0, params1, pass1, pass0, free1, free0}
 use sound.WpLaws.{FmC, fmOf, WpFn-mono}
 use denote.RattleType.{RattleType, owns}
@@ -44,7 +44,7 @@ use denote.Enum.Laws as EL
 use Rattle.term_rules.specs.declared.Term.{Term}
 use Rattle.term_rules.proofs.Term as T
 use Rattle.term_rules.proofs.Term.Laws as T′
-use Rattle.lent.proofs.Lending.{ref, array-shown, array-unshown}
+use Rattle.lent.proofs.Lending.{ref, big-lit, array-shown, array-unshown}
 use Rattle.lent.proofs.ArrayLaws.{records-makes, records-typed}
 use Rattle.lent.proofs.Calling.{Of, calls-changing}
 use Rattle.lent_terms.proofs.sort as wrk
@@ -66,14 +66,14 @@ abbrev Entry : RattleType
 Entry = Array u8 32
 
 abbrev Records : RattleType
-Records = Array T.the-row 40
+Records = Array T.the-row 1024
 
 abbrev term-vals : Term → List Val
 term-vals t = T′.lowered t ∷ []
 
 abbrev stayed : Stays (it.ended .signature .params) (it.ended .kept)
 stayed = (
-  stay-dropped (arrayOf (plain (λ _. T.the-row)) 40) yes,
+  stay-dropped (arrayOf (plain (λ _. T.the-row)) 1024) yes,
   (
     stay-dropped (shrSliceOf (0 ∷ []) tt (arrayOf (plain
         (λ _. u8)) 32)) yes,
@@ -158,7 +158,7 @@ module _ {M : Type 1} (𝓤 : URA M) (H : Heap 𝓤) (A : Atoms 𝓤) (W : Given
         ),
       ),
       (
-        (sliceVal (l, 0) 40 ∷ []),
+        (sliceVal (l, 0) 1024 ∷ []),
         (
           (v-ns ∷ []),
           (
@@ -178,7 +178,7 @@ module _ {M : Type 1} (𝓤 : URA M) (H : Heap 𝓤) (A : Atoms 𝓤) (W : Given
   )
 
   abbrev Lent : ℕ → ℕ → GName → Fml
-  Lent l ν δ = ShrSlice (named 0) (ν ∷ []) T.the-row .own (ref l 0 δ ts) (sliceVal (l, 0) 40 ∷ [])
+  Lent l ν δ = ShrSlice (named 0) (ν ∷ []) T.the-row .own (ref l 0 δ ts) (sliceVal (l, 0) 1024 ∷ [])
 
   goes-lib :
       (l ν : ℕ) (δ : GName) →
@@ -247,16 +247,16 @@ module _ {M : Type 1} (𝓤 : URA M) (H : Heap 𝓤) (A : Atoms 𝓤) (W : Given
         u64 ∷ []) (ts, (ns, (terms, (symbols, (list, tt))))) at) ∷ []) ∵ enter ! C Λ code.function (v-ts ∷ v-ns
         ∷ v-terms ∷ v-symbols ∷ v-list ∷ []) _ $ alloc1 ! (λ l₀. alloc1 ! (λ l₁. alloc1 ! (λ l₂. alloc1 ! (λ
         l₃. alloc1 ! (λ l₄. alloc1 ! (λ l₅. alloc1 ! (λ l₆. alloc1 ! (λ l₇. alloc1 ! (λ l₈. alloc1 ! (λ l₉.
-        alloc1 ! (λ l₁₀. alloc0 ! $ params1 ! $ pass1 ! (init ! 18 refl (records-typed W 40 ts _ is-ts)) $ pass1 !
+        alloc1 ! (λ l₁₀. alloc0 ! $ params1 ! $ pass1 ! (init ! 18 refl (records-typed W 1024 ts _ is-ts)) $ pass1 !
         (init ! 16 refl (tt, (tt, (record { fits = room-ns .0 }, tt)))) $ pass1 ! (init ! 14 refl (uint-lawful
         𝓤 H A W w64 .typed terms _ is-terms .0)) $ pass1 ! (init ! 12 refl (uint-lawful 𝓤 H A W w64 .typed
         symbols _ is-symbols .0)) $ pass1 ! (init ! 10 refl (tt, (tt, (record { fits = room-list .0 }, tt)))) $
         pass0 ! $ move ! (22 ∷ []) $ split ! $ move ! (1 ∷ []) $ split ! $ move ! (25 ∷ []) $ fsplit ! $ move !
         (1 ∷ []) $ fsplit ! $ move ! (1 ∷ []) $ fsplit ! $ move ! (1 ∷ []) $ fsplit ! $ move ! (1 ∷ []) $
         fsplit ! $ assigns ! (of-opd ! (load ! (from ! (stop !)) (look ! 27 refl))) (from ! (stop !)) (init !
-        17 refl (records-typed W 40 ts _ is-ts)) $ assigns ! (addr ! (from ! (stop !))) (from ! (stop !)) (init ! 15
+        17 refl (records-typed W 1024 ts _ is-ts)) $ assigns ! (addr ! (from ! (stop !))) (from ! (stop !)) (init ! 15
         refl (tt, tt)) $ assigns ! (agg ! (and-then ! (load ! (from ! (stop !)) (look ! 15 refl)) (and-then !
-        (lit ! tt) (no-more !)))) (from ! (stop !)) (init ! 13 refl (
+        (big-lit ! (record { fits = lit< tt })) (no-more !)))) (from ! (stop !)) (init ! 13 refl (
           tt,
           (
             tt,
@@ -279,7 +279,8 @@ module _ {M : Type 1} (𝓤 : URA M) (H : Heap 𝓤) (A : Atoms 𝓤) (W : Given
           ),
         )) $
         -- the records are lent
-        move ! (17 ∷ []) $ array-shown ! tt T.the-row tt 40 l₆ (named 0) (records-makes W 40) (lit< tt, lit< tt) ts _
+        move ! (17 ∷ []) $ array-shown ! tt T.the-row tt 1024 l₆ (named 0) (records-makes W 1024) (lit< tt, lit< tt)
+        ts _
         is-ts (λ ν δ. move ! (0 ∷ 11 ∷ 9 ∷ 1 ∷ 7 ∷ 3 ∷ []) $ group ! 6 $ use1 W (raw (Lib .pre (to-lib l₆ ν
         δ))) (goes-lib l₆ ν δ) $ calls-changing ! fm wrk.ended (wrk.clauses 𝓤 H A mem run) known-wrk (to-lib l₆
         ν δ) (λ r ws. seenSort r (ws .1 .1 .1 .1 .0) ≡ sortTerms (lentStore ts (ns .now) terms symbols) (list
@@ -291,7 +292,7 @@ module _ {M : Type 1} (𝓤 : URA M) (H : Heap 𝓤) (A : Atoms 𝓤) (W : Given
         move ! (6 ∷ []) $ use1 W (‵ (flft (ν ∷ []) fullShare) ⊛ ‵ (flft κ₀ q₀) ⊛ ‵ (flft κ₁ q₁) ⊛ ‵ ftrue) (id⊢
         𝓤 _) $ split ! $ move ! (1 ∷ []) $ split ! $ move ! (1 ∷ []) $ split ! $
         -- they are back
-        move ! (3 ∷ 10 ∷ []) $ array-unshown ! tt T.the-row 40 l₆ term-vals (T′.lowers .val-is) ts _ is-ts $
+        move ! (3 ∷ 10 ∷ []) $ array-unshown ! tt T.the-row 1024 l₆ term-vals (T′.lowers .val-is) ts _ is-ts $
         land ! (from ! (stop !)) (init ! 34 refl (EL.lawful R.the-type R′.the-laws 𝓤 H A W tt .typed r _ isr
         .0)) $ returns ! (look ! 34 refl) $ forget ! 15 refl $ forget ! 17 refl $ forget ! 19 refl $ forget !
         21 refl $ forget ! 0 refl $ forget ! 24 refl $ forget ! 26 refl $ forget ! 28 refl $ forget ! 30 refl $
@@ -310,7 +311,7 @@ module _ {M : Type 1} (𝓤 : URA M) (H : Heap 𝓤) (A : Atoms 𝓤) (W : Given
       walked 𝓤 H A it.ended stayed (it.clauses 𝓤 H A mem run) (WpFn 𝓤 H (𝓣 .C) (𝓣 .Λ) code.function)
       (λ κs. ((array-vals term-vals), (slice-vals, ((uint-vals w64), ((uint-vals w64), (slice-vals, tt))))))
       (λ κs. (
-        array-tells T.the-row term-vals (T′.lowers .val-is) 40,
+        array-tells T.the-row term-vals (T′.lowers .val-is) 1024,
         (
           shr-slice-tells (named 0) (κs .0) Entry,
           (uint-tells w64, (uint-tells w64, (mut-slice-tells (named 1) (κs .1 .0) u64, tt))),
@@ -324,7 +325,7 @@ module _ {M : Type 1} (𝓤 : URA M) (H : Heap 𝓤) (A : Atoms 𝓤) (W : Given
   meets : Meets 𝓤 H A it.signature (WpFn 𝓤 H (𝓣 .C) (𝓣 .Λ) code.function) (it.spec 𝓤 H A mem run)
   meets =
       walk-meets 𝓤 H A it.ended stayed W (
-        goes-dropped 𝓤 H A W 2 (arrayOf (plain (λ _. T.the-row)) 40) yes (λ κs x f. refl),
+        goes-dropped 𝓤 H A W 2 (arrayOf (plain (λ _. T.the-row)) 1024) yes (λ κs x f. refl),
         (
           goes-dropped 𝓤 H A W 2
               (shrSliceOf (0 ∷ []) tt (arrayOf (plain (λ _. u8)) 32)) yes (λ κs x f. refl),
