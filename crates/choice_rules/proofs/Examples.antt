@@ -27,7 +27,7 @@ pub record Told : Type 0 where
 unfoldable pub told : List Row → ℕ → ℕ → Told
 told rows n c =
     let r = run M rows n in
-    record { answer = answerOf M (r .state) c; edge = edgeOf M (r .state) rows c; passes = r .passes }
+    record { answer = answerOf M (r .state .costs) (r .state .ranks) c; edge = edgeOf M (r .state .costs) (r .state .ranks) rows c; passes = r .passes }
 
 -- Wrap(0)->0 cost 0, then Leaf()->0
 abbrev wrap-leaf : List Row
