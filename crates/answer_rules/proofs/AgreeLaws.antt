@@ -1,10 +1,9 @@
 -- Two plans that agree on every class with a rank build the same. Assumes nothing.
-use mathlib.Core.Path.{_≡_, refl, ap, sym, _∙_}
-use mathlib.Core.Bool.{Bool, true, false}
+use mathlib.Core.Path.{_≡_, refl, ap, _∙_}
+use mathlib.Core.Bool.{true, false}
 use mathlib.Core.List.{List, [], _∷_, _++_}
 use Prim.Native.Nat.{ℕ, zero, suc, _-_, _<_}
 use lib.Dec.{ltb}
-use lib.IntN.{ℤ}
 use lib.ListN.{getD}
 use Rattle.build.specs.Plan.{Child, class, value, Plan}
 use Rattle.build.specs.Building.{State, Out, done, full, childIn, childrenIn, ownIn, buildIn}

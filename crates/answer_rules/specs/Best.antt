@@ -4,22 +4,21 @@ use mathlib.Core.List.{List}
 use Prim.Native.Nat.{ℕ}
 use lib.Dec.{eqb}
 use Rattle.refusal.specs.declared.Refusal.the-variants.{BadRoot, NoTerm, TooDear, NoRoom, BadStore}
-use Rattle.bits.specs.Got.{Got, got, refused as fault}
+use Rattle.bits.specs.Got.{got, refused as fault}
 use Rattle.term_rules.specs.Lent.{Store, store}
 use Rattle.term_rules.specs.WellFormed.{wellFormed}
 use Rattle.term_rules.specs.Nodes.{literal}
 use Rattle.term_rules.specs.Adding.{Adds, at, noRoom, add}
 use Rattle.choice_rules.specs.Answer.{Answer, noTerm, tooDear, best}
 use Rattle.build.specs.Whole.{Left, whole}
-use Rattle.build.specs.declared.Built.{Built}
 use Rattle.build.specs.declared.Built.the-variants.{Done, Full}
 use Rattle.file_rules.specs.Table.{Table}
 use Rattle.file_rules.specs.File.{tableAt}
 use Rattle.table_rules.specs.Rules.Classes.{sortOf, flatClass, isRoot}
 use Rattle.table_rules.specs.Rules.Terms.{literalOf}
-use Rattle.table_rules.specs.Rules.Choosing.{runOf, answerFor}
+use Rattle.table_rules.specs.Rules.Choosing.{Prices, answerFor, runOf, pricesFor}
 use Rattle.answer_rules.specs.Answers.{After, found, refused}
-use Rattle.answer_rules.specs.Plan.{planFor, rankFor}
+use Rattle.answer_rules.specs.Plan.{planFor, orderFor}
 
 -- "costs, chosen terms ..; the answer carries the number of passes"
 pub record BestTerm : Type 0 where
@@ -43,19 +42,21 @@ bestBuilt w p s l =
       | Full ↦ refused NoRoom s
     ]
 
--- "11, 12, 13": by what the run says of the class.
-unfoldable pub bestClass : Table → ℕ → ℕ → Store → Answer → After BestTerm
-bestClass t root c s noTerm = refused NoTerm s
-bestClass t root c s tooDear = refused TooDear s
-bestClass t root c s (best w) =
-    bestBuilt w (runOf t root .passes) s (whole (planFor t root) (rankFor t root c) s c)
+-- "11, 12, 13": by what the prices say of the class; n is the number of passes.
+unfoldable pub bestClass : Table → Prices → ℕ → ℕ → Store → Answer → After BestTerm
+bestClass t p n c s noTerm = refused NoTerm s
+bestClass t p n c s tooDear = refused TooDear s
+bestClass t p n c s (best w) = bestBuilt w n s (whole (planFor t p) (orderFor p c) s c)
 
--- Of an accepted table, a root and a well-formed store: a base root is a literal, an eq root a class.
+-- Of an accepted table, a root and a well-formed store: a base root is a literal, an eq root a class at the run's
+-- prices.
 unfoldable pub bestOf : Table → ℕ → ℕ → Store → After BestTerm
 bestOf t root v s =
     elim (eqb (sortOf t root .kind) 0) [
       | true ↦ bestLiteral s (add s (literal (literalOf t v)))
-      | false ↦ bestClass t root (flatClass t root v) s (answerFor t root (flatClass t root v))
+      | false ↦
+          bestClass t (pricesFor t root) (runOf t root .passes) (flatClass t root v) s
+          (answerFor (pricesFor t root) (flatClass t root v))
     ]
 
 -- "Best and variants: file, 10, 17, 11, 12, 13."

@@ -8,60 +8,61 @@ use lib.Seq.{paste}
 use Rattle.refusal.specs.declared.Refusal.{Refusal}
 use Rattle.refusal.specs.declared.Refusal.the-variants.{BadRoot, TooDear, NoRoom, BadStore}
 use Rattle.refusal.specs.Numbers.{refusalNo}
-use Rattle.bits.specs.Got.{Got, got, refused as fault}
+use Rattle.bits.specs.Got.{got, refused as fault}
 use Rattle.order.specs.Sort.{sorted}
 use Rattle.term_rules.specs.Lent.{Store}
 use Rattle.term_rules.specs.WellFormed.{wellFormed}
 use Rattle.term_rules.specs.Nodes.{literal, application}
 use Rattle.term_rules.specs.Adding.{Adds, at, noRoom, add}
-use Rattle.choice_rules.specs.Rows.{Row, rowAt}
+use Rattle.choice_rules.specs.Rows.{Row, rowAt, sumOf}
 use Rattle.choice_rules.specs.Run.{rowPriced, rowCost}
+use Rattle.choice_rules.specs.Demand.Orders.{inOrder}
 use Rattle.table_rules.specs.Order.{picked}
-use Rattle.build.specs.Plan.{Plan}
 use Rattle.build.specs.Building.{State, state, Out, done, full, added, childrenIn, buildIn}
 use Rattle.variant_order.specs.Keys.{Key, noLater}
 use Rattle.file_rules.specs.Table.{Table}
 use Rattle.file_rules.specs.File.{tableAt}
 use Rattle.table_rules.specs.Rules.Classes.{sortOf, flatClass, isRoot}
-use Rattle.table_rules.specs.Rules.Rows.{tableRowOf}
-use Rattle.table_rules.specs.Rules.Order.{scanOrder, scanned}
+use Rattle.table_rules.specs.Rules.Rows.{tableRowOf, tableRows}
 use Rattle.table_rules.specs.Rules.Terms.{literalOf, nameOf}
-use Rattle.table_rules.specs.Rules.Choosing.{limit, runOf}
+use Rattle.table_rules.specs.Rules.Choosing.{limit, Prices, runOf, pricesFor}
 use Rattle.answer_rules.specs.Answers.{Answer, value, refusal}
 use Rattle.answer_rules.specs.Plan.{planChildren, planFor}
 
--- Row i of the scan order, as a row of the file.
-abbrev pub fileRow : Table → ℕ → ℕ → ℕ
-fileRow t root i = getD (scanOrder t root) i 0
+-- The rows that count, in scan order, and row i of them as a row of the file.
+abbrev pub rowsFor : Table → Prices → List Row
+rowsFor t p = inOrder (tableRows t) (p .order)
 
--- The cost of row i of the scan order once the run has ended.
-unfoldable pub costFor : Table → ℕ → ℕ → ℕ
-costFor t root i = rowCost limit (runOf t root .state .costs) (rowAt (scanned t root) i)
+abbrev pub fileRow : Prices → ℕ → ℕ
+fileRow p i = getD (p .order) i 0
+
+-- The cost of row i of the scan order.
+unfoldable pub costFor : Table → Prices → ℕ → ℕ
+costFor t p i = rowCost limit (p .costs) (rowAt (rowsFor t p) i)
 
 -- "every usable row of it with a cost": row i is one of class c.
-unfoldable pub isVariant : Table → ℕ → ℕ → ℕ → Bool
-isVariant t root c i =
-    eqb (rowAt (scanned t root) i .output) c && rowPriced (runOf t root .state .ranks) (rowAt (scanned t root) i)
+unfoldable pub isVariant : Table → Prices → ℕ → ℕ → Bool
+isVariant t p c i = eqb (rowAt (rowsFor t p) i .output) c && rowPriced (p .orders) (rowAt (rowsFor t p) i)
 
-unfoldable pub variantRows : Table → ℕ → ℕ → List ℕ
-variantRows t root c = picked (isVariant t root c) 0 (length (scanned t root))
+unfoldable pub variantRows : Table → Prices → ℕ → List ℕ
+variantRows t p c = picked (isVariant t p c) 0 (length (rowsFor t p))
 
 -- What variants are sorted by.
-unfoldable pub keyFor : Table → ℕ → ℕ → Key
-keyFor t root i = record {
-  cost = costFor t root i;
-  name = nameOf t (fileRow t root i);
-  cells = tableRowOf t (fileRow t root i) .cells;
+unfoldable pub keyFor : Table → Prices → ℕ → Key
+keyFor t p i = record {
+  cost = costFor t p i;
+  name = nameOf t (fileRow p i);
+  cells = tableRowOf t (fileRow p i) .cells;
 }
 
 -- "sorted by cost, function name bytes, row cells ..., then the first n"
-unfoldable pub keptRows : Table → ℕ → ℕ → ℕ → List ℕ
-keptRows t root c n = take n (sorted (noLater (keyFor t root)) (variantRows t root c))
+unfoldable pub keptRows : Table → Prices → ℕ → ℕ → List ℕ
+keptRows t p c n = take n (sorted (noLater (keyFor t p)) (variantRows t p c))
 
 -- "TooDear: .. variants: a kept one costs 2^64-1 after saturation"
-unfoldable pub anyDear : Table → ℕ → List ℕ → Bool
-anyDear t root [] = false
-anyDear t root (i ∷ rows) = leb limit (costFor t root i) || anyDear t root rows
+unfoldable pub anyDear : Table → Prices → List ℕ → Bool
+anyDear t p [] = false
+anyDear t p (i ∷ rows) = leb limit (costFor t p i) || anyDear t p rows
 
 -- A row's own term over its children's.
 unfoldable pub ownVariant : List ℕ → Out (List ℕ) → Out ℕ
@@ -69,17 +70,17 @@ ownVariant name (done ks s) = added s (add (s .lent) (application name ks))
 ownVariant name (full me rs ls ns) = full me rs ls ns
 
 -- The term of a row: its children first, each class by its best term, then the term itself. f bounds the depth.
-unfoldable pub variantIn : Table → ℕ → ℕ → State → ℕ → Out ℕ
-variantIn t root f s i =
-    ownVariant (nameOf t (fileRow t root i))
-    (childrenIn (buildIn (planFor t root) f) s [] (planChildren t (fileRow t root i)))
+unfoldable pub variantIn : Table → Prices → ℕ → State → ℕ → Out ℕ
+variantIn t p f s i =
+    ownVariant (nameOf t (fileRow p i))
+    (childrenIn (buildIn (planFor t p) f) s [] (planChildren t (fileRow p i)))
 
 -- The terms of rows in turn, after those that have the numbers ts.
-unfoldable pub variantsIn : Table → ℕ → ℕ → State → List ℕ → List ℕ → Out (List ℕ)
-variantsIn t root f s ts [] = done ts s
-variantsIn t root f s ts (i ∷ rows) =
-    elim (variantIn t root f s i) [
-      | done u s′ ↦ variantsIn t root f s′ (ts ++ (u ∷ [])) rows
+unfoldable pub variantsIn : Table → Prices → ℕ → State → List ℕ → List ℕ → Out (List ℕ)
+variantsIn t p f s ts [] = done ts s
+variantsIn t p f s ts (i ∷ rows) =
+    elim (variantIn t p f s i) [
+      | done u s′ ↦ variantsIn t p f s′ (ts ++ (u ∷ [])) rows
       | full me rs ls ns ↦ full me rs ls ns
     ]
 
@@ -127,29 +128,35 @@ variantLiteral l (at i s) =
     ]
 variantLiteral l noRoom = variantsRefused NoRoom l
 
-unfoldable pub variantsBuilt : Table → ℕ → Lending → List ℕ → Out (List ℕ) → VariantsAfter
-variantsBuilt t root l rows (done ts s) = variantsKept l (map (costFor t root) rows) ts (runOf t root .passes) (s .lent)
-variantsBuilt t root l rows (full me rs ls ns) = variantsRefused NoRoom l
+unfoldable pub variantsBuilt : Table → Prices → ℕ → Lending → List ℕ → Out (List ℕ) → VariantsAfter
+variantsBuilt t p n l rows (done ts s) = variantsKept l (map (costFor t p) rows) ts n (s .lent)
+variantsBuilt t p n l rows (full me rs ls ns) = variantsRefused NoRoom l
 
--- "12, 13" of the rows that are kept.
-unfoldable pub variantsOfRows : Table → ℕ → Lending → List ℕ → VariantsAfter
-variantsOfRows t root l rows =
-    elim (anyDear t root rows) [
+-- A depth that is enough for every class: above each order number.
+abbrev pub depthFor : Prices → ℕ
+depthFor p = suc (sumOf (λ (x : ℕ). x) (p .orders))
+
+-- "12, 13" of the rows that are kept; n is the number of passes.
+unfoldable pub variantsOfRows : Table → Prices → ℕ → Lending → List ℕ → VariantsAfter
+variantsOfRows t p n l rows =
+    elim (anyDear t p rows) [
       | true ↦ variantsRefused TooDear l
       | false ↦ elim (roomForResults l (length rows)) [
         | false ↦ variantsRefused NoRoom l
         | true ↦
-            variantsBuilt t root l rows
-            (variantsIn t root (suc (runOf t root .state .last)) (state (replicate 512 0) (l .store)) [] rows)
+            variantsBuilt t p n l rows
+            (variantsIn t p (depthFor p) (state (replicate 512 0) (l .store)) [] rows)
       ]
     ]
 
--- Of an accepted table, a root and a well-formed store.
+-- Of an accepted table, a root and a well-formed store, at the run's prices.
 unfoldable pub variantsOf : Table → ℕ → ℕ → ℕ → Lending → VariantsAfter
 variantsOf t root v n l =
     elim (eqb (sortOf t root .kind) 0) [
       | true ↦ variantLiteral l (add (l .store) (literal (literalOf t v)))
-      | false ↦ variantsOfRows t root l (keptRows t root (flatClass t root v) n)
+      | false ↦
+          variantsOfRows t (pricesFor t root) (runOf t root .passes) l
+          (keptRows t (pricesFor t root) (flatClass t root v) n)
     ]
 
 -- "Best and variants: file, 10, 17, 11, 12, 13."

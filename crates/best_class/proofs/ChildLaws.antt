@@ -1,17 +1,15 @@
 -- The children of a table's rows: as child numbers, as the builder's children, and in range. Assumes nothing.
 use mathlib.Core.Path.{_≡_, refl, ap, sym, _∙_, subst}
-use mathlib.Core.Bool.{Bool, true, false, cond}
 use mathlib.Core.List.{List, [], _∷_, map}
-use Prim.Native.Nat.{ℕ, zero, suc, _-_, _+_, _<_, _≤_}
+use Prim.Native.Nat.{ℕ, suc, _-_, _+_, _<_, _≤_}
 use native.Mathlib.Omega.{arith}
-use borrow.Author.Tests.{ltb-true, ltb-false, eqb-true, eqb-false, lt-ltb, le-ltb}
 use lib.Dec.{ltb, eqb}
 use lib.IntN.{ℤ, pos}
 use lib.ListN.{length, getD}
 use Rattle.order.proofs.OrderLaws.{cases}
-use Rattle.choice_rules.specs.Rows.{Child, literal, class, Row, rowAt, childAt}
+use Rattle.choice_rules.specs.Rows.{Child, literal, class, rowAt, childAt}
 use Rattle.price_passes.specs.Flat.{childOf as flatChild}
-use Rattle.build.specs.Plan.{Child as PlanChild, class as planClass, value, childOf as planNumber}
+use Rattle.build.specs.Plan.{value, childOf as planNumber}
 use Rattle.file_rules.specs.Table.{Table}
 use Rattle.table_rules.specs.Rules.Classes.{sortOf, childOf, rangeOf}
 use Rattle.table_rules.specs.Rules.Rows.{functionOf, tableRowOf, tableRows}
@@ -31,7 +29,7 @@ childOf-in t s v h =
     cases (eqb (sortOf t s .kind) 0)
     (λ e. rw (e, childOf) (rw (e, rangeOf) at h)) (λ e. rw (e, childOf) tt)
 
-module _ (t : Table) (k : Known t) (root : ℕ) (h : root < length (t .sorts)) where
+module _ (t : Table) (k : Known t) where
   pub row-children-in :
       (r : ℕ) →
       r < length (t .rows) →
@@ -39,8 +37,8 @@ module _ (t : Table) (k : Known t) (root : ℕ) (h : root < length (t .sorts)) w
       j < length (rowAt (tableRows t) r .children) →
       InTable t (childAt (rowAt (tableRows t) r) j)
   row-children-in r l j m =
-      let a : j < arityOf t r = omega (arith, m, children-length t k root h r l) in
-      subst (InTable t) (sym (child-get t k root h r l j a))
+      let a : j < arityOf t r = omega (arith, m, children-length t k r l) in
+      subst (InTable t) (sym (child-get t k r l j a))
       (childOf-in t (getD (functionOf t (tableRowOf t r .function) .arguments) j 0) (getD (tableRowOf t r .cells) j 0)
       (k .argument-cell r j l a))
 

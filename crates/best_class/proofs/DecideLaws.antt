@@ -7,24 +7,21 @@ use lib.IntN.{ℤ}
 use lib.ListN.{length, getD}
 use Rattle.refusal.specs.declared.Refusal.the-variants.{NoTerm, TooDear, NoRoom}
 use Rattle.term_rules.specs.Lent.{Store, store}
-use Rattle.term_rules.specs.WellFormed.{wellFormed}
 use Rattle.choice_rules.specs.Run.{Run}
-use Rattle.choice_rules.specs.Answer.{Answer, noTerm, tooDear, best, answerOf}
+use Rattle.choice_rules.specs.Answer.{answerOf}
 use Rattle.choice_rules.proofs.AnswerLaws.{answer-when-unranked, answer-when-saturated, answer-when-below}
-use Rattle.price_passes.specs.Flat.{top, stateOf, ranTo}
-use Rattle.price.specs.Planning.{Priced}
+use Rattle.price_passes.specs.Flat.{stateOf, ranTo}
 use Rattle.price.specs.Solved.{Solved}
 use Rattle.build.specs.Plan.{planOf}
 use Rattle.build.specs.Building.{Out, done, full}
-use Rattle.build.specs.declared.Built.{Built}
 use Rattle.build.specs.declared.Built.the-variants.{Done, Full}
 use Rattle.build.specs.Whole.{Left, left, whole}
 use Rattle.file_rules.specs.Table.{Table}
 use Rattle.table_rules.specs.Rules.Classes.{classCount}
-use Rattle.table_rules.specs.Rules.Choosing.{limit, runOf, answerFor}
-use Rattle.answer_rules.specs.Answers.{After, found, refused}
-use Rattle.answer_rules.specs.Best.{BestTerm, bestTerm, bestBuilt, bestClass}
-use Rattle.answer_rules.specs.Plan.{planFor, rankFor}
+use Rattle.table_rules.specs.Rules.Choosing.{limit, runOf, answerFor, pricesFor}
+use Rattle.answer_rules.specs.Answers.{found, refused}
+use Rattle.answer_rules.specs.Best.{bestTerm, bestBuilt, bestClass}
+use Rattle.answer_rules.specs.Plan.{planFor, orderFor}
 use Rattle.best_class.specs.Flat.{FlatTable}
 use Rattle.best_class.proofs.SolvedLaws.{run-is, whole-is}
 
@@ -55,16 +52,16 @@ module _
   ran = run-is t root outputs heads starts children order functions labels values v costs ranks marks known plan passes
       last long same w
 
-  answer-is : answerFor t root c ≡ answerOf limit (stateOf costs ranks last) c
+  answer-is : answerFor (pricesFor t root) c ≡ answerOf limit costs ranks c
   unfolding answerFor
-  answer-is = ap (λ (r : Run). answerOf limit (r .state) c) ran
+  answer-is = ap (λ (r : Run). answerOf limit (r .state .costs) (r .state .ranks) c) ran
 
-  pub decide-unranked : getD ranks c 0 ≡ 0 → refused NoTerm s ≡ bestClass t root c s (answerFor t root c)
+  pub decide-unranked : getD ranks c 0 ≡ 0 → refused NoTerm s ≡ bestClass t (pricesFor t root) (runOf t root .passes) c s (answerFor (pricesFor t root) c)
   unfolding bestClass
   decide-unranked z = rw (answer-is ∙ answer-when-unranked limit (stateOf costs ranks last) c z) refl
 
-  pub decide-dear : 0 < getD ranks c 0 → limit ≤ getD costs c 0 → refused TooDear s ≡ bestClass t root c s
-      (answerFor t root c)
+  pub decide-dear : 0 < getD ranks c 0 → limit ≤ getD costs c 0 → refused TooDear s ≡ bestClass t (pricesFor t root) (runOf t root .passes) c s
+      (answerFor (pricesFor t root) c)
   unfolding bestClass
   decide-dear z d = rw (answer-is ∙ answer-when-saturated limit (stateOf costs ranks last) c z d) refl
 
@@ -73,7 +70,7 @@ module _
     ranked = subst (λ (n : ℕ). 0 < n) (sym (w .planned .kept c b (record { ranked = z; below = d }))) z
 
     class-is :
-        bestClass t root c s (answerFor t root c)
+        bestClass t (pricesFor t root) (runOf t root .passes) c s (answerFor (pricesFor t root) c)
         ≡ bestBuilt (getD costs c 0) passes s (whole (planOf plan labels values) (getD known c 0) s c)
     unfolding bestClass
     class-is =
@@ -83,14 +80,14 @@ module _
         passes
         last long same w s c ranked)
         (ap
-        (λ (p : ℕ). bestBuilt (getD costs c 0) p s (whole (planFor t root) (rankFor t root c) s c))
+        (λ (p : ℕ). bestBuilt (getD costs c 0) p s (whole (planFor t (pricesFor t root)) (orderFor (pricesFor t root) c) s c))
         (ap (λ (r : Run). r .passes) ran)))
 
     pub decide-found :
         (i n m : ℕ) (rs : List ℕ) (ls : List ℤ) (ns : List ℕ) →
         record { answer = Done i n m; records = rs; literals = ls; names = ns }
         ≡ whole (planOf plan labels values) (getD known c 0) s c →
-        found (bestTerm (getD costs c 0) i passes) (store rs ls ns n m) ≡ bestClass t root c s (answerFor t root c)
+        found (bestTerm (getD costs c 0) i passes) (store rs ls ns n m) ≡ bestClass t (pricesFor t root) (runOf t root .passes) c s (answerFor (pricesFor t root) c)
     unfolding bestBuilt
     decide-found i n m rs ls ns e = ap (bestBuilt (getD costs c 0) passes s) e ∙ sym class-is
 
@@ -98,7 +95,7 @@ module _
         (rs : List ℕ) (ls : List ℤ) (ns : List ℕ) →
         record { answer = Full; records = rs; literals = ls; names = ns }
         ≡ whole (planOf plan labels values) (getD known c 0) s c →
-        refused NoRoom (store rs ls ns (s .terms) (s .symbols)) ≡ bestClass t root c s (answerFor t root c)
+        refused NoRoom (store rs ls ns (s .terms) (s .symbols)) ≡ bestClass t (pricesFor t root) (runOf t root .passes) c s (answerFor (pricesFor t root) c)
     unfolding bestBuilt whole
     decide-full rs ls ns e =
         ap (λ (x : Store). refused NoRoom x) (full-unchanged s _ rs ls ns e)

@@ -1,32 +1,31 @@
 -- A solved flat table has the plan of the table's own run. Assumes nothing.
 use mathlib.Core.Path.{_≡_, refl, ap, sym, _∙_, subst}
-use mathlib.Core.Bool.{true, false}
+use mathlib.Core.Bool.{true}
 use mathlib.Core.List.{List, [], _∷_, map}
 use Prim.Native.Nat.{ℕ, zero, suc, _+_, _*_, _-_, _<_, _≤_}
 use native.Mathlib.Omega.{arith}
 use native.Mathlib.Decide.{decLt}
 use borrow.Author.Tests.{lt-ltb, le-ltb}
-use lib.IntN.{ℤ, pos}
+use lib.IntN.{ℤ}
 use lib.ListN.{length, getD, take, drop, replicate, length-take, length-drop}
 use lib.Seq.{ext-getD, getD-take, getD-drop}
 use Rattle.name.specs.Name.{valid}
 use Rattle.name.specs.Entries.{nameAt, lengthAt}
 use Rattle.term_rules.specs.Lent.{Store}
 use Rattle.term_rules.specs.WellFormed.{wellFormed}
-use Rattle.choice_rules.specs.Rows.{Child, literal, class, Row, rowAt, childAt}
+use Rattle.choice_rules.specs.Rows.{Child, literal, Row, rowAt}
 use Rattle.choice_rules.specs.Run.{Run, run}
-use Rattle.choice_rules.specs.Edges.{edgeOf, edgesOf, Under}
+use Rattle.choice_rules.specs.Edges.{edgeOf}
 use Rattle.choice_rules.proofs.ListLaws.{tabulate-get}
-use Rattle.choice_rules.specs.Demand.Orders.{inOrder}
 use Rattle.choice_rules.proofs.Demand.OrderLaws.{map-length, map-get, inOrder-length, inOrder-get}
-use Rattle.price_passes.specs.Flat.{top, rowsOf, partOf, FlatOk, stateOf, ranTo, childOf as flatChild}
+use Rattle.price_passes.specs.Flat.{top, rowsOf, partOf, stateOf, ranTo, childOf as flatChild}
 use Rattle.price_passes.proofs.FlatLaws.{rows-length, rows-get}
 use Rattle.price.proofs.edges.EndLaws.{FlatEdge}
-use Rattle.price.specs.Planning.{Priced, PlansClass, Plans, edgeChildren}
+use Rattle.price.specs.Planning.{Priced, PlansClass, edgeChildren}
 use Rattle.price.proofs.plans.PlanLaws.{priced-dec}
 use Rattle.price.specs.Solved.{SolveReady, Solved}
 use Rattle.price.proofs.SolveLaws.{edge-found, plan-ready}
-use Rattle.build.specs.Plan.{Plan, planOf, childOf as planNumber, childrenOf as planNumbers}
+use Rattle.build.specs.Plan.{planOf, childOf as planNumber, childrenOf as planNumbers}
 use Rattle.build.specs.Building.{state, buildIn}
 use Rattle.build.specs.Ready.{Planned}
 use Rattle.build.specs.Whole.{left, whole, Ready}
@@ -35,12 +34,12 @@ use Rattle.table_rules.specs.Rules.Classes.{classCount}
 use Rattle.table_rules.specs.Rules.Rows.{tableRows, tableRowOf}
 use Rattle.table_rules.specs.Rules.Order.{scanOrder, scanned}
 use Rattle.table_rules.specs.Rules.Terms.{nameOf}
-use Rattle.table_rules.specs.Rules.Choosing.{limit, runOf, edgeFor, edgeRow}
-use Rattle.table_rules.specs.Rules.Facts.{Known}
-use Rattle.table_rules.proofs.Rules.CoverLaws.{scanned-below}
-use Rattle.answer_rules.specs.Plan.{planChild, planChildren, planFor, rankFor}
+use Rattle.table_rules.specs.Rules.Choosing.{runOf, edgeFor, edgeRow, pricesFor}
+use Rattle.table_rules.proofs.Rules.CoverLaws.{ReachedClass, scanned-below}
+use Rattle.table_rules.proofs.Rules.AnswerLaws.{run-true}
+use Rattle.answer_rules.specs.Plan.{planChild, planChildren, planFor, orderFor, costOf}
 use Rattle.answer_rules.proofs.AgreeLaws.{Agree, buildIn-agrees}
-use Rattle.answer_rules.proofs.PlanLaws.{costOf, buildRank, buildRank-below, buildRank-unranked, buildRank-dear, plan-ranked}
+use Rattle.answer_rules.proofs.PlanLaws.{buildRank, buildRank-below, buildRank-unranked, buildRank-dear, plan-ranked}
 use Rattle.best_class.specs.Flat.{FlatTable}
 use Rattle.best_class.proofs.ChildLaws.{InTable, row-children-in, number-children}
 
@@ -110,7 +109,7 @@ module _
       subst (InTable t)
       (sym (ap (λ (x : List Child). getD x j (literal 0)) e)
       ∙ map-get flatChild (partOf starts children i) j 0 (literal 0) l)
-      (row-children-in t (v .known) root (v .root-below) (getD order i 0) (order-below i h) j m)
+      (row-children-in t (v .known) (getD order i 0) (order-below i h) j m)
 
   module _
       (costs ranks marks known plan : List ℕ) (passes last : ℕ) (long : length ranks ≡ classCount t)
@@ -126,10 +125,10 @@ module _
       unfolding edgeFor
       mark-is c h =
           ap (λ (x : List ℕ). getD x c 0) (w .edges-are)
-          ∙ tabulate-get (edgeOf top (stateOf costs ranks 0) (rowsOf outputs heads starts children)) (length ranks) c 0
+          ∙ tabulate-get (edgeOf top costs ranks (rowsOf outputs heads starts children)) (length ranks) c 0
           h
-          ∙ ap (λ (x : List Row). edgeOf top (stateOf costs ranks last) x c) (v .rows-are)
-          ∙ ap (λ (x : Run). edgeOf top (x .state) (scanned t root) c) (sym run-is)
+          ∙ ap (λ (x : List Row). edgeOf top costs ranks x c) (v .rows-are)
+          ∙ ap (λ (x : Run). edgeOf top (x .state .costs) (x .state .ranks) (scanned t root) c) (sym run-is)
 
       -- a class of the plan has a cost below 2^64-1
       pub priced-of-known : (c : ℕ) → 0 < getD known c 0 → (c < length ranks) × Priced costs ranks c
@@ -167,7 +166,7 @@ module _
         row-below : getD order (getD marks c 0) 0 < length (t .rows)
         row-below = order-below (getD marks c 0) place
 
-        pub name-agrees : planOf plan labels values .name c ≡ planFor t root .name c
+        pub name-agrees : planOf plan labels values .name c ≡ planFor t (pricesFor t root) .name c
         unfolding planFor
         name-agrees =
             ap (nameAt labels) (class-plan .function)
@@ -189,7 +188,7 @@ module _
             ∙ getD-drop (c * 10 + 2) plan j 0
             ∙ class-plan .places j b)
 
-        pub children-agree : planOf plan labels values .children c ≡ planFor t root .children c
+        pub children-agree : planOf plan labels values .children c ≡ planFor t (pricesFor t root) .children c
         unfolding planFor planChildren planNumbers
         children-agree =
             ap (map (planNumber values)) numbers
@@ -198,32 +197,31 @@ module _
             ∙ ap (map (planChild t)) (part-children (getD marks c 0) place)
             ∙ ap (λ (r : ℕ). map (planChild t) (rowAt (tableRows t) r .children)) row-is
 
-      pub rank-is : (c : ℕ) → rankFor t root c ≡ getD ranks c 0
+      pub rank-is : (c : ℕ) → orderFor (pricesFor t root) c ≡ getD ranks c 0
       rank-is c = ap (λ (x : Run). getD (x .state .ranks) c 0) run-is
 
-      pub cost-is : (c : ℕ) → costOf t root c ≡ getD costs c 0
+      pub cost-is : (c : ℕ) → costOf (pricesFor t root) c ≡ getD costs c 0
       cost-is c = ap (λ (x : Run). getD (x .state .costs) c 0) run-is
 
       -- the rank by which the builder goes
-      pub known-is : (c : ℕ) → getD known c 0 ≡ buildRank t root c
+      pub known-is : (c : ℕ) → getD known c 0 ≡ buildRank (pricesFor t root) c
       known-is c =
           go (decLt c (classCount t)) (decLt 0 (getD ranks c 0)) (decLt (getD costs c 0) top)
         where
-          unranked : getD ranks c 0 ≡ 0 → buildRank t root c ≡ 0
-          unranked z = buildRank-unranked t root c (rank-is c ∙ z)
+          unranked : getD ranks c 0 ≡ 0 → buildRank (pricesFor t root) c ≡ 0
+          unranked z = buildRank-unranked (pricesFor t root) c (rank-is c ∙ z)
 
           none : (c < classCount t → Priced costs ranks c → ⊥) → getD known c 0 ≡ 0
           none n = w .planned .rest c n
 
           go :
               Dec (c < classCount t) → Dec (0 < getD ranks c 0) → Dec (getD costs c 0 < top) → getD known c 0
-              ≡ buildRank
-              t root c
+              ≡ buildRank (pricesFor t root) c
           go (yes a) (yes b) (yes d) =
               w .planned .kept c a (record { ranked = b; below = d })
-              ∙ sym (buildRank-below t root c (rw (cost-is c) d) ∙ rank-is c)
+              ∙ sym (buildRank-below (pricesFor t root) c (rw (cost-is c) d) ∙ rank-is c)
           go (yes a) (yes b) (no d) =
-              none (λ x y. d (y .below)) ∙ sym (buildRank-dear t root c (rw (cost-is c) (omega (arith, d))))
+              none (λ x y. d (y .below)) ∙ sym (buildRank-dear (pricesFor t root) c (rw (cost-is c) (omega (arith, d))))
           go (yes a) (no b) d = none (λ x y. b (y .ranked)) ∙ sym (unranked (omega (arith, b)))
           go (no a) b d = none (λ x y. a x) ∙ sym (unranked (getD-past ranks c (omega (arith, a, long))))
 
@@ -293,28 +291,30 @@ module _
         ranked = z;
       }
 
-      pub agree : Agree (planFor t root) (planOf plan labels values) (buildRank t root)
+      pub agree : Agree (planFor t (pricesFor t root)) (planOf plan labels values) (buildRank (pricesFor t root))
       agree = record {
         name = λ c l. let q = priced-of-known c (subst (λ (n : ℕ). 0 < n) (sym (known-is c)) l)
             in sym (name-agrees c (q .0) (q .1));
         children = λ c l.
             let q = priced-of-known c (subst (λ (n : ℕ). 0 < n) (sym (known-is c)) l) in
             sym (children-agree c (q .0) (q .1));
-        lower = plan-ranked t (v .known) root (v .root-below) .lower;
+        lower =
+            plan-ranked t (v .known) (ReachedClass t root) (pricesFor t root)
+            (run-true t (v .known) root (v .root-below)) .lower;
       }
 
       -- what is built by the plan is what the table's own plan builds
       pub whole-is :
           (s : Store) (c : ℕ) →
           0 < getD known c 0 →
-          whole (planOf plan labels values) (getD known c 0) s c ≡ whole (planFor t root) (rankFor t root c) s c
+          whole (planOf plan labels values) (getD known c 0) s c ≡ whole (planFor t (pricesFor t root)) (orderFor (pricesFor t root) c) s c
       unfolding whole
       whole-is s c z =
           let q = priced-of-known c z in
-          let e : getD known c 0 ≡ rankFor t root c = w .planned .kept c (omega (arith, q .0, long)) (q .1)
+          let e : getD known c 0 ≡ orderFor (pricesFor t root) c = w .planned .kept c (omega (arith, q .0, long)) (q .1)
           ∙ sym (rank-is c) in
           ap (λ (n : ℕ). left s (buildIn (planOf plan labels values) (n + 1) (state (replicate 512 0) s) c)) e
           ∙ ap (left s)
           (sym
-          (buildIn-agrees (planFor t root) (planOf plan labels values) (buildRank t root) agree (rankFor t root c + 1)
+          (buildIn-agrees (planFor t (pricesFor t root)) (planOf plan labels values) (buildRank (pricesFor t root)) agree (orderFor (pricesFor t root) c + 1)
           (state (replicate 512 0) s) c (subst (λ (n : ℕ). 0 < n) (known-is c) z)))

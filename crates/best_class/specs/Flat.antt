@@ -13,12 +13,11 @@ use Rattle.term_rules.specs.WellFormed.{wellFormed}
 use Rattle.price_passes.specs.Flat.{rowsOf, FlatOk}
 use Rattle.file_rules.specs.Table.{Table}
 use Rattle.table_rules.specs.Rules.Classes.{classCount}
-use Rattle.table_rules.specs.Rules.Rows.{tableRowOf}
 use Rattle.table_rules.specs.Rules.Order.{scanOrder, scanned}
 use Rattle.table_rules.specs.Rules.Terms.{literalOf, nameOf}
 use Rattle.table_rules.specs.Rules.Facts.{Known}
 use Rattle.answer_rules.specs.Answers.{After, found, refused}
-use Rattle.table_rules.specs.Rules.Choosing.{answerFor}
+use Rattle.table_rules.specs.Rules.Choosing.{answerFor, runOf, pricesFor}
 use Rattle.answer_rules.specs.Best.{BestTerm, bestTerm, bestClass}
 use Rattle.best_class.specs.declared.Best.{Best}
 use Rattle.best_class.specs.declared.Best.the-variants.{Found, NoTerm as Nothing, TooDear as Dear, NoRoom as Full}
@@ -67,4 +66,4 @@ BestAnswers outputs heads starts children order functions labels values n c s a 
     (t : Table) (root : ℕ) →
     FlatTable t root outputs heads starts children order functions labels values →
     n ≡ classCount t →
-    a ≡ bestClass t root c s (answerFor t root c)
+    a ≡ bestClass t (pricesFor t root) (runOf t root .passes) c s (answerFor (pricesFor t root) c)

@@ -12,7 +12,7 @@ use Rattle.term_rules.specs.WellFormed.{wellFormed}
 use Rattle.term_rules.specs.Nodes.{literal}
 use Rattle.term_rules.specs.Adding.{add}
 use Rattle.file_rules.specs.Table.{Table}
-use Rattle.table_rules.specs.Rules.Choosing.{answerFor}
+use Rattle.table_rules.specs.Rules.Choosing.{answerFor, runOf, pricesFor}
 use Rattle.table_rows.specs.Flattened.{Flattened}
 use Rattle.answer_rules.specs.Answers.{After, found, refused}
 use Rattle.answer_rules.specs.Best.{BestTerm, bestTerm, bestLiteral, bestClass}
@@ -49,7 +49,8 @@ abbrev pub literalAnswer : ℤ → Store → After BestTerm
 literalAnswer z s = ifFormed s (bestLiteral s (add s (literal z)))
 
 abbrev pub classAnswer : Table → ℕ → ℕ → Store → After BestTerm
-classAnswer t root c s = ifFormed s (bestClass t root c s (answerFor t root c))
+classAnswer t root c s =
+    ifFormed s (bestClass t (pricesFor t root) (runOf t root .passes) c s (answerFor (pricesFor t root) c))
 
 -- The lists are those of table t for a root sort: n rows with m children, over w classes, of which c is one.
 pub record FlatClass

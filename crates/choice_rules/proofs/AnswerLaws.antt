@@ -1,5 +1,6 @@
 -- The answer: what a fixpoint says of a class is right, and nothing else is. Assumes nothing.
 use mathlib.Core.Path.{_≡_, refl, ap, subst}
+use mathlib.Core.Bool.{true}
 use mathlib.Core.List.{List, []}
 use Prim.Native.Nat.{ℕ, _≤_, _<_}
 use native.Mathlib.Omega.{arith}
@@ -14,20 +15,21 @@ use Rattle.choice_rules.specs.Answer.{Answer, noTerm, tooDear, best, Bes
 use Rattle.choice_rules.proofs.PassLaws.{Fixed}
 use Rattle.choice_rules.proofs.SoundLaws.{Grounded, least-class}
 use Rattle.choice_rules.proofs.RankLaws.{Sourced}
+use Rattle.choice_rules.proofs.EdgeLaws.{edge-of-fixed}
 use Rattle.choice_rules.proofs.ChosenLaws.{choice}
 
 -- which answer a state gives
 module _ (M : ℕ) (s : State) (c : ℕ) where
-  pub answer-when-unranked : getD (s .ranks) c 0 ≡ 0 → answerOf M s c ≡ noTerm
+  pub answer-when-unranked : getD (s .ranks) c 0 ≡ 0 → answerOf M (s .costs) (s .ranks) c ≡ noTerm
   unfolding answerOf
   answer-when-unranked h = rw (le-ltb 0 (getD (s .ranks) c 0) (omega arith))
 
   module _ (k : 0 < getD (s .ranks) c 0) where
-    pub answer-when-saturated : M ≤ getD (s .costs) c 0 → answerOf M s c ≡ tooDear
+    pub answer-when-saturated : M ≤ getD (s .costs) c 0 → answerOf M (s .costs) (s .ranks) c ≡ tooDear
     unfolding answerOf
     answer-when-saturated h = rw (lt-ltb 0 (getD (s .ranks) c 0) k, le-ltb (getD (s .costs) c 0) M h)
 
-    pub answer-when-below : getD (s .costs) c 0 < M → answerOf M s c ≡ best (getD (s .costs) c 0)
+    pub answer-when-below : getD (s .costs) c 0 < M → answerOf M (s .costs) (s .ranks) c ≡ best (getD (s .costs) c 0)
     unfolding answerOf
     answer-when-below h = rw (lt-ltb 0 (getD (s .ranks) c 0) k, lt-ltb (getD (s .costs) c 0) M h)
 
@@ -61,9 +63,10 @@ module _ (M : ℕ) (rows : List Row) where
 
         -- the tree that the edges choose
         pub best-when-below : getD (s .costs) c 0 < M
-            → (t : Tree) × Chosen rows (edgeOf M s rows) t (class c) × Best rows c (getD (s .costs) c 0) t
+            → (t : Tree) × Chosen rows (edgeOf M (s .costs) (s .ranks) rows) t (class c) × Best rows c (getD (s .costs) c 0) t
         best-when-below h =
-            let t = choice M rows s fixed sourced c k h in (
+            let t = choice M rows (s .costs) (s .ranks) (edgeOf M (s .costs) (s .ranks) rows)
+            (edge-of-fixed M rows s fixed sourced) (λ (i : ℕ). true) (λ d l m. refl) c k h in (
               t .tree,
               t .chosen,
               record {
@@ -74,22 +77,22 @@ module _ (M : ℕ) (rows : List Row) where
               },
             )
 
-      pub right-of-fixed : Right M rows c (answerOf M s c)
+      pub right-of-fixed : Right M rows c (answerOf M (s .costs) (s .ranks) c)
       right-of-fixed = go (decLt 0 (getD (s .ranks) c 0)) (decLt (getD (s .costs) c 0) M)
         where
-          go : Dec (0 < getD (s .ranks) c 0) → Dec (getD (s .costs) c 0 < M) → Right M rows c (answerOf M s c)
+          go : Dec (0 < getD (s .ranks) c 0) → Dec (getD (s .costs) c 0 < M) → Right M rows c (answerOf M (s .costs) (s .ranks) c)
           go (no k) h = rw (answer-when-unranked M s c (omega arith)) (right-when-unranked (omega arith))
           go (yes k) (no h) = rw (answer-when-saturated M s c k (omega arith)) (right-when-saturated k (omega arith))
           go (yes k) (yes h) =
               let t = best-when-below k h in
               rw (answer-when-below M s c k h) (h, (t .0, t .2))
 
-      pub chosen-when-best : (v : ℕ) → answerOf M s c ≡ best v → (t : Tree) × Chosen rows (edgeOf M s rows) t (class c)
+      pub chosen-when-best : (v : ℕ) → answerOf M (s .costs) (s .ranks) c ≡ best v → (t : Tree) × Chosen rows (edgeOf M (s .costs) (s .ranks) rows) t (class c)
           × Best rows c v t
       chosen-when-best v e = go (decLt 0 (getD (s .ranks) c 0)) (decLt (getD (s .costs) c 0) M)
         where
           go : Dec (0 < getD (s .ranks) c 0) → Dec (getD (s .costs) c 0 < M)
-              → (t : Tree) × Chosen rows (edgeOf M s rows) t (class c) × Best rows c v t
+              → (t : Tree) × Chosen rows (edgeOf M (s .costs) (s .ranks) rows) t (class c) × Best rows c v t
           go (no k) h = let x = answer-when-unranked M s c (omega arith) in let z : _≡_ {A = ℕ} 0 1 = cc in
               absurd (omega arith)
           go (yes k) (no h) = let x = answer-when-saturated M s c k (omega arith) in let z : _≡_ {A = ℕ} 0 1 = cc in
@@ -97,5 +100,5 @@ module _ (M : ℕ) (rows : List Row) where
           go (yes k) (yes h) =
               let x = answer-when-below M s c k h in
               let q : getD (s .costs) c 0 ≡ v = cc in
-              subst (λ (y : ℕ). (t : Tree) × Chosen rows (edgeOf M s rows) t (class c) × Best rows c y t) q
+              subst (λ (y : ℕ). (t : Tree) × Chosen rows (edgeOf M (s .costs) (s .ranks) rows) t (class c) × Best rows c y t) q
               (best-when-below k h)

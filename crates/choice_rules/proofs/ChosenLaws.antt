@@ -1,19 +1,18 @@
--- The tree that the edges choose: at a fixpoint it is there for every class below saturation, costs what is stored
--- and meets no class twice on a path; and edges choose no second one. Assumes nothing.
+-- The tree that edges choose: it is there for every class below saturation, costs what is stored and meets no class
+-- twice on a path; and edges choose no second one. Assumes nothing.
 use mathlib.Core.Path.{_≡_, refl, ap, ap₂, sym, _∙_, subst}
+use mathlib.Core.Bool.{Bool, true}
 use mathlib.Core.List.{List, [], _∷_}
 use Prim.Native.Nat.{ℕ, suc, zero, _≤_, _<_}
 use native.Mathlib.Omega.{arith}
-use lib.ListN.{getD}
+use lib.ListN.{length, getD}
 use Rattle.choice_rules.specs.Rows.{Child, literal, class, Row, rowAt, sumOf}
 use Rattle.choice_rules.specs.Deriving.{Tree, leaf, node, Forest, none, more, Derives, DeriveAll, treeCost}
 use Rattle.choice_rules.specs.Deriving.{forestCost, NotIn, Once, OnceAll}
-use Rattle.choice_rules.specs.Run.{State, childCost, rowCost}
-use Rattle.choice_rules.specs.Edges.{edgeOf, Under, Chosen, ChosenAll}
+use Rattle.choice_rules.specs.Run.{childCost, rowCost}
+use Rattle.choice_rules.specs.Edges.{Under, Edge, Chosen, ChosenAll}
+use Rattle.choice_rules.specs.Demand.Deriving.{AllUsable, AllUsableIn}
 use Rattle.choice_rules.proofs.ListLaws.{Each}
-use Rattle.choice_rules.proofs.PassLaws.{Fixed}
-use Rattle.choice_rules.proofs.RankLaws.{Sourced}
-use Rattle.choice_rules.proofs.EdgeLaws.{all-under, edge-row, edge-of-fixed}
 
 -- every class met has rank b at least
 abbrev pub High : ℕ → List ℕ → List ℕ → Type 0
@@ -28,32 +27,47 @@ high-less : (a b : ℕ) (ranks met : List ℕ) → a ≤ b → High b ranks met 
 high-less a b ranks [] l h = tt
 high-less a b ranks (x ∷ met) l h = (omega arith, high-less a b ranks met l (h .1))
 
-module _ (M : ℕ) (rows : List Row) (s : State) (fixed : Fixed M rows s) (g : Sourced M rows s) where
+each-of-get :
+    (P : Child → Type 0) (ks : List Child) → ((j : ℕ) → j < length ks → P (getD ks j (literal 0))) → Each P ks
+each-of-get P [] f = tt
+each-of-get P (k ∷ ks) f = (f 0 (omega arith), each-of-get P ks (λ j l. f (suc j) (omega arith)))
+
+-- Any costs and ranks, and for each class with a cost below M a row that is an edge of it, and usable.
+module _
+    (M : ℕ) (rows : List Row) (costs ranks : List ℕ) (edge : ℕ → ℕ)
+    (edges : (c : ℕ) → 0 < getD ranks c 0 → getD costs c 0 < M → Edge M costs ranks rows c (edge c))
+    (usable : ℕ → Bool)
+    (ok : (c : ℕ) → 0 < getD ranks c 0 → getD costs c 0 < M → usable (edge c) ≡ true) where
   pub record Choice (c : ℕ) : Type 0 where
     pub tree : Tree
-    pub chosen : Chosen rows (edgeOf M s rows) tree (class c)
+    pub chosen : Chosen rows edge tree (class c)
     pub derives : Derives rows tree (class c)
-    pub cost : treeCost rows tree ≡ getD (s .costs) c 0
-    pub once : (met : List ℕ) → High (suc (getD (s .ranks) c 0)) (s .ranks) met → Once rows met tree
+    pub all-usable : AllUsable usable tree
+    pub cost : treeCost rows tree ≡ getD costs c 0
+    pub once : (met : List ℕ) → High (suc (getD ranks c 0)) ranks met → Once rows met tree
 
   record Choices (b : ℕ) (ks : List Child) : Type 0 where
     forest : Forest
-    chosen : ChosenAll rows (edgeOf M s rows) forest ks
+    chosen : ChosenAll rows edge forest ks
     derives : DeriveAll rows forest ks
-    cost : forestCost rows forest ≡ sumOf (childCost (s .costs)) ks
-    once : (met : List ℕ) → High b (s .ranks) met → OnceAll rows met forest
+    all-usable : AllUsableIn usable forest
+    cost : forestCost rows forest ≡ sumOf (childCost costs) ks
+    once : (met : List ℕ) → High b ranks met → OnceAll rows met forest
 
   -- the children's trees, left to right, where each class under rank b has its own
-  choices : (b : ℕ) → ((c : ℕ) → Under M s b (class c) → Choice c) → (ks : List Child) → Each (Under M s b) ks
-      → Choices b ks
-  unfolding Chosen Derives treeCost sumOf childCost Once
-  choices b ih [] u = record { forest = none; chosen = tt; derives = tt; cost = refl; once = λ met x. tt }
+  choices :
+      (b : ℕ) → ((c : ℕ) → Under M costs ranks b (class c) → Choice c) →
+      (ks : List Child) → Each (Under M costs ranks b) ks → Choices b ks
+  unfolding Chosen Derives AllUsable treeCost sumOf childCost Once
+  choices b ih [] u =
+      record { forest = none; chosen = tt; derives = tt; all-usable = tt; cost = refl; once = λ met x. tt }
   choices b ih (literal i ∷ ks) u =
       let q = choices b ih ks (u .1) in
       record {
         forest = more (leaf i) (q .forest);
         chosen = (refl, q .chosen);
         derives = (refl, q .derives);
+        all-usable = (tt, q .all-usable);
         cost = omega (arith, q .cost);
         once = λ met x. (tt, q .once met x);
       }
@@ -64,40 +78,41 @@ module _ (M : ℕ) (rows : List Row) (s : State) (fixed : Fixed M rows s) (g : S
         forest = more (a .tree) (q .forest);
         chosen = (a .chosen, q .chosen);
         derives = (a .derives, q .derives);
+        all-usable = (a .all-usable, q .all-usable);
         cost = omega (arith, a .cost, q .cost);
         once = λ met x. (
-          a .once met (high-less (suc (getD (s .ranks) c 0)) b (s .ranks) met (u .0 .1) x),
+          a .once met (high-less (suc (getD ranks c 0)) b ranks met (u .0 .1) x),
           q .once met x,
         );
       }
 
-  choice-from : (b c : ℕ) → getD (s .ranks) c 0 < b → 0 < getD (s .ranks) c 0 → getD (s .costs) c 0 < M → Choice c
-  unfolding Chosen Derives treeCost rowCost Once
+  choice-from : (b c : ℕ) → getD ranks c 0 < b → 0 < getD ranks c 0 → getD costs c 0 < M → Choice c
+  unfolding Chosen Derives AllUsable treeCost rowCost Once
   choice-from zero c l k h = absurd (omega arith)
   choice-from (suc b) c l k h =
-      let i = edgeOf M s rows c in
-      let e = edge-row M rows s fixed g c k h in
+      let i = edge c in
+      let e = edges c k h in
       let o = e .output in
-      let q = choices (getD (s .ranks) c 0) (λ d u. choice-from b d (omega (arith, u .1)) (u .0) (u .2))
+      let q = choices (getD ranks c 0) (λ d u. choice-from b d (omega (arith, u .1)) (u .0) (u .2))
       (rowAt rows i .children)
-      (all-under M s c (rowAt rows i) h e) in
+      (each-of-get (Under M costs ranks (getD ranks c 0)) (rowAt rows i .children) (e .under)) in
       record {
         tree = node i (q .forest);
         chosen = (refl, q .chosen);
-        derives = (edge-of-fixed M rows s fixed g c k h .known, o, q .derives);
+        derives = (e .known, o, q .derives);
+        all-usable = (ok c k h, q .all-usable);
         cost = omega (arith, e .cost, q .cost);
         once = λ met x. (
-          rw o (high-not-in (s .ranks) c met x),
+          rw o (high-not-in ranks c met x),
           rw o (q .once (c ∷ met) (
             omega arith,
-            high-less (getD (s .ranks) c 0) (suc (getD (s .ranks) c 0)) (s .ranks)
-                met (omega arith) x,
+            high-less (getD ranks c 0) (suc (getD ranks c 0)) ranks met (omega arith) x,
           )),
         );
       }
 
-  pub choice : (c : ℕ) → 0 < getD (s .ranks) c 0 → getD (s .costs) c 0 < M → Choice c
-  choice c = choice-from (suc (getD (s .ranks) c 0)) c (omega arith)
+  pub choice : (c : ℕ) → 0 < getD ranks c 0 → getD costs c 0 < M → Choice c
+  choice c = choice-from (suc (getD ranks c 0)) c (omega arith)
 
 module _ (rows : List Row) (edge : ℕ → ℕ) where
   mutual

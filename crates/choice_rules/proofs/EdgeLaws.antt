@@ -97,12 +97,12 @@ module _ (M : ℕ) (s : State) (c : ℕ) (r : Row) where
       (λ k h. lt-ltb (childRank (s .ranks) k) b h) (r .children) (e .lower)))
 
   -- below saturation every child of an edge is under its class
-  pub all-under : getD (s .costs) c 0 < M → EdgeRow → Each (Under M s (getD (s .ranks) c 0)) (r .children)
+  pub all-under : getD (s .costs) c 0 < M → EdgeRow → Each (Under M (s .costs) (s .ranks) (getD (s .ranks) c 0)) (r .children)
   unfolding rowCost childCost childRank
   all-under h e =
       let b = getD (s .ranks) c 0 in
       each-both (λ k. childCost (s .costs) k < M) (λ k. Priced (s .ranks) k × (childRank (s .ranks) k < b))
-      (Under M s b) one (r .children)
+      (Under M (s .costs) (s .ranks) b) one (r .children)
       (each-of-sum (childCost (s .costs)) M (r .children) (omega (arith, e .cost)))
       (each-both (Priced (s .ranks)) (λ k. childRank (s .ranks) k < b)
       (λ k. Priced (s .ranks) k × (childRank (s .ranks) k < b))
@@ -110,35 +110,35 @@ module _ (M : ℕ) (s : State) (c : ℕ) (r : Row) where
     where
       one : (k : Child) → childCost (s .costs) k < M
           → Priced (s .ranks) k × (childRank (s .ranks) k < getD (s .ranks) c 0)
-          → Under M s (getD (s .ranks) c 0) k
+          → Under M (s .costs) (s .ranks) (getD (s .ranks) c 0) k
       one (literal i) x y = tt
       one (class d) x y = (y .0, y .1, x)
 
 module _ (M : ℕ) (rows : List Row) (s : State) (fixed : Fixed M rows s) (g : Sourced M rows s) (c : ℕ)
     (k : 0 < getD (s .ranks) c 0) (h : getD (s .costs) c 0 < M) where
-  edge-found : Found (isEdge M (s .costs) (s .ranks) c) rows (edgeOf M s rows c)
+  edge-found : Found (isEdge M (s .costs) (s .ranks) c) rows (edgeOf M (s .costs) (s .ranks) rows c)
   edge-found =
       let e = exact M rows s fixed g c k h in
       first-row-holds (isEdge M (s .costs) (s .ranks) c) rows (e .row) (e .has)
       (true-edge M s c (e .row)
       (record { output = e .output; all-priced = e .all-priced; cost = e .cost; lower = e .lower }))
 
-  pub edge-row : EdgeRow M s c (rowAt rows (edgeOf M s rows c))
-  edge-row = edge-true M s c (rowAt rows (edgeOf M s rows c)) (edge-found .holds)
+  pub edge-row : EdgeRow M s c (rowAt rows (edgeOf M (s .costs) (s .ranks) rows c))
+  edge-row = edge-true M s c (rowAt rows (edgeOf M (s .costs) (s .ranks) rows c)) (edge-found .holds)
 
-  pub edge-of-fixed : Edge M s rows c (edgeOf M s rows c)
+  pub edge-of-fixed : Edge M (s .costs) (s .ranks) rows c (edgeOf M (s .costs) (s .ranks) rows c)
   edge-of-fixed = record {
     known = edge-found .known;
     output = edge-row .output;
     cost = edge-row .cost;
-    under = λ j l. each-get (Under M s (getD (s .ranks) c 0)) (rowAt rows (edgeOf M s rows c) .children) (literal 0)
-        (all-under M s c (rowAt rows (edgeOf M s rows c)) h edge-row) j l;
+    under = λ j l. each-get (Under M (s .costs) (s .ranks) (getD (s .ranks) c 0)) (rowAt rows (edgeOf M (s .costs) (s .ranks) rows c) .children) (literal 0)
+        (all-under M s c (rowAt rows (edgeOf M (s .costs) (s .ranks) rows c)) h edge-row) j l;
   }
 
 -- the list of all edges
 module _ (M : ℕ) (s : State) (rows : List Row) where
-  pub edges-length : length (edgesOf M s rows) ≡ length (s .ranks)
-  edges-length = tabulate-length (edgeOf M s rows) (length (s .ranks))
+  pub edges-length : length (edgesOf M (s .costs) (s .ranks) rows) ≡ length (s .ranks)
+  edges-length = tabulate-length (edgeOf M (s .costs) (s .ranks) rows) (length (s .ranks))
 
-  pub edges-get : (c : ℕ) → c < length (s .ranks) → getD (edgesOf M s rows) c 0 ≡ edgeOf M s rows c
-  edges-get c h = tabulate-get (edgeOf M s rows) (length (s .ranks)) c 0 h
+  pub edges-get : (c : ℕ) → c < length (s .ranks) → getD (edgesOf M (s .costs) (s .ranks) rows) c 0 ≡ edgeOf M (s .costs) (s .ranks) rows c
+  edges-get c h = tabulate-get (edgeOf M (s .costs) (s .ranks) rows) (length (s .ranks)) c 0 h

@@ -7,7 +7,6 @@ use lib.ListN.{getD}
 use lib.Dec.{ltb}
 use Rattle.choice_rules.specs.Rows.{Row, class}
 use Rattle.choice_rules.specs.Deriving.{Tree, Derives, treeCost, Once}
-use Rattle.choice_rules.specs.Run.{State}
 
 pub data Answer : Type 0 where
   noTerm : Answer
@@ -30,9 +29,7 @@ Right M rows c tooDear =
     ((t : Tree) × Derives rows t (class c)) × ((u : Tree) → Derives rows u (class c) → M ≤ treeCost rows u)
 Right M rows c (best v) = (v < M) × ((t : Tree) × Best rows c v t)
 
--- What the state says of class c: no cost, a saturated cost, or a cost.
-unfoldable pub answerOf : ℕ → State → ℕ → Answer
-answerOf M s c =
-    cond (ltb 0 (getD (s .ranks) c 0))
-    (cond (ltb (getD (s .costs) c 0) M) (best (getD (s .costs) c 0)) tooDear)
-    noTerm
+-- What costs and ranks say of class c: no cost, a saturated cost, or a cost.
+unfoldable pub answerOf : ℕ → List ℕ → List ℕ → ℕ → Answer
+answerOf M costs ranks c =
+    cond (ltb 0 (getD ranks c 0)) (cond (ltb (getD costs c 0) M) (best (getD costs c 0)) tooDear) noTerm

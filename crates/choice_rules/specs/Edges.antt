@@ -8,7 +8,7 @@ use lib.ListN.{length, getD}
 use lib.Dec.{ltb, eqb}
 use Rattle.choice_rules.specs.Rows.{Child, literal, class, Row, rowAt, childAt, allOf, tabulate}
 use Rattle.choice_rules.specs.Deriving.{Tree, leaf, node, Forest, none, more}
-use Rattle.choice_rules.specs.Run.{State, rowPriced, rowCost}
+use Rattle.choice_rules.specs.Run.{rowPriced, rowCost}
 
 -- "base children have rank 0".
 unfoldable pub childRank : List ℕ → Child → ℕ
@@ -33,24 +33,25 @@ firstRow p [] = 0
 firstRow p (r ∷ rs) = elim (p r) [ true ↦ 0 | false ↦ suc (firstRow p rs) ]
 
 -- "A class's edge is the first row in the same order".
-abbrev pub edgeOf : ℕ → State → List Row → ℕ → ℕ
-edgeOf M s rows c = firstRow (isEdge M (s .costs) (s .ranks) c) rows
+abbrev pub edgeOf : ℕ → List ℕ → List ℕ → List Row → ℕ → ℕ
+edgeOf M costs ranks rows c = firstRow (isEdge M costs ranks c) rows
 
 -- The edges of all classes.
-abbrev pub edgesOf : ℕ → State → List Row → List ℕ
-edgesOf M s rows = tabulate (edgeOf M s rows) (length (s .ranks))
+abbrev pub edgesOf : ℕ → List ℕ → List ℕ → List Row → List ℕ
+edgesOf M costs ranks rows = tabulate (edgeOf M costs ranks rows) (length ranks)
 
 -- A child under a class of rank b: a literal, or a class with a cost below M and a lower rank.
-abbrev pub Under : ℕ → State → ℕ → Child → Type 0
-Under M s b (literal i) = Unit {0}
-Under M s b (class d) = (0 < getD (s .ranks) d 0) × (getD (s .ranks) d 0 < b) × (getD (s .costs) d 0 < M)
+abbrev pub Under : ℕ → List ℕ → List ℕ → ℕ → Child → Type 0
+Under M costs ranks b (literal i) = Unit {0}
+Under M costs ranks b (class d) = (0 < getD ranks d 0) × (getD ranks d 0 < b) × (getD costs d 0 < M)
 
 -- Class c has row i for an edge: a row of it, at exactly its cost, and every child of it is under c.
-pub record Edge (M : ℕ) (s : State) (rows : List Row) (c i : ℕ) : Type 0 where
+pub record Edge (M : ℕ) (costs ranks : List ℕ) (rows : List Row) (c i : ℕ) : Type 0 where
   pub known : i < length rows
   pub output : rowAt rows i .output ≡ c
-  pub cost : rowCost M (s .costs) (rowAt rows i) ≡ getD (s .costs) c 0
-  pub under : (j : ℕ) → j < length (rowAt rows i .children) → Under M s (getD (s .ranks) c 0) (childAt (rowAt rows i) j)
+  pub cost : rowCost M costs (rowAt rows i) ≡ getD costs c 0
+  pub under :
+      (j : ℕ) → j < length (rowAt rows i .children) → Under M costs ranks (getD ranks c 0) (childAt (rowAt rows i) j)
 
 -- The tree that edges choose: each class by its edge, each child in turn.
 unfoldable mutual

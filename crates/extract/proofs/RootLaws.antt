@@ -25,7 +25,7 @@ use Rattle.table_rows.specs.Rooted.{rootOf}
 use Rattle.table_rows.specs.declared.prepare.Root.the-variants.{Bad, Class as RootClass, Literal as RootLiteral}
 use Rattle.table_rows.specs.Loading.{fault as asFault, literal as asLiteral, class as asClass, askedOf, asked}
 use Rattle.answer_rules.specs.Answers.{refused}
-use Rattle.table_rules.specs.Rules.Choosing.{answerFor}
+use Rattle.table_rules.specs.Rules.Choosing.{answerFor, pricesFor, runOf}
 use Rattle.answer_rules.specs.Best.{bestLiteral, bestClass, bestOf, bestAt}
 use Rattle.best_root.specs.Single.{ifFormed, literalAnswer, classAnswer}
 
@@ -97,7 +97,7 @@ module _ (file : List ℕ) (s v : ℕ) (lent : Store) where
       unfolding bestOf
       best-class q =
           let c : ℕ = flatClass t s v in
-          let d : bestOf t s v lent ≡ bestClass t s c lent (answerFor t s c) = rw (q, bestOf) in
+          let d : bestOf t s v lent ≡ bestClass t (pricesFor t s) (runOf t s .passes) c lent (answerFor (pricesFor t s) c) = rw (q, bestOf) in
           best-rooted ∙ ap (ifFormed lent) d
 
 -- What was asked for, where it is a literal or a class: of which table, and what best answers.

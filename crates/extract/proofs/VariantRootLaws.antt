@@ -26,6 +26,7 @@ use Rattle.answer_rules.specs.Variants.{
   variantsRefused,
   variantsAt,
 }
+use Rattle.table_rules.specs.Rules.Choosing.{pricesFor, runOf}
 use Rattle.variants_root.specs.Several.{ifFormed, literalAnswer, classAnswer}
 use Rattle.extract.proofs.VariantFacts.WayLaws.{at-fault, at-bad}
 use Rattle.extract.proofs.RootLaws.{differ, root-bad, root-literal, root-class, sort-below, literal-below}
@@ -50,7 +51,8 @@ module _ (file : List ℕ) (s v most : ℕ) (l : Lending) where
           variantsAt file s v most l ≡ classAnswer t s (flatClass t s v) most l
       unfolding variantsOf
       at-class q =
-          let d : variantsOf t s v most l ≡ variantsOfRows t s l (keptRows t s (flatClass t s v) most) =
+          let d : variantsOf t s v most l ≡ variantsOfRows t (pricesFor t s) (runOf t s .passes) l
+          (keptRows t (pricesFor t s) (flatClass t s v) most) =
           rw (q, variantsOf) in
           at-root ∙ ap (ifFormed l) d
 

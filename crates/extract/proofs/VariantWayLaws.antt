@@ -11,6 +11,9 @@ use Rattle.table_rules.specs.Rules.Terms.{literalOf}
 use Rattle.table_rules.specs.Rules.Facts.{Known}
 use Rattle.table_rules.proofs.Rules.CoverLaws.{ReachedClass, root-class}
 use Rattle.answer_rules.specs.Variants.{keptRows, Lending, variantsAt}
+use Rattle.table_rules.specs.Rules.Choosing.{pricesFor, runOf}
+use Rattle.table_rules.specs.Rules.Prices.{TruePrices}
+use Rattle.table_rules.proofs.Rules.AnswerLaws.{run-true}
 use Rattle.extract.proofs.VariantFacts.OutcomeLaws.{Outcome, LiteralOutcome}
 use Rattle.extract.proofs.VariantFacts.WayLaws.{at-class, at-literal}
 use Rattle.extract.specs.Promises.{ClassRoot, BaseRoot}
@@ -24,9 +27,12 @@ module _ (file : List ℕ) (root v n : ℕ) (t : Table) (l : Lending) where
     pub class-reached : ReachedClass t root (flatClass t root v)
     class-reached = root-class t class-known root (r .sort) v (r .inside)
 
+    pub class-true : TruePrices t (ReachedClass t root) (pricesFor t root)
+    class-true = run-true t class-known root (r .sort)
+
     pub class-outcome :
         wellFormed (l .store) ≡ true →
-        Outcome t root l (keptRows t root (flatClass t root v) n) (variantsAt file root v n l)
+        Outcome t (pricesFor t root) (runOf t root .passes) l (keptRows t (pricesFor t root) (flatClass t root v) n) (variantsAt file root v n l)
     class-outcome f =
         at-class file root v n l t (r .held .end) (r .held .is)
         (class-root-in file root v (l .store) t (r .held) r) f (ne-eqb (sortOf t root .kind) 0 (r .eq))

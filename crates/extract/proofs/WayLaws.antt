@@ -33,14 +33,14 @@ use Rattle.table_rules.specs.Rules.Classes.{sortOf, classCount, flatClass, rang
 use Rattle.table_rules.specs.Rules.Rows.{tableRows, usable}
 use Rattle.table_rules.specs.Rules.Order.{scanned}
 use Rattle.table_rules.specs.Rules.Terms.{literalOf}
-use Rattle.table_rules.specs.Rules.Choosing.{limit, runOf, answerFor}
+use Rattle.table_rules.specs.Rules.Choosing.{limit, runOf, answerFor, Prices, pricesFor}
 use Rattle.table_rules.specs.Rules.Facts.{Known}
 use Rattle.table_rules.proofs.Rules.CoverLaws.{rangeOf-eq, scanned-within}
 use Rattle.table_rows.proofs.Held.KnownLaws.{known-of-accepted}
 use Rattle.table_rows.proofs.LoadLaws.{accepted-of}
 use Rattle.answer_rules.specs.Answers.{Answer, value, refusal, After, refused}
 use Rattle.answer_rules.specs.Best.{BestTerm, bestLiteral, bestBuilt, bestClass, bestOf, bestAt}
-use Rattle.answer_rules.specs.Plan.{planFor, rankFor}
+use Rattle.answer_rules.specs.Plan.{planFor, orderFor}
 use Rattle.answer_rules.specs.Demand.{Kept}
 use Rattle.answer_rules.proofs.BestLaws.{DemandThree, demand-three}
 use Rattle.extract.proofs.LiteralLaws.{literal-fits, literal-full}
@@ -62,7 +62,7 @@ pub data Way (file : List ℕ) (root v : ℕ) (s : Store) : Type 0 where
       (t : Table) →
       ClassRoot file root v t →
       wellFormed s ≡ true →
-      bestAt file root v s ≡ bestClass t root (flatClass t root v) s (answerFor t root (flatClass t root v)) →
+      bestAt file root v s ≡ bestClass t (pricesFor t root) (runOf t root .passes) (flatClass t root v) s (answerFor (pricesFor t root) (flatClass t root v)) →
       Way file root v s
 
 module _ (file : List ℕ) (root v : ℕ) (s : Store) where
@@ -90,11 +90,11 @@ module _ (file : List ℕ) (root v : ℕ) (s : Store) where
       class-is :
           wellFormed s ≡ true →
           eqb (sortOf t root .kind) 0 ≡ false →
-          bestAt file root v s ≡ bestClass t root (flatClass t root v) s (answerFor t root (flatClass t root v))
+          bestAt file root v s ≡ bestClass t (pricesFor t root) (runOf t root .passes) (flatClass t root v) s (answerFor (pricesFor t root) (flatClass t root v))
       unfolding bestOf
       class-is f q =
           let c : ℕ = flatClass t root v in
-          let d : bestOf t root v s ≡ bestClass t root c s (answerFor t root c) = rw (q, bestOf) in
+          let d : bestOf t root v s ≡ bestClass t (pricesFor t root) (runOf t root .passes) c s (answerFor (pricesFor t root) c) = rw (q, bestOf) in
           best-is f ∙ d
 
     -- a class, and a base root, are roots
@@ -114,7 +114,7 @@ module _ (file : List ℕ) (root v : ℕ) (s : Store) where
     pub class-way :
         ClassRoot file root v t →
         wellFormed s ≡ true →
-        bestAt file root v s ≡ bestClass t root (flatClass t root v) s (answerFor t root (flatClass t root v))
+        bestAt file root v s ≡ bestClass t (pricesFor t root) (runOf t root .passes) (flatClass t root v) s (answerFor (pricesFor t root) (flatClass t root v))
     class-way r f = class-is (class-root-in r) f (ne-eqb (sortOf t root .kind) 0 (r .eq))
 
     pub base-way :
@@ -163,10 +163,10 @@ module _ (file : List ℕ) (root v : ℕ) (s : Store) where
     unfolding verdict
     verdict-right = three .is-right
 
-    pub verdict-kept : Kept t root (flatClass t root v) s (bestAt file root v s) verdict
+    pub verdict-kept : Kept t (pricesFor t root) (flatClass t root v) s (bestAt file root v s) verdict
     unfolding verdict
     verdict-kept =
-        subst (λ (a : After BestTerm). Kept t root (flatClass t root v) s a (three .verdict))
+        subst (λ (a : After BestTerm). Kept t (pricesFor t root) (flatClass t root v) s a (three .verdict))
         (sym (best-is t (r .held) (class-root-in t (r .held) r) f)) (three .kept)
 
 -- The literal of a base root that was added, or had no room.
@@ -202,22 +202,18 @@ module _ (w p : ℕ) (s : Store) where
       go (Done i n m) d = not-refused (rw d at e)
       go Full d = rw d
 
-module _ (t : Table) (root c : ℕ) (s : Store) where
-  pub class-passes :
-      (v : Verdict) (b : BestTerm) → bestClass t root c s v .answer ≡ value b → b .passes ≡ runOf t root .passes
+module _ (t : Table) (p : Prices) (n c : ℕ) (s : Store) where
+  pub class-passes : (v : Verdict) (b : BestTerm) → bestClass t p n c s v .answer ≡ value b → b .passes ≡ n
   unfolding bestClass
   class-passes noTerm b e = not-refused (sym e)
   class-passes tooDear b e = not-refused (sym e)
-  class-passes (best w) b e =
-      built-passes w (runOf t root .passes) s (whole (planFor t root) (rankFor t root c) s c) b e
+  class-passes (best w) b e = built-passes w n s (whole (planFor t p) (orderFor p c) s c) b e
 
-  class-unchanged :
-      (v : Verdict) (k : ℕ) → bestClass t root c s v .answer ≡ refusal k → bestClass t root c s v .store ≡ s
+  class-unchanged : (v : Verdict) (k : ℕ) → bestClass t p n c s v .answer ≡ refusal k → bestClass t p n c s v .store ≡ s
   unfolding bestClass
   class-unchanged noTerm k e = refl
   class-unchanged tooDear k e = refl
-  class-unchanged (best w) k e =
-      built-unchanged w (runOf t root .passes) s (whole (planFor t root) (rankFor t root c) s c) k e
+  class-unchanged (best w) k e = built-unchanged w n s (whole (planFor t p) (orderFor p c) s c) k e
 
 -- The passes of the run over the rows that the root sort reaches.
 pub pass-count :
@@ -256,8 +252,8 @@ module _ (file : List ℕ) (root v : ℕ) (s : Store) where
           refused-stays (bestLiteral s x) d (literal-unchanged s f (literalOf t v) x k (told-by (bestLiteral s x) d e))
       go (byClass t r f d) =
           let c : ℕ = flatClass t root v in
-          let a : After BestTerm = bestClass t root c s (answerFor t root c) in
-          refused-stays a d (class-unchanged t root c s (answerFor t root c) k (told-by a d e))
+          let a : After BestTerm = bestClass t (pricesFor t root) (runOf t root .passes) c s (answerFor (pricesFor t root) c) in
+          refused-stays a d (class-unchanged t (pricesFor t root) (runOf t root .passes) c s (answerFor (pricesFor t root) c) k (told-by a d e))
 
   abbrev Returned : BestTerm → After BestTerm → Type 0
   Returned b a = Grows s (a .store) × (b .term < a .store .terms)
@@ -283,7 +279,7 @@ module _ (file : List ℕ) (root v : ℕ) (s : Store) where
           (base-returned (literalOf t v) (bestLiteral s x) (bestLiteral s x .answer) b
           (base-outcome s f (literalOf t v) x refl) (told-by (bestLiteral s x) d e))
       go (byClass t r f d) =
-          let o = found-then t root (flatClass t root v) s (bestAt file root v s) (verdict file root v s t r f)
+          let o = found-then t (pricesFor t root) (flatClass t root v) s (bestAt file root v s) (verdict file root v s t r f)
           (verdict-kept file root v s t r f) b e in
           (o .grows, o .below)
 
@@ -319,7 +315,7 @@ module _ (file : List ℕ) (root v : ℕ) (s : Store) (t : Table) (h : Holding f
         inside = value-in-sort t root v p q;
       } in
       class-number k
-      (number-told t root (flatClass t root v) s (bestAt file root v s) (verdict file root v s t r f)
+      (number-told t (pricesFor t root) (flatClass t root v) s (bestAt file root v s) (verdict file root v s t r f)
       (verdict-kept file root v s t r f) k e))
 
   pub bad-store-then : bestAt file root v s .answer ≡ refusal 17 → wellFormed s ≡ false

@@ -11,13 +11,13 @@ use Rattle.term_rules.specs.Lent.{Store}
 use Rattle.term_rules.specs.Nodes.{Means}
 use Rattle.term_rules.specs.Growing.{Grows}
 use Rattle.choice_rules.specs.Rows.{Child, literal, class, rowAt}
-use Rattle.choice_rules.specs.Deriving.{Tree, leaf, node, Forest, none, more, treeCost, NotIn}
+use Rattle.choice_rules.specs.Deriving.{Tree, leaf, node, Forest, none, more, treeCost, NotIn, Once}
 use Rattle.choice_rules.specs.Edges.{ChosenAll}
 use Rattle.choice_rules.specs.Demand.Deriving.{Deriving, Cheapest}
 use Rattle.file_rules.specs.Table.{Table}
 use Rattle.table_rules.specs.Rules.Rows.{tableRowOf, tableRows, usable}
 use Rattle.table_rules.specs.Rules.Terms.{nameOf, termOf}
-use Rattle.table_rules.specs.Rules.Choosing.{limit, edgeRow}
+use Rattle.table_rules.specs.Rules.Choosing.{limit, Prices}
 use Rattle.answer_rules.specs.Room.{Fits}
 use Rattle.answer_rules.specs.Variants.{fileRow, costFor, keptRows, Kept, VariantsAfter, Lending}
 
@@ -56,16 +56,16 @@ pub record FirstRows (t : Table) (c n : ℕ) (rows costs : List ℕ) : Type 0 wh
       (length rows ≡ n) × ((j : ℕ) → j < length rows → ComesFirst t (getD rows j 0) (getD costs j 0) r w)
 
 -- The rows that are kept, as rows of the file, and their costs.
-abbrev pub keptFileRows : Table → ℕ → ℕ → ℕ → List ℕ
-keptFileRows t root c n = map (fileRow t root) (keptRows t root c n)
+abbrev pub keptFileRows : Table → Prices → ℕ → ℕ → List ℕ
+keptFileRows t p c n = map (fileRow p) (keptRows t p c n)
 
-abbrev pub keptCosts : Table → ℕ → ℕ → ℕ → List ℕ
-keptCosts t root c n = map (costFor t root) (keptRows t root c n)
+abbrev pub keptCosts : Table → Prices → ℕ → ℕ → List ℕ
+keptCosts t p c n = map (costFor t p) (keptRows t p c n)
 
--- A child's own tree: a literal, or a cheapest one that derives its class.
+-- A child's own tree: a literal, or a cheapest one that derives its class, in which no class is met twice on a path.
 abbrev pub BestChild : Table → Tree → Child → Type 0
 BestChild t u (literal i) = u ≡ leaf i
-BestChild t u (class d) = (w : ℕ) × Cheapest (tableRows t) (usable t) d w u
+BestChild t u (class d) = (w : ℕ) × Cheapest (tableRows t) (usable t) d w u × Once (tableRows t) [] u
 
 -- The trees of a row's children, left to right.
 abbrev pub BestChildren : Table → Forest → List Child → Type 0
@@ -76,9 +76,9 @@ BestChildren t (more u f) (k ∷ ks) = BestChild t u k × BestChildren t f ks
 
 -- Term u of the store is the variant of class c that row r heads: over the trees that the edges' rows choose for its
 -- children, best ones, it derives the class; its exact cost is w, and no other term that the row heads is cheaper.
-pub record Variant (t : Table) (root c r w : ℕ) (s : Store) (u : ℕ) : Type 0 where
+pub record Variant (t : Table) (p : Prices) (c r w : ℕ) (s : Store) (u : ℕ) : Type 0 where
   pub children : Forest
-  pub chosen : ChosenAll (tableRows t) (edgeRow t root) children (rowAt (tableRows t) r .children)
+  pub chosen : ChosenAll (tableRows t) (p .row) children (rowAt (tableRows t) r .children)
   pub is-deriving : Deriving (tableRows t) (usable t) c (node r children)
   pub exact : treeCost (tableRows t) (node r children) ≡ w
   pub least : (f : Forest) → Deriving (tableRows t) (usable t) c (node r f) → w ≤ treeCost (tableRows t) (node r f)
@@ -90,13 +90,13 @@ pub record Variant (t : Table) (root c r w : ℕ) (s : Store) (u : ℕ) : Type 0
 -- and the numbers of the rows' variants in the returned store, which is one that the lent one may become. What was
 -- there before is still there.
 pub record ComeBack
-    (t : Table) (root c : ℕ) (rows costs : List ℕ) (l : Lending) (a : VariantsAfter) (k : Kept) : Type 0 where
+    (t : Table) (p : Prices) (c : ℕ) (rows costs : List ℕ) (l : Lending) (a : VariantsAfter) (k : Kept) : Type 0 where
   pub count-is : k .count ≡ length rows
   pub costs-are : (j : ℕ) → j < k .count → getD (a .costs) j 0 ≡ getD costs j 0
   pub below : (j : ℕ) → j < k .count → getD (a .costs) j 0 < limit
   pub variants :
       (j : ℕ) →
       j < k .count →
-      Variant t root c (getD rows j 0) (getD (a .costs) j 0) (a .store) (getD (a .terms) j 0)
+      Variant t p c (getD rows j 0) (getD (a .costs) j 0) (a .store) (getD (a .terms) j 0)
   pub fits : Fits (l .store) (a .store)
   pub grows : Grows (l .store) (a .store)

@@ -24,7 +24,7 @@ use Rattle.table_rules.specs.Rules.Classes.{sortOf, classCount, flatClass, isRo
 use Rattle.table_rules.specs.Rules.Rows.{tableRows, usable}
 use Rattle.table_rules.specs.Rules.Order.{scanned}
 use Rattle.table_rules.specs.Rules.Terms.{literalOf}
-use Rattle.table_rules.specs.Rules.Choosing.{limit}
+use Rattle.table_rules.specs.Rules.Choosing.{limit, Prices, pricesFor}
 use Rattle.answer_rules.specs.Answers.{Answer, value, refusal, After, refused}
 use Rattle.answer_rules.specs.Best.{BestTerm, bestAt}
 use Rattle.answer_rules.specs.Room.{Fits, HasRoom, NoRoomFor}
@@ -61,13 +61,13 @@ pub record BaseRoot (file : List ℕ) (root v : ℕ) (t : Table) : Type 0 where
 abbrev pub Derivation : Table → ℕ → Tree → Type 0
 Derivation t c u = Deriving (tableRows t) (usable t) c u
 
--- P of what best answers: of the table, the root sort, the class, the store and the answer.
-abbrev pub OfClasses : (Table → ℕ → ℕ → Store → After BestTerm → Type 0) → Type 0
+-- P of what best answers: of the table, the root sort, the run's prices, the class, the store and the answer.
+abbrev pub OfClasses : (Table → ℕ → Prices → ℕ → Store → After BestTerm → Type 0) → Type 0
 OfClasses P =
     (file : List ℕ) (root v : ℕ) (t : Table) (s : Store) →
     ClassRoot file root v t →
     wellFormed s ≡ true →
-    P t root (flatClass t root v) s (bestAt file root v s)
+    P t root (pricesFor t root) (flatClass t root v) s (bestAt file root v s)
 
 -- "the number of passes, the last and changeless one counted .. at most one more than the number of classes that end
 -- with a cost"
@@ -84,13 +84,14 @@ BaseOutcome z s s′ (value b) =
     (b .cost ≡ 1) × (b .passes ≡ 1) × Takes s (literal z) (b .term) s′ × Fits s s′
 BaseOutcome z s s′ (refusal k) = (k ≡ 13) × (s′ ≡ s) × NoRoomFor s (number z)
 
--- P of what variants answer: of the table, the root sort, the class, the number asked for, what is lent and the answer.
-abbrev pub OfVariants : (Table → ℕ → ℕ → ℕ → Lending → VariantsAfter → Type 0) → Type 0
+-- P of what variants answer: of the table, the root sort, the run's prices, the class, the number asked for, what is
+-- lent and the answer.
+abbrev pub OfVariants : (Table → ℕ → Prices → ℕ → ℕ → Lending → VariantsAfter → Type 0) → Type 0
 OfVariants P =
     (file : List ℕ) (root v n : ℕ) (t : Table) (l : Lending) →
     ClassRoot file root v t →
     wellFormed (l .store) ≡ true →
-    P t root (flatClass t root v) n l (variantsAt file root v n l)
+    P t root (pricesFor t root) (flatClass t root v) n l (variantsAt file root v n l)
 
 -- The same of a base root: of its literal, what is lent and the answer.
 abbrev pub OfBaseRoots : (ℤ → Lending → VariantsAfter → Type 0) → Type 0
@@ -102,35 +103,35 @@ OfBaseRoots P =
 
 pub record Promises : Type 0 where
   -- "If none derives the root, and only then, the answer is NoTerm."
-  pub no-term : OfClasses (λ t root c s a. (a .answer ≡ refusal 11) ↔ ((u : Tree) → Derivation t c u → ⊥))
+  pub no-term : OfClasses (λ t root p c s a. (a .answer ≡ refusal 11) ↔ ((u : Tree) → Derivation t c u → ⊥))
   -- "If some do but each costs 2^64-1 or more in exact whole numbers, and only then, TooDear."
   pub too-dear :
       OfClasses
-      (λ t root c s a.
+      (λ t root p c s a.
       (a .answer ≡ refusal 12)
       ↔ (((u : Tree) × Derivation t c u) × ((u : Tree) → Derivation t c u → limit ≤ treeCost (tableRows t) u)))
   -- "Otherwise": the class has a chosen tree, the one that the edges' rows choose, and that is a cheapest one.
   pub otherwise :
-      OfClasses (λ t root c s a. (u : Tree) → Derivation t c u → treeCost (tableRows t) u < limit → Choice t root c)
+      OfClasses (λ t root p c s a. (u : Tree) → Derivation t c u → treeCost (tableRows t) u < limit → Choice t p c)
   -- "given room in the store, a deriving term comes back": exactly when some store that the lent one may become in its
   -- room holds the chosen term.
   pub given-room :
       OfClasses
-      (λ t root c s a.
-      ((b : BestTerm) × (a .answer ≡ value b)) ↔ ((x : Choice t root c) × HasRoom s (chosenTerm t root c x)))
+      (λ t root p c s a.
+      ((b : BestTerm) × (a .answer ≡ value b)) ↔ ((x : Choice t p c) × HasRoom s (chosenTerm t p c x)))
   -- What comes back is the chosen term: "its exact cost is the number reported; none is cheaper; and down its chosen
   -- rows no class is met twice on a path."
   pub comes-back :
-      OfClasses (λ t root c s a. (b : BestTerm) → a .answer ≡ value b → ComesBack t root c s b (a .store))
+      OfClasses (λ t root p c s a. (b : BestTerm) → a .answer ≡ value b → ComesBack t p c s b (a .store))
   -- "NoRoom | new terms or names exceed the store's room": exactly when no such store holds the chosen term.
   pub no-room :
       OfClasses
-      (λ t root c s a.
-      (a .answer ≡ refusal 13) ↔ ((x : Choice t root c) × NoRoomFor s (chosenTerm t root c x)))
+      (λ t root p c s a.
+      (a .answer ≡ refusal 13) ↔ ((x : Choice t p c) × NoRoomFor s (chosenTerm t p c x)))
   -- No other number is told of a class.
-  pub numbers : OfClasses (λ t root c s a. (k : ℕ) → a .answer ≡ refusal k → (k ≡ 11) ⊎ ((k ≡ 12) ⊎ (k ≡ 13)))
+  pub numbers : OfClasses (λ t root p c s a. (k : ℕ) → a .answer ≡ refusal k → (k ≡ 11) ⊎ ((k ≡ 12) ⊎ (k ≡ 13)))
   -- "The answer carries the number of passes": those of the run over the rows that the root sort reaches.
-  pub passes : OfClasses (λ t root c s a. (b : BestTerm) → a .answer ≡ value b → PassCount t root (b .passes))
+  pub passes : OfClasses (λ t root p c s a. (b : BestTerm) → a .answer ≡ value b → PassCount t root (b .passes))
   -- A base root is its literal.
   pub base-root :
       (file : List ℕ) (root v : ℕ) (t : Table) (s : Store) →
@@ -165,19 +166,19 @@ pub record Promises : Type 0 where
       (r ≡ q) × (rs ≡ rs′) × (ls ≡ ls′) × (ns ≡ ns′)
   -- Variants, "every usable row of it with a cost, sorted by cost, function name bytes, row cells as numbers (literal
   -- indices, not values), then the first n": the rows that are kept are these, at these costs.
-  pub variants-kept : OfVariants (λ t root c n l a. FirstRows t c n (keptFileRows t root c n) (keptCosts t root c n))
+  pub variants-kept : OfVariants (λ t root p c n l a. FirstRows t c n (keptFileRows t p c n) (keptCosts t p c n))
   -- What comes back is a term for each of them in the returned store: over the trees that the edges' rows choose for
   -- its children it derives the class, its exact cost is the number told, and that is below 2^64-1.
   pub variants-come-back :
       OfVariants
-      (λ t root c n l a.
+      (λ t root p c n l a.
       (k : Kept) →
       a .answer ≡ value k →
-      ComeBack t root c (keptFileRows t root c n) (keptCosts t root c n) l a k)
+      ComeBack t p c (keptFileRows t p c n) (keptCosts t p c n) l a k)
   -- "None is an empty list", where no term derives the class.
-  pub variants-none : OfVariants (λ t root c n l a. ((u : Tree) → Derivation t c u → ⊥) → EmptyList l a)
+  pub variants-none : OfVariants (λ t root p c n l a. ((u : Tree) → Derivation t c u → ⊥) → EmptyList l a)
   -- "The answer carries the number of passes", as best's does.
-  pub variants-passes : OfVariants (λ t root c n l a. (k : Kept) → a .answer ≡ value k → PassCount t root (k .passes))
+  pub variants-passes : OfVariants (λ t root p c n l a. (k : Kept) → a .answer ≡ value k → PassCount t root (k .passes))
   -- "A base root gives one variant, even for n = 0.", or NoRoom and no other number.
   pub variants-base-root : OfBaseRoots (λ z l a. LiteralTold z l a (a .answer))
   -- "Best and variants: file, 10, 17, 11, 12, 13": the file's first fault comes before all,
@@ -198,24 +199,24 @@ pub record Promises : Type 0 where
       (variantsAt file root v n l .answer ≡ refusal 17) ↔ (wellFormed (l .store) ≡ false)
   -- then TooDear: "variants: a kept one costs 2^64-1 after saturation",
   pub variants-too-dear :
-      OfVariants (λ t root c n l a. (a .answer ≡ refusal 12) ↔ HasDear (keptCosts t root c n))
+      OfVariants (λ t root p c n l a. (a .answer ≡ refusal 12) ↔ HasDear (keptCosts t p c n))
   -- then NoRoom, "new terms or names exceed the store's room .., or the result its lent buffer": none of the kept ones
   -- is too dear, and a list has no places for as many results, or no store that the lent one may become in its room
   -- holds the terms of all kept rows.
   pub variants-no-room :
       OfVariants
-      (λ t root c n l a.
+      (λ t root p c n l a.
       (a .answer ≡ refusal 13)
-      ↔ (AllBelow limit (keptCosts t root c n)
-      × (NoPlaces l (length (keptFileRows t root c n)) ⊎ NoRoomForRows t root (l .store) (keptFileRows t root c n))))
+      ↔ (AllBelow limit (keptCosts t p c n)
+      × (NoPlaces l (length (keptFileRows t p c n)) ⊎ NoRoomForRows t p (l .store) (keptFileRows t p c n))))
   -- They come back exactly when none is too dear, both lists have the places, and some such store holds the terms.
   pub variants-given-room :
       OfVariants
-      (λ t root c n l a.
+      (λ t root p c n l a.
       ((k : Kept) × (a .answer ≡ value k))
-      ↔ (AllBelow limit (keptCosts t root c n)
-      × Places l (length (keptFileRows t root c n))
-      × HasRoomForRows t root (l .store) (keptFileRows t root c n)))
+      ↔ (AllBelow limit (keptCosts t p c n)
+      × Places l (length (keptFileRows t p c n))
+      × HasRoomForRows t p (l .store) (keptFileRows t p c n)))
   -- No other number is told: the file's own, 10, 17, 12 and 13,
   pub variants-numbers :
       (file : List ℕ) (root v n : ℕ) (l : Lending) (k : ℕ) →

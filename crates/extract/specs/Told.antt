@@ -3,7 +3,7 @@
 use mathlib.Core.Path.{_≡_}
 use mathlib.Core.List.{List, []}
 use mathlib.Core.Logic.{_⊎_}
-use Prim.Native.Nat.{ℕ, suc, _<_, _≤_}
+use Prim.Native.Nat.{ℕ, _<_, _≤_}
 use lib.IntN.{ℤ}
 use lib.ListN.{length, getD, drop, replicate}
 use Rattle.refusal.specs.declared.Refusal.{Refusal}
@@ -15,10 +15,10 @@ use Rattle.term_rules.specs.Growing.{Takes}
 use Rattle.build.specs.Building.{state, Out}
 use Rattle.file_rules.specs.Table.{Table}
 use Rattle.file_rules.specs.File.{tableAt}
-use Rattle.table_rules.specs.Rules.Choosing.{limit, runOf}
+use Rattle.table_rules.specs.Rules.Choosing.{limit, Prices}
 use Rattle.answer_rules.specs.Answers.{Answer, value, refusal}
 use Rattle.answer_rules.specs.Room.{Fits, NoRoomFor}
-use Rattle.answer_rules.specs.Variants.{variantsIn, Kept, VariantsAfter, Lending}
+use Rattle.answer_rules.specs.Variants.{variantsIn, Kept, VariantsAfter, Lending, depthFor}
 
 -- "Best and variants: file, 10, 17, 11, 12, 13", of which 11 is "best only".
 abbrev pub OneOf : List ℕ → ℕ → Type 0
@@ -31,9 +31,9 @@ abbrev pub HasDear : List ℕ → Type 0
 HasDear costs = (j : ℕ) × ((j < length costs) × (getD costs j 0 ≡ limit))
 
 -- The terms of the rows, built in turn in the lent store.
-abbrev pub builtRows : Table → ℕ → List ℕ → Store → Out (List ℕ)
-builtRows t root rows s =
-    variantsIn t root (suc (runOf t root .state .last)) (state (replicate 512 0) s) [] rows
+abbrev pub builtRows : Table → Prices → List ℕ → Store → Out (List ℕ)
+builtRows t p rows s =
+    variantsIn t p (depthFor p) (state (replicate 512 0) s) [] rows
 
 -- As many results as n have no places in a lent list.
 abbrev pub NoPlaces : Lending → ℕ → Type 0

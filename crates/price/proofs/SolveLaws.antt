@@ -19,7 +19,7 @@ module _
     (v : SolveReady n outputs heads starts children order functions)
     (costs ranks edges : List ℕ) (last passes : ℕ)
     (ran : ranTo costs ranks last passes ≡ run top (rowsOf outputs heads starts children) n)
-    (found : edges ≡ edgesOf top (stateOf costs ranks 0) (rowsOf outputs heads starts children))
+    (found : edges ≡ edgesOf top costs ranks (rowsOf outputs heads starts children))
     (long : length ranks ≡ n) where
   -- the edge of a class that has a cost below 2^64-1
   pub edge-found :
@@ -35,11 +35,11 @@ module _
       (λ (s : State).
       0 < getD (s .ranks) c 0 →
       getD (s .costs) c 0 < top →
-      FlatEdge s outputs starts children c (edgeOf top s (rowsOf outputs heads starts children) c))
+      FlatEdge s outputs starts children c (edgeOf top (s .costs) (s .ranks) (rowsOf outputs heads starts children) c))
       (sym e) (flat-edge-of-class n outputs heads starts children (v .flat) c) in
-      let g : getD edges c 0 ≡ edgeOf top (stateOf costs ranks 0) (rowsOf outputs heads starts children) c =
+      let g : getD edges c 0 ≡ edgeOf top costs ranks (rowsOf outputs heads starts children) c =
       ap (λ (x : List ℕ). getD x c 0) found
-      ∙ tabulate-get (edgeOf top (stateOf costs ranks 0) (rowsOf outputs heads starts children))
+      ∙ tabulate-get (edgeOf top costs ranks (rowsOf outputs heads starts children))
       (length ranks) c 0 h in
       subst (λ (i : ℕ). FlatEdge (stateOf costs ranks last) outputs starts children c i) (sym g)
       (q (p .ranked) (p .below))
@@ -49,7 +49,7 @@ module _
     costs-length = same;
     edges-length =
         ap (λ (x : List ℕ). length x) found
-        ∙ tabulate-length (edgeOf top (stateOf costs ranks 0) (rowsOf outputs heads starts children)) (length ranks);
+        ∙ tabulate-length (edgeOf top costs ranks (rowsOf outputs heads starts children)) (length ranks);
     few-classes = omega (arith, v .flat .few-classes, long);
     few-rows = omega (arith, v .flat .few-rows, v .order-length);
     starts-long = omega (arith, v .flat .starts-length, v .order-length);

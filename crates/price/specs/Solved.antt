@@ -5,7 +5,7 @@ use Prim.Native.Nat.{ℕ, _+_, _*_, _<_, _≤_}
 use lib.ListN.{length, getD, replicate}
 use Rattle.choice_rules.specs.Run.{run}
 use Rattle.choice_rules.specs.Edges.{edgesOf}
-use Rattle.price_passes.specs.Flat.{top, rowsOf, FlatOk, Fresh, stateOf, ranTo}
+use Rattle.price_passes.specs.Flat.{top, rowsOf, FlatOk, Fresh, ranTo}
 use Rattle.price.specs.Planning.{Plans}
 
 -- Flat rows over n classes, each with the row of the file and at most eight children; `functions` has the function of
@@ -30,5 +30,5 @@ pub record Solved
     (n passes last : ℕ) (outputs heads starts children order functions costs ranks edges known plan : List ℕ) : Type 0
   where
     pub ran : ranTo costs ranks last passes ≡ run top (rowsOf outputs heads starts children) n
-    pub edges-are : edges ≡ edgesOf top (stateOf costs ranks 0) (rowsOf outputs heads starts children)
+    pub edges-are : edges ≡ edgesOf top costs ranks (rowsOf outputs heads starts children)
     pub planned : Plans costs ranks edges order functions starts children plan known n

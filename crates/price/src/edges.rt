@@ -5,7 +5,7 @@ ghost use Prim.Native.Nat.{_<_};
 ghost use lib.ListN.{length, replicate};
 ghost use Rattle.choice_rules.specs.Rows.{allOf};
 ghost use Rattle.choice_rules.specs.Edges.{below, isEdge, edgesOf};
-ghost use Rattle.price_passes.specs.Flat.{top, childOf, rowOf, rowsOf, ChildrenIn, FlatOk, stateOf};
+ghost use Rattle.price_passes.specs.Flat.{top, childOf, rowOf, rowsOf, ChildrenIn, FlatOk};
 ghost use Rattle.price.specs.Marks.{marked};
 use price_passes::children;
 use price_passes::rows;
@@ -96,7 +96,7 @@ pub fn fill(
     requires { ⌜ length (now edges) ≡ length (now ranks) ⌝ }
     requires { ⌜ length (now costs) ≡ length (now ranks) ⌝ }
     requires { ⌜ FlatOk (length (now ranks)) (now outputs) (now heads) (now starts) (now children) ⌝ }
-    ensures { λ _. ⌜ now (edges .exit) ≡ edgesOf top (stateOf (now (costs .entry)) (now (ranks .entry)) 0)
+    ensures { λ _. ⌜ now (edges .exit) ≡ edgesOf top (now (costs .entry)) (now (ranks .entry))
         (rowsOf (now (outputs .entry)) (now (heads .entry)) (now (starts .entry)) (now (children .entry))) ⌝ }
 {
     let none = outputs.len() as u64;

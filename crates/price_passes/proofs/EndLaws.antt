@@ -19,5 +19,5 @@ module _ (n : ℕ) (outputs heads starts children : List ℕ) where
   ended-is costs ranks last passes e = ap (λ (r : Run). r .state) e
 
   module _ (ok : FlatOk n outputs heads starts children) where
-    pub flat-promises : Promises top flat n
+    pub flat-promises : Promises top flat n (rows-within outputs heads starts children n ok)
     flat-promises = promises top flat n (rows-within outputs heads starts children n ok)

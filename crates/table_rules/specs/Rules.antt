@@ -5,3 +5,4 @@ pub mod Order
 pub mod Terms
 pub mod Facts
 pub mod Choosing
+pub mod Prices

@@ -12,6 +12,7 @@ use Rattle.term_rules.specs.WellFormed.{wellFormed}
 use Rattle.file_rules.specs.Table.{Table}
 use Rattle.table_rules.specs.Rules.Classes.{classCount}
 use Rattle.table_rules.specs.Rules.Rows.{tableRowOf}
+use Rattle.table_rules.specs.Rules.Choosing.{runOf, pricesFor}
 use Rattle.variant_order.specs.Arrays.{cellsIn}
 use Rattle.answer_rules.specs.Variants.{VariantsAfter, Lending, keptRows, variantsOfRows}
 use Rattle.best_class.specs.Flat.{FlatTable}
@@ -65,4 +66,4 @@ VariantsAnswers outputs heads starts children order functions labels values arit
     (t : Table) (root : ℕ) →
     VariantTable t root outputs heads starts children order functions labels values arities cells →
     n ≡ classCount t →
-    a ≡ variantsOfRows t root l (keptRows t root c most)
+    a ≡ variantsOfRows t (pricesFor t root) (runOf t root .passes) l (keptRows t (pricesFor t root) c most)

@@ -8,12 +8,13 @@ use lib.IntN.{ℤ}
 use lib.ListN.{length, take}
 use Rattle.refusal.specs.declared.Refusal.the-variants.{TooDear, NoRoom, BadStore}
 use Rattle.refusal.specs.Numbers.{refusalNo}
-use Rattle.term_rules.specs.Lent.{Store, store}
+use Rattle.term_rules.specs.Lent.{store}
 use Rattle.term_rules.specs.WellFormed.{wellFormed}
 use Rattle.term_rules.specs.Nodes.{literal}
 use Rattle.term_rules.specs.Adding.{add}
 use Rattle.file_rules.specs.Table.{Table}
 use Rattle.table_rules.specs.Rules.Classes.{classCount}
+use Rattle.table_rules.specs.Rules.Choosing.{runOf, pricesFor}
 use Rattle.answer_rules.specs.Answers.{value, refusal}
 use Rattle.answer_rules.specs.Variants.{VariantsAfter, Lending, keptRows, variantLiteral, variantsOfRows, variantsRefused}
 use Rattle.variants_root.specs.Flat.{VariantTable}
@@ -53,7 +54,8 @@ abbrev pub literalAnswer : ℤ → Lending → VariantsAfter
 literalAnswer z l = ifFormed l (variantLiteral l (add (l .store) (literal z)))
 
 abbrev pub classAnswer : Table → ℕ → ℕ → ℕ → Lending → VariantsAfter
-classAnswer t root c most l = ifFormed l (variantsOfRows t root l (keptRows t root c most))
+classAnswer t root c most l =
+    ifFormed l (variantsOfRows t (pricesFor t root) (runOf t root .passes) l (keptRows t (pricesFor t root) c most))
 
 -- The lists are those of table t for a root sort: n rows with m children, over w classes.
 pub record KeyedTable

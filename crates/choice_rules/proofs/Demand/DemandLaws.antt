@@ -1,7 +1,7 @@
 -- Demand 3 over all rows, from demand 3 over the rows in scan order. Assumes nothing.
 use mathlib.Core.Path.{_≡_, refl, sym, _∙_, subst}
 use mathlib.Core.Bool.{Bool}
-use mathlib.Core.List.{List, []}
+use mathlib.Core.List.{List}
 use mathlib.Core.Logic.{⊎-elim}
 use Prim.Native.Nat.{ℕ, _<_, _≤_}
 use native.Mathlib.Omega.{arith}
@@ -14,7 +14,6 @@ use Rattle.choice_rules.proofs.Demand.OrderLaws.{
   renumber-derives,
   renumber-usable,
   renumber-cost,
-  renumber-once,
   Ordered,
   ordered,
 }
@@ -47,7 +46,6 @@ module _ (rows : List Row) (usable : ℕ → Bool) (order : List ℕ) (In : ℕ 
     least = λ u d.
         let o = order-of-deriving c h u d in
         subst (λ (n : ℕ). w ≤ n) (o .cost) (b .least (o .tree) (o .derives));
-    once = renumber-once rows order [] t (class c) (b .derives) (b .once);
   }
 
   -- an answer that is right over the order is demand 3's

@@ -17,9 +17,6 @@ use Rattle.choice_rules.specs.Deriving.{
   DeriveAll,
   treeCost,
   forestCost,
-  NotIn,
-  Once,
-  OnceAll,
 }
 use Rattle.choice_rules.specs.Demand.Deriving.{AllUsable, AllUsableIn}
 use Rattle.choice_rules.specs.Demand.Orders.{inOrder, renumber, renumberIn, Covers}
@@ -131,35 +128,6 @@ module _ (rows : List Row) (order : List ℕ) where
         let a = renumber-cost t k (d .0) in
         let b = renumber-cost-in f ks (d .1) in
         rw (a, b) refl
-
-  mutual
-    unfolding Derives DeriveAll renumber renumberIn Once OnceAll
-
-    -- and with no class twice on a path
-    pub renumber-once :
-        (met : List ℕ) (t : Tree) (k : Child) →
-        Derives (inOrder rows order) t k →
-        Once (inOrder rows order) met t →
-        Once rows met (renumber order t)
-    renumber-once met (leaf i) k d o = tt
-    renumber-once met (node i f) (literal j) d o = absurd d
-    renumber-once met (node i f) (class c) d o =
-        let e = at i (d .0) in (
-          subst (λ (r : Row). NotIn (r .output) met) e (o .0),
-          subst (λ (r : Row). OnceAll rows (r .output ∷ met) (renumberIn order f)) e
-              (renumber-once-in (rowAt (inOrder rows order) i .output ∷ met) f
-              (rowAt (inOrder rows order) i .children) (d .2) (o .1)),
-        )
-
-    pub renumber-once-in :
-        (met : List ℕ) (f : Forest) (ks : List Child) →
-        DeriveAll (inOrder rows order) f ks →
-        OnceAll (inOrder rows order) met f →
-        OnceAll rows met (renumberIn order f)
-    renumber-once-in met none ks d o = tt
-    renumber-once-in met (more t f) [] d o = absurd d
-    renumber-once-in met (more t f) (k ∷ ks) d o =
-        (renumber-once met t k (d .0) (o .0), renumber-once-in met f ks (d .1) (o .1))
 
 -- a tree over the order, for a tree over all rows: the same child, at the same cost
 pub record Ordered (rows : List Row) (order : List ℕ) (t : Tree) (k : Child) : Type 0 where

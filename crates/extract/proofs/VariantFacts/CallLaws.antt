@@ -25,7 +25,8 @@ use Rattle.build.proofs.BuildingLaws.{tracks-of-zeros}
 use Rattle.file_rules.specs.Table.{Table}
 use Rattle.file_rules.specs.File.{tableAt}
 use Rattle.table_rules.specs.Rules.Classes.{sortOf, flatClass, isRoot}
-use Rattle.table_rules.specs.Rules.Choosing.{runOf}
+use Rattle.table_rules.specs.Rules.Choosing.{Prices, pricesFor, runOf}
+use Rattle.table_rules.specs.Rules.Prices.{TruePrices}
 use Rattle.table_rules.specs.Rules.Terms.{literalOf}
 use Rattle.table_rules.specs.Rules.Facts.{Known}
 use Rattle.answer_rules.specs.Answers.{value, refusal}
@@ -42,6 +43,8 @@ use Rattle.answer_rules.specs.Variants.{
   variantsAt,
 }
 use Rattle.answer_rules.specs.Room.{Fits}
+use Rattle.table_rules.proofs.Rules.AnswerLaws.{run-true}
+use Rattle.table_rules.proofs.Rules.CoverLaws.{ReachedClass}
 use Rattle.extract.specs.Returned.{Returned}
 use Rattle.extract.proofs.LiteralLaws.{literal-fits}
 use Rattle.extract.specs.Told.{OneOf, builtRows, Unchanged, RestStays, OneLiteral}
@@ -55,7 +58,6 @@ use Rattle.extract.proofs.VariantFacts.OutcomeLaws.{
   refused-unchanged,
   kept-is,
   kept-rest,
-  kept,
   KeptRows,
   rows-kept,
   rows-number,
@@ -128,40 +130,40 @@ module _ (l : Lending) (ws ts : List ℕ) (p : ℕ) (s : Store) (same : length t
   }
 
 -- The kept rows of a class, built in a well-formed store.
-module _ (t : Table) (k : Known t) (root : ℕ) (h : root < length (t .sorts)) (c n : ℕ) (s : Store)
-    (f : wellFormed s ≡ true) (cheap : anyDear t root (keptRows t root c n) ≡ false) where
+module _ (t : Table) (k : Known t) (In : ℕ → Type 0) (ps : Prices) (tp : TruePrices t In ps) (c n : ℕ) (s : Store)
+    (f : wellFormed s ≡ true) (cheap : anyDear t ps (keptRows t ps c n) ≡ false) where
   built-right :
-      RowsRight t k root h (state (replicate 512 0) s) (keptRows t root c n)
-      (builtRows t root (keptRows t root c n) s)
+      RowsRight t k In ps tp (state (replicate 512 0) s) (keptRows t ps c n)
+      (builtRows t ps (keptRows t ps c n) s)
   built-right =
-      rows-right t k root h (keptRows t root c n) (kept-sound t k root h c n cheap) []
+      rows-right t k In ps tp (keptRows t ps c n) (kept-sound t k In ps tp c n cheap) []
       (state (replicate 512 0) s) (state (replicate 512 0) s) []
-      (tracks-of-zeros (planFor t root) 512 s f)
+      (tracks-of-zeros (planFor t ps) 512 s f)
       (record { grows = grows-refl s f; are = noBuilt })
 
   pub built-made :
       (ts : List ℕ) (st : State) →
-      builtRows t root (keptRows t root c n) s ≡ done ts st →
-      AllMade t k root h (state (replicate 512 0) s) (keptRows t root c n) ts st
+      builtRows t ps (keptRows t ps c n) s ≡ done ts st →
+      AllMade t k In ps tp (state (replicate 512 0) s) (keptRows t ps c n) ts st
   built-made ts st e =
-      subst (λ (o : Out (List ℕ)). RowsRight t k root h (state (replicate 512 0) s) (keptRows t root c n) o) e
+      subst (λ (o : Out (List ℕ)). RowsRight t k In ps tp (state (replicate 512 0) s) (keptRows t ps c n) o) e
       built-right
 
 -- What is told of the kept rows of a class.
-module _ (t : Table) (known : Known t) (root : ℕ) (h : root < length (t .sorts)) (c n : ℕ) (l : Lending)
+module _ (t : Table) (known : Known t) (In : ℕ → Type 0) (ps : Prices) (tp : TruePrices t In ps) (c n np : ℕ) (l : Lending)
     (f : wellFormed (l .store) ≡ true) (a : VariantsAfter) (k : Kept)
-    (q : KeptRows t root l (keptRows t root c n) a k) where
+    (q : KeptRows t ps np l (keptRows t ps c n) a k) where
   abbrev rows : List ℕ
-  rows = keptRows t root c n
+  rows = keptRows t ps c n
 
   abbrev paid : List ℕ
-  paid = map (costFor t root) rows
+  paid = map (costFor t ps) rows
 
-  made : AllMade t known root h (state (replicate 512 0) (l .store)) rows (q .numbers) (q .state)
-  made = built-made t known root h c n (l .store) f (q .not-dear-any) (q .numbers) (q .state) (q .built)
+  made : AllMade t known In ps tp (state (replicate 512 0) (l .store)) rows (q .numbers) (q .state)
+  made = built-made t known In ps tp c n (l .store) f (q .not-dear-any) (q .numbers) (q .state) (q .built)
 
   paid-length : length paid ≡ length rows
-  paid-length = map-length (costFor t root) rows
+  paid-length = map-length (costFor t ps) rows
 
   as-many : length (q .numbers) ≡ length paid
   as-many = terms-length (made .are) ∙ sym paid-length
@@ -172,20 +174,20 @@ module _ (t : Table) (known : Known t) (root : ℕ) (h : root < length (t .sorts
   counted : length paid ≡ k .count
   counted = paid-length ∙ sym (q .count-is)
 
-  pub told-cost : (j : ℕ) → j < k .count → getD (a .costs) j 0 ≡ costFor t root (getD rows j 0)
+  pub told-cost : (j : ℕ) → j < k .count → getD (a .costs) j 0 ≡ costFor t ps (getD rows j 0)
   told-cost j b =
-      subst (λ (x : VariantsAfter). getD (x .costs) j 0 ≡ costFor t root (getD rows j 0)) (sym (q .is))
-      (kept-cost l paid (q .numbers) (runOf t root .passes) (q .state .lent) as-many paid-places j
+      subst (λ (x : VariantsAfter). getD (x .costs) j 0 ≡ costFor t ps (getD rows j 0)) (sym (q .is))
+      (kept-cost l paid (q .numbers) np (q .state .lent) as-many paid-places j
       (omega (arith, counted))
-      ∙ map-get (costFor t root) rows j 0 0 (omega (arith, q .count-is)))
+      ∙ map-get (costFor t ps) rows j 0 0 (omega (arith, q .count-is)))
 
-  pub told-term : (j : ℕ) → j < k .count → BuiltTerm t root (a .store) (getD rows j 0) (getD (a .terms) j 0)
+  pub told-term : (j : ℕ) → j < k .count → BuiltTerm t ps (a .store) (getD rows j 0) (getD (a .terms) j 0)
   unfolding variantsKept
   told-term j b =
-      subst (λ (x : VariantsAfter). BuiltTerm t root (x .store) (getD rows j 0) (getD (x .terms) j 0)) (sym (q .is))
-      (subst (λ (u : ℕ). BuiltTerm t root (q .state .lent) (getD rows j 0) u)
+      subst (λ (x : VariantsAfter). BuiltTerm t ps (x .store) (getD rows j 0) (getD (x .terms) j 0)) (sym (q .is))
+      (subst (λ (u : ℕ). BuiltTerm t ps (q .state .lent) (getD rows j 0) u)
       (sym
-      (kept-term l paid (q .numbers) (runOf t root .passes) (q .state .lent) as-many paid-places j
+      (kept-term l paid (q .numbers) np (q .state .lent) as-many paid-places j
       (omega (arith, counted))))
       (terms-get (made .are) j (omega (arith, q .count-is))))
 
@@ -193,18 +195,18 @@ module _ (t : Table) (known : Known t) (root : ℕ) (h : root < length (t .sorts
   rows-returned =
       subst (λ (x : VariantsAfter). Back l x (k .count)) (sym (q .is))
       (subst
-      (λ (m : ℕ). Back l (variantsKept l paid (q .numbers) (runOf t root .passes) (q .state .lent)) m)
+      (λ (m : ℕ). Back l (variantsKept l paid (q .numbers) np (q .state .lent)) m)
       counted
-      (kept-returned l paid (q .numbers) (runOf t root .passes) (q .state .lent) as-many paid-places (made .grows)
+      (kept-returned l paid (q .numbers) np (q .state .lent) as-many paid-places (made .grows)
       (terms-below (made .are))))
 
   rows-rest : RestStays l a (k .count)
   rows-rest =
       subst (λ (x : VariantsAfter). RestStays l x (k .count)) (sym (q .is))
       (subst
-      (λ (m : ℕ). RestStays l (variantsKept l paid (q .numbers) (runOf t root .passes) (q .state .lent)) m)
+      (λ (m : ℕ). RestStays l (variantsKept l paid (q .numbers) np (q .state .lent)) m)
       counted
-      (kept-rest l paid (q .numbers) (runOf t root .passes) (q .state .lent) as-many paid-places))
+      (kept-rest l paid (q .numbers) np (q .state .lent) as-many paid-places))
 
 -- What is told of a literal.
 module _ (l : Lending) (f : wellFormed (l .store) ≡ true) (z : ℤ) (a : VariantsAfter) (k : Kept)
@@ -265,7 +267,9 @@ module _ (l : Lending) (file : List ℕ) (root v n : ℕ) where
       go (byLiteral t f o) = literal-after l f (literalOf t v) after k e o .1 .0
       go (byClass t kn h f o) =
           let c : ℕ = flatClass t root v in
-          rows-returned t kn root h c n l f after k (rows-kept t root l (keptRows t root c n) after o k e)
+          rows-returned t kn (ReachedClass t root) (pricesFor t root) (run-true t kn root h) c n (runOf t root .passes) l f
+          after k
+          (rows-kept t (pricesFor t root) (runOf t root .passes) l (keptRows t (pricesFor t root) c n) after o k e)
 
   pub variants-rest : (k : Kept) → after .answer ≡ value k → RestStays l after (k .count)
   variants-rest k e = go (way file root v n l)
@@ -277,7 +281,8 @@ module _ (l : Lending) (file : List ℕ) (root v n : ℕ) where
       go (byLiteral t f o) = literal-after l f (literalOf t v) after k e o .1 .1
       go (byClass t kn h f o) =
           let c : ℕ = flatClass t root v in
-          rows-rest t kn root h c n l f after k (rows-kept t root l (keptRows t root c n) after o k e)
+          rows-rest t kn (ReachedClass t root) (pricesFor t root) (run-true t kn root h) c n (runOf t root .passes) l f after k
+          (rows-kept t (pricesFor t root) (runOf t root .passes) l (keptRows t (pricesFor t root) c n) after o k e)
 
   pub variants-unchanged : (k : ℕ) → after .answer ≡ refusal k → Unchanged l after
   variants-unchanged k e = go (way file root v n l)
@@ -288,7 +293,8 @@ module _ (l : Lending) (file : List ℕ) (root v n : ℕ) where
       go (byStore q) = refused-unchanged l BadStore after q
       go (byLiteral t f o) = literal-unchanged l (literalOf t v) after o k e
       go (byClass t kn h f o) =
-          rows-unchanged t root l (keptRows t root (flatClass t root v) n) after o k e
+          rows-unchanged t (pricesFor t root) (runOf t root .passes) l
+          (keptRows t (pricesFor t root) (flatClass t root v) n) after o k e
 
   pub variants-number : (k : ℕ) → after .answer ≡ refusal k → OneOf file k
   variants-number k e = go (way file root v n l)
@@ -303,7 +309,8 @@ module _ (l : Lending) (file : List ℕ) (root v n : ℕ) where
       go (byStore q) = inr (inr (inl (sym (same-number (told q e)))))
       go (byLiteral t f o) = late (inr (literal-number l (literalOf t v) after o k e))
       go (byClass t kn h f o) =
-          late (rows-number t root l (keptRows t root (flatClass t root v) n) after o k e)
+          late (rows-number t (pricesFor t root) (runOf t root .passes) l
+          (keptRows t (pricesFor t root) (flatClass t root v) n) after o k e)
 
   -- "best only"
   pub variants-not-eleven : after .answer ≡ refusal 11 → ⊥
@@ -330,7 +337,8 @@ module _ (file : List ℕ) (root v n : ℕ) (l : Lending) (t : Table) (p : ℕ) 
         inr
         (literal-number l (literalOf t v) (variantsAt file root v n l) (at-literal file root v n l t p e q f b) k h))
         (λ b.
-        rows-number t root l (keptRows t root (flatClass t root v) n) (variantsAt file root v n l)
+        rows-number t (pricesFor t root) (runOf t root .passes) l
+        (keptRows t (pricesFor t root) (flatClass t root v) n) (variantsAt file root v n l)
         (at-class file root v n l t p e q f b) k h)
 
     late : {P : Type 0} (k : ℕ) → (k ≡ 12 → ⊥) → (k ≡ 13 → ⊥) → (k ≡ 12) ⊎ (k ≡ 13) → P

@@ -20,15 +20,14 @@ use Rattle.variant_order.proofs.RankLaws.{noLater-linear}
 use Rattle.table_rules.specs.Order.{has, Apart, none as noneApart, more as moreApart}
 use Rattle.table_rules.proofs.HasLaws.{has-get, has-place, no-both}
 use Rattle.table_rules.proofs.PickedLaws.{Passes, picked-finds, picked-apart}
-use Rattle.table_rules.proofs.OrderLaws.{rowsInOrder-apart}
 use Rattle.choice_rules.specs.Deriving.{NotIn}
 use Rattle.choice_rules.proofs.Demand.OrderLaws.{map-length, map-get, inOrder-length}
 use Rattle.file_rules.specs.Table.{Table}
+use Rattle.table_rules.specs.Rules.Choosing.{Prices}
+use Rattle.table_rules.specs.Rules.Prices.{TruePrices}
 use Rattle.table_rules.specs.Rules.Rows.{tableRows}
-use Rattle.table_rules.specs.Rules.Order.{viewOf, scanOrder, scanned}
 use Rattle.table_rules.specs.Rules.Facts.{Known}
-use Rattle.table_rules.proofs.Rules.CoverLaws.{ReachedClass, view-sound}
-use Rattle.answer_rules.specs.Variants.{fileRow, costFor, isVariant, variantRows, keyFor, keptRows}
+use Rattle.answer_rules.specs.Variants.{fileRow, costFor, isVariant, variantRows, keyFor, keptRows, rowsFor}
 use Rattle.variants_root.proofs.kept_rows.SortLaws.{kept-passes}
 use Rattle.extract.specs.First.{RowCost, ComesFirst, FirstRows, keptFileRows, keptCosts}
 use Rattle.extract.proofs.VariantFacts.GrownLaws.{row-cost, Found, row-found, row-cost-once}
@@ -127,91 +126,86 @@ first-cheaper a b e = go (decLt (b .cost) (a .cost))
         e in
         no-both (upTo (numbers (a .cost) (b .cost))) o (ap upTo n)
 
-module _ (t : Table) (known : Known t) (root : ℕ) (h : root < length (t .sorts)) (c : ℕ)
-    (r : ReachedClass t root c) (n : ℕ) where
+module _ (t : Table) (known : Known t) (In : ℕ → Type 0) (ps : Prices) (tp : TruePrices t In ps) (c : ℕ)
+    (r : In c) (n : ℕ) where
   abbrev all : List ℕ
-  all = sorted (noLater (keyFor t root)) (variantRows t root c)
+  all = sorted (noLater (keyFor t ps)) (variantRows t ps c)
 
-  all-sorted : Sorted (noLater (keyFor t root)) all
-  all-sorted = sorted-sorted (noLater (keyFor t root)) (noLater-linear (keyFor t root)) (variantRows t root c)
+  all-sorted : Sorted (noLater (keyFor t ps)) all
+  all-sorted = sorted-sorted (noLater (keyFor t ps)) (noLater-linear (keyFor t ps)) (variantRows t ps c)
 
   all-once : (z : ℕ) → count z all ≤ 1
   unfolding variantRows
   all-once z =
-      let s = sorted-same (noLater (keyFor t root)) (noLater-linear (keyFor t root)) (variantRows t root c) z in
+      let s = sorted-same (noLater (keyFor t ps)) (noLater-linear (keyFor t ps)) (variantRows t ps c) z in
       omega (
         arith,
         s,
         apart-count
-            (picked-apart (isVariant t root c) (length (scanned t root)) 0 (length (scanned t root)) (omega arith)) z,
+            (picked-apart (isVariant t ps c) (length (rowsFor t ps)) 0 (length (rowsFor t ps)) (omega arith)) z,
       )
 
-  kept-long : length (keptRows t root c n) ≡ min n (length all)
+  kept-long : length (keptRows t ps c n) ≡ min n (length all)
   unfolding keptRows
   kept-long = length-take n all
 
-  kept-get : (j : ℕ) → j < length (keptRows t root c n) → getD (keptRows t root c n) j 0 ≡ getD all j 0
+  kept-get : (j : ℕ) → j < length (keptRows t ps c n) → getD (keptRows t ps c n) j 0 ≡ getD all j 0
   unfolding keptRows
   kept-get j b = getD-take n all j 0 (omega (arith, b, kept-long))
 
-  pub kept-few : length (keptRows t root c n) ≤ n
+  pub kept-few : length (keptRows t ps c n) ≤ n
   kept-few = omega (arith, kept-long)
 
   kept-picked :
       (j : ℕ) →
-      j < length (keptRows t root c n) →
-      Passes (isVariant t root c) (getD (keptRows t root c n) j 0) 0 (length (scanned t root))
+      j < length (keptRows t ps c n) →
+      Passes (isVariant t ps c) (getD (keptRows t ps c n) j 0) 0 (length (rowsFor t ps))
   unfolding keptRows variantRows
-  kept-picked j b = kept-passes (keyFor t root) (isVariant t root c) (length (scanned t root)) n j b
+  kept-picked j b = kept-passes (keyFor t ps) (isVariant t ps c) (length (rowsFor t ps)) n j b
 
-  pub kept-place : (j : ℕ) → j < length (keptRows t root c n) → getD (keptRows t root c n) j 0 < length (scanned t root)
+  pub kept-place : (j : ℕ) → j < length (keptRows t ps c n) → getD (keptRows t ps c n) j 0 < length (rowsFor t ps)
   kept-place j b = omega (arith, kept-picked j b .high)
 
   pub kept-variant :
-      (j : ℕ) → j < length (keptRows t root c n) → isVariant t root c (getD (keptRows t root c n) j 0) ≡ true
+      (j : ℕ) → j < length (keptRows t ps c n) → isVariant t ps c (getD (keptRows t ps c n) j 0) ≡ true
   kept-variant j b = kept-picked j b .passes
 
   pub kept-order :
       (i j : ℕ) →
       i < j →
-      j < length (keptRows t root c n) →
-      noLater (keyFor t root) (getD (keptRows t root c n) i 0) (getD (keptRows t root c n) j 0) ≡ true
+      j < length (keptRows t ps c n) →
+      noLater (keyFor t ps) (getD (keptRows t ps c n) i 0) (getD (keptRows t ps c n) j 0) ≡ true
   kept-order i j b l =
       rw (kept-get i (omega (arith, b, l)), kept-get j l)
       (sorted-get all-sorted i j b (omega (arith, l, kept-long)))
 
   -- a place of the scan order by its row, and by its key
-  row-of : (j : ℕ) → j < length (keptRows t root c n)
-      → getD (keptFileRows t root c n) j 0 ≡ fileRow t root (getD (keptRows t root c n) j 0)
-  row-of j b = map-get (fileRow t root) (keptRows t root c n) j 0 0 b
+  row-of : (j : ℕ) → j < length (keptRows t ps c n)
+      → getD (keptFileRows t ps c n) j 0 ≡ fileRow ps (getD (keptRows t ps c n) j 0)
+  row-of j b = map-get (fileRow ps) (keptRows t ps c n) j 0 0 b
 
-  cost-of : (j : ℕ) → j < length (keptRows t root c n)
-      → getD (keptCosts t root c n) j 0 ≡ costFor t root (getD (keptRows t root c n) j 0)
-  cost-of j b = map-get (costFor t root) (keptRows t root c n) j 0 0 b
+  cost-of : (j : ℕ) → j < length (keptRows t ps c n)
+      → getD (keptCosts t ps c n) j 0 ≡ costFor t ps (getD (keptRows t ps c n) j 0)
+  cost-of j b = map-get (costFor t ps) (keptRows t ps c n) j 0 0 b
 
   comes-first :
       (a b : ℕ) →
-      noLater (keyFor t root) a b ≡ true →
-      ComesFirst t (fileRow t root a) (costFor t root a) (fileRow t root b) (costFor t root b)
+      noLater (keyFor t ps) a b ≡ true →
+      ComesFirst t (fileRow ps a) (costFor t ps a) (fileRow ps b) (costFor t ps b)
   unfolding keyFor
-  comes-first a b e = by-key (keyFor t root) a b e
-
-  scan-apart : Apart (length (t .rows)) (scanOrder t root)
-  unfolding scanOrder viewOf
-  scan-apart = rowsInOrder-apart (viewOf t) root (view-sound t known root h)
+  comes-first a b e = by-key (keyFor t ps) a b e
 
   kept-apart :
       (i j : ℕ) →
       i < j →
-      j < length (keptRows t root c n) →
-      fileRow t root (getD (keptRows t root c n) i 0) ≡ fileRow t root (getD (keptRows t root c n) j 0) →
+      j < length (keptRows t ps c n) →
+      fileRow ps (getD (keptRows t ps c n) i 0) ≡ fileRow ps (getD (keptRows t ps c n) j 0) →
       ⊥
-  unfolding scanned
   kept-apart i j b l e =
-      let long = inOrder-length (tableRows t) (scanOrder t root) in
+      let long = inOrder-length (tableRows t) (ps .order) in
       let same : getD all i 0 ≡ getD all j 0 =
       sym (kept-get i (omega (arith, b, l)))
-      ∙ apart-places (scanOrder t root) scan-apart (getD (keptRows t root c n) i 0) (getD (keptRows t root c n) j 0)
+      ∙ apart-places (ps .order) (tp .apart) (getD (keptRows t ps c n) i 0) (getD (keptRows t ps c n) j 0)
       (omega (arith, long, kept-place i (omega (arith, b, l)))) (omega (arith, long, kept-place j l)) e
       ∙ kept-get j l in
       omega (arith, twice all i j b (omega (arith, l, kept-long)) same, all-once (getD all j 0))
@@ -221,27 +215,27 @@ module _ (t : Table) (known : Known t) (root : ℕ) (h : root < length (t .sorts
     place : ℕ
     later : n ≤ place
     inside : place < length all
-    row : fileRow t root (getD all place 0) ≡ q
-    cost : costFor t root (getD all place 0) ≡ w
+    row : fileRow ps (getD all place 0) ≡ q
+    cost : costFor t ps (getD all place 0) ≡ w
 
-  past : (q w : ℕ) → RowCost t c q w → NotIn q (keptFileRows t root c n) → Past q w
+  past : (q w : ℕ) → RowCost t c q w → NotIn q (keptFileRows t ps c n) → Past q w
   unfolding variantRows
   past q w rc out =
-      let d : Found t known root h c r q = row-found t known root h c r q (rc .children) (rc .is-deriving) in
+      let d : Found t known In ps tp c r q = row-found t known In ps tp c r q (rc .children) (rc .is-deriving) in
       let p : ℕ = d .place in
       let there : 0 < count p all =
       subst (λ (x : ℕ). 0 < x)
-      (sym (sorted-same (noLater (keyFor t root)) (noLater-linear (keyFor t root)) (variantRows t root c) p))
-      (count-of-has p (variantRows t root c)
-      (picked-finds (isVariant t root c) p 0 (length (scanned t root)) (omega arith) (omega (arith, d .inside))
+      (sym (sorted-same (noLater (keyFor t ps)) (noLater-linear (keyFor t ps)) (variantRows t ps c) p))
+      (count-of-has p (variantRows t ps c)
+      (picked-finds (isVariant t ps c) p 0 (length (rowsFor t ps)) (omega arith) (omega (arith, d .inside))
       (d .is-variant))) in
       let m = place-of-count p all there in
-      let row : fileRow t root (getD all (m .0) 0) ≡ q = ap (fileRow t root) (m .1 .1) ∙ d .row in
-      let cost : costFor t root (getD all (m .0) 0) ≡ w =
-      ap (costFor t root) (m .1 .1)
-      ∙ row-cost-once t c q (costFor t root p) w
-      (subst (λ (x : ℕ). RowCost t c x (costFor t root p)) (d .row)
-      (row-cost t known root h c r p (d .inside) (d .is-variant))) rc in
+      let row : fileRow ps (getD all (m .0) 0) ≡ q = ap (fileRow ps) (m .1 .1) ∙ d .row in
+      let cost : costFor t ps (getD all (m .0) 0) ≡ w =
+      ap (costFor t ps) (m .1 .1)
+      ∙ row-cost-once t c q (costFor t ps p) w
+      (subst (λ (x : ℕ). RowCost t c x (costFor t ps p)) (d .row)
+      (row-cost t known In ps tp c r p (d .inside) (d .is-variant))) rc in
       record {
         place = m .0;
         later = behind (m .0) (m .1 .0) row (decLt (m .0) n);
@@ -250,23 +244,23 @@ module _ (t : Table) (known : Known t) (root : ℕ) (h : root < length (t .sorts
         cost = cost;
       }
     where
-      behind : (m : ℕ) → m < length all → fileRow t root (getD all m 0) ≡ q → Dec (m < n) → n ≤ m
+      behind : (m : ℕ) → m < length all → fileRow ps (getD all m 0) ≡ q → Dec (m < n) → n ≤ m
       behind m b e (no l) = omega arith
       behind m b e (yes l) =
-          let k : m < length (keptRows t root c n) = omega (arith, kept-long) in
+          let k : m < length (keptRows t ps c n) = omega (arith, kept-long) in
           absurd
-          (not-in-get q (keptFileRows t root c n) out m
-          (omega (arith, map-length (fileRow t root) (keptRows t root c n)))
-          (row-of m k ∙ ap (fileRow t root) (kept-get m k) ∙ e))
+          (not-in-get q (keptFileRows t ps c n) out m
+          (omega (arith, map-length (fileRow ps) (keptRows t ps c n)))
+          (row-of m k ∙ ap (fileRow ps) (kept-get m k) ∙ e))
 
-  pub first-rows : FirstRows t c n (keptFileRows t root c n) (keptCosts t root c n)
+  pub first-rows : FirstRows t c n (keptFileRows t ps c n) (keptCosts t ps c n)
   first-rows = record {
-    as-many = map-length (costFor t root) kept ∙ sym long;
+    as-many = map-length (costFor t ps) kept ∙ sym long;
     at-most = omega (arith, kept-few, long);
     each = λ j b.
         let k = in-kept j b in
         rw (row-of j k, cost-of j k)
-        (row-cost t known root h c r (getD (keptRows t root c n) j 0) (kept-place j k) (kept-variant j k));
+        (row-cost t known In ps tp c r (getD (keptRows t ps c n) j 0) (kept-place j k) (kept-variant j k));
     once = λ i j b l e.
         let k = in-kept j l in
         let g = in-kept i (omega (arith, b, l)) in
@@ -275,20 +269,20 @@ module _ (t : Table) (known : Known t) (root : ℕ) (h : root < length (t .sorts
         let k = in-kept j l in
         let g = in-kept i (omega (arith, b, l)) in
         rw (row-of i g, cost-of i g, row-of j k, cost-of j k)
-        (comes-first (getD (keptRows t root c n) i 0) (getD (keptRows t root c n) j 0) (kept-order i j b k));
+        (comes-first (getD (keptRows t ps c n) i 0) (getD (keptRows t ps c n) j 0) (kept-order i j b k));
     left-out = λ q w rc out.
         let p = past q w rc out in (
           omega (arith, long, kept-long, p .later, p .inside),
           λ j b.
               let k = in-kept j b in
-              let first : ComesFirst t (fileRow t root (getD all j 0)) (costFor t root (getD all j 0)) q w =
+              let first : ComesFirst t (fileRow ps (getD all j 0)) (costFor t ps (getD all j 0)) q w =
               subst
-              (λ (x : ℕ). ComesFirst t (fileRow t root (getD all j 0)) (costFor t root (getD all j 0)) x w)
+              (λ (x : ℕ). ComesFirst t (fileRow ps (getD all j 0)) (costFor t ps (getD all j 0)) x w)
               (p .row)
               (subst
               (λ (x : ℕ).
-              ComesFirst t (fileRow t root (getD all j 0)) (costFor t root (getD all j 0))
-              (fileRow t root (getD all (p .place) 0)) x)
+              ComesFirst t (fileRow ps (getD all j 0)) (costFor t ps (getD all j 0))
+              (fileRow ps (getD all (p .place) 0)) x)
               (p .cost)
               (comes-first (getD all j 0) (getD all (p .place) 0)
               (sorted-get all-sorted j (p .place) (omega (arith, k, kept-few, p .later)) (p .inside)))) in
@@ -297,10 +291,10 @@ module _ (t : Table) (known : Known t) (root : ℕ) (h : root < length (t .sorts
   }
     where
       kept : List ℕ
-      kept = keptRows t root c n
+      kept = keptRows t ps c n
 
-      long : length (keptFileRows t root c n) ≡ length (keptRows t root c n)
-      long = map-length (fileRow t root) (keptRows t root c n)
+      long : length (keptFileRows t ps c n) ≡ length (keptRows t ps c n)
+      long = map-length (fileRow ps) (keptRows t ps c n)
 
-      in-kept : (j : ℕ) → j < length (keptFileRows t root c n) → j < length (keptRows t root c n)
+      in-kept : (j : ℕ) → j < length (keptFileRows t ps c n) → j < length (keptRows t ps c n)
       in-kept j b = omega (arith, b, long)

@@ -30,14 +30,11 @@ use Rattle.choice_rules.specs.Demand.Deriving.{AllUsable, AllUsableIn, Deriving
 use Rattle.choice_rules.proofs.Demand.OrderLaws.{inOrder-length}
 use Rattle.file_rules.specs.Table.{Table}
 use Rattle.table_rules.specs.Rules.Rows.{tableRows, usable}
-use Rattle.table_rules.specs.Rules.Order.{scanOrder, scanned}
-use Rattle.table_rules.specs.Rules.Choosing.{limit, runOf, answerFor}
+use Rattle.table_rules.specs.Rules.Choosing.{limit, answerFor, Prices}
+use Rattle.table_rules.specs.Rules.Prices.{TruePrices}
 use Rattle.table_rules.specs.Rules.Facts.{Known}
-use Rattle.table_rules.proofs.Rules.CoverLaws.{ReachedClass, scanOrder-covers}
-use Rattle.table_rules.proofs.Rules.AnswerLaws.{answered-of-reached}
-use Rattle.answer_rules.specs.Plan.{rankFor}
-use Rattle.answer_rules.specs.Variants.{fileRow, costFor, isVariant}
-use Rattle.answer_rules.proofs.PlanLaws.{costOf}
+use Rattle.answer_rules.specs.Plan.{orderFor, costOf}
+use Rattle.answer_rules.specs.Variants.{fileRow, costFor, isVariant, rowsFor}
 use Rattle.extract.specs.First.{RowCost}
 use Rattle.extract.proofs.VariantFacts.RowLaws.{row-is}
 
@@ -113,33 +110,33 @@ module _ (t : Table) where
           (gs .least f (d .1) (a .1))
 
 -- What the run says of a class that has a cost, and of one that has none.
-module _ (t : Table) (root d : ℕ) where
+module _ (t : Table) (ps : Prices) (d : ℕ) where
   pub answer-best :
-      ltb 0 (rankFor t root d) ≡ true → costOf t root d < limit → answerFor t root d ≡ best (costOf t root d)
+      ltb 0 (orderFor ps d) ≡ true → costOf ps d < limit → answerFor ps d ≡ best (costOf ps d)
   unfolding answerFor answerOf
-  answer-best p l = rw (p, lt-ltb (costOf t root d) limit l)
+  answer-best p l = rw (p, lt-ltb (costOf ps d) limit l)
 
-  answer-dear : ltb 0 (rankFor t root d) ≡ true → limit ≤ costOf t root d → answerFor t root d ≡ tooDear
+  answer-dear : ltb 0 (orderFor ps d) ≡ true → limit ≤ costOf ps d → answerFor ps d ≡ tooDear
   unfolding answerFor answerOf
-  answer-dear p l = rw (p, le-ltb (costOf t root d) limit l)
+  answer-dear p l = rw (p, le-ltb (costOf ps d) limit l)
 
-  answer-none : ltb 0 (rankFor t root d) ≡ false → answerFor t root d ≡ noTerm
+  answer-none : ltb 0 (orderFor ps d) ≡ false → answerFor ps d ≡ noTerm
   unfolding answerFor answerOf
   answer-none p = rw p
 
-module _ (t : Table) (known : Known t) (root : ℕ) (h : root < length (t .sorts)) where
-  module _ (d : ℕ) (r : ReachedClass t root d) where
-    verdict : (a : Answer) → answerFor t root d ≡ a → Answered limit (tableRows t) (usable t) d a
+module _ (t : Table) (known : Known t) (In : ℕ → Type 0) (ps : Prices) (tp : TruePrices t In ps) where
+  module _ (d : ℕ) (r : In d) where
+    verdict : (a : Answer) → answerFor ps d ≡ a → Answered limit (tableRows t) (usable t) d a
     verdict a e =
         subst (λ (x : Answer). Answered limit (tableRows t) (usable t) d x) e
-        (answered-of-reached t known root h d r)
+        (tp .right d r)
 
-    class-grown : ltb 0 (rankFor t root d) ≡ true → Grown t (class d) (costOf t root d)
+    class-grown : ltb 0 (orderFor ps d) ≡ true → Grown t (class d) (costOf ps d)
     class-grown p =
-        cases (ltb (costOf t root d) limit)
+        cases (ltb (costOf ps d) limit)
         (λ q.
-        let l : costOf t root d < limit = ltb-true (costOf t root d) limit q in
-        let v = verdict (best (costOf t root d)) (answer-best t root d p l) .1 in
+        let l : costOf ps d < limit = ltb-true (costOf ps d) limit q in
+        let v = verdict (best (costOf ps d)) (answer-best t ps d p l) .1 in
         record {
           tree = v .0;
           derives = v .1 .is-deriving .derives;
@@ -148,8 +145,8 @@ module _ (t : Table) (known : Known t) (root : ℕ) (h : root < length (t .sorts
           least = λ u e a. omega (arith, v .1 .least u (record { derives = e; all-usable = a }));
         })
         (λ q.
-        let l : limit ≤ costOf t root d = ltb-false (costOf t root d) limit q in
-        let v = verdict tooDear (answer-dear t root d p l) in
+        let l : limit ≤ costOf ps d = ltb-false (costOf ps d) limit q in
+        let v = verdict tooDear (answer-dear t ps d p l) in
         let b : limit ≤ treeCost (tableRows t) (v .0 .0) = v .1 (v .0 .0) (v .0 .1) in
         record {
           tree = v .0 .0;
@@ -164,20 +161,20 @@ module _ (t : Table) (known : Known t) (root : ℕ) (h : root < length (t .sorts
         (u : Tree) →
         Derives (tableRows t) u (class d) →
         AllUsable (usable t) u →
-        ltb 0 (rankFor t root d) ≡ true
+        ltb 0 (orderFor ps d) ≡ true
     class-priced u e a =
-        cases (ltb 0 (rankFor t root d)) (λ p. p)
-        (λ p. absurd (verdict noTerm (answer-none t root d p) u (record { derives = e; all-usable = a })))
+        cases (ltb 0 (orderFor ps d)) (λ p. p)
+        (λ p. absurd (verdict noTerm (answer-none t ps d p) u (record { derives = e; all-usable = a })))
 
   -- a child whose class, if it is one, the root sort reaches
   abbrev pub Near : Child → Type 0
-  Near k = (d : ℕ) → k ≡ class d → ReachedClass t root d
+  Near k = (d : ℕ) → k ≡ class d → In d
 
   child-grown :
       (k : Child) →
       Near k →
-      priced (runOf t root .state .ranks) k ≡ true →
-      Grown t k (childCost (runOf t root .state .costs) k)
+      priced (ps .orders) k ≡ true →
+      Grown t k (childCost (ps .costs) k)
   unfolding priced childCost
   child-grown (literal i) n p = literal-grown t i
   child-grown (class d) n p = class-grown d (n d refl) p
@@ -188,7 +185,7 @@ module _ (t : Table) (known : Known t) (root : ℕ) (h : root < length (t .sorts
       (u : Tree) →
       Derives (tableRows t) u k →
       AllUsable (usable t) u →
-      priced (runOf t root .state .ranks) k ≡ true
+      priced (ps .orders) k ≡ true
   unfolding priced
   child-priced (literal i) n u e a = refl
   child-priced (class d) n u e a = class-priced d (n d refl) u e a
@@ -196,13 +193,13 @@ module _ (t : Table) (known : Known t) (root : ℕ) (h : root < length (t .sorts
   children-grown :
       (ks : List Child) →
       Each Near ks →
-      Each (λ (k : Child). priced (runOf t root .state .ranks) k ≡ true) ks →
-      GrownAll t ks (sumOf (childCost (runOf t root .state .costs)) ks)
+      Each (λ (k : Child). priced (ps .orders) k ≡ true) ks →
+      GrownAll t ks (sumOf (childCost (ps .costs)) ks)
   unfolding sumOf
   children-grown [] n p = none-grown t
   children-grown (k ∷ ks) n p =
-      more-grown t k ks (childCost (runOf t root .state .costs) k)
-      (sumOf (childCost (runOf t root .state .costs)) ks) (child-grown k (n .0) (p .0))
+      more-grown t k ks (childCost (ps .costs) k)
+      (sumOf (childCost (ps .costs)) ks) (child-grown k (n .0) (p .0))
       (children-grown ks (n .1) (p .1))
 
   children-priced :
@@ -211,7 +208,7 @@ module _ (t : Table) (known : Known t) (root : ℕ) (h : root < length (t .sorts
       (f : Forest) →
       DeriveAll (tableRows t) f ks →
       AllUsableIn (usable t) f →
-      Each (λ (k : Child). priced (runOf t root .state .ranks) k ≡ true) ks
+      Each (λ (k : Child). priced (ps .orders) k ≡ true) ks
   unfolding DeriveAll AllUsableIn
   children-priced [] n f e a = tt
   children-priced (k ∷ ks) n none e a = absurd e
@@ -222,7 +219,7 @@ module _ (t : Table) (known : Known t) (root : ℕ) (h : root < length (t .sorts
   near-all [] f = tt
   near-all (k ∷ ks) f = (f 0 (omega arith), near-all ks (λ j l. f (suc j) (omega arith)))
 
-  module _ (c : ℕ) (r : ReachedClass t root c) where
+  module _ (c : ℕ) (r : In c) where
     -- the children of a usable row of the class
     row-near :
         (q : ℕ) →
@@ -233,59 +230,58 @@ module _ (t : Table) (known : Known t) (root : ℕ) (h : root < length (t .sorts
     row-near q l u e =
         near-all (rowAt (tableRows t) q .children)
         (λ j m d x.
-        scanOrder-covers t known root h .closed q l u (subst (ReachedClass t root) (sym e) r) j m d x)
+        tp .covers .closed q l u (subst In (sym e) r) j m d x)
 
     -- row i of the scan order, of class c, with a cost
-    module _ (i : ℕ) (place : i < length (scanned t root)) (v : isVariant t root c i ≡ true) where
-      in-order : i < length (scanOrder t root)
-      unfolding scanned
-      in-order = subst (λ (n : ℕ). i < n) (inOrder-length (tableRows t) (scanOrder t root)) place
+    module _ (i : ℕ) (place : i < length (rowsFor t ps)) (v : isVariant t ps c i ≡ true) where
+      in-order : i < length (ps .order)
+      in-order = subst (λ (n : ℕ). i < n) (inOrder-length (tableRows t) (ps .order)) place
 
-      pub row-at : rowAt (scanned t root) i ≡ rowAt (tableRows t) (fileRow t root i)
-      row-at = row-is t known root h i place
+      pub row-at : rowAt (rowsFor t ps) i ≡ rowAt (tableRows t) (fileRow ps i)
+      row-at = row-is t known In ps tp i place
 
-      pub row-below : fileRow t root i < length (tableRows t)
-      row-below = scanOrder-covers t known root h .known i in-order
+      pub row-below : fileRow ps i < length (tableRows t)
+      row-below = tp .covers .known i in-order
 
-      pub row-usable : usable t (fileRow t root i) ≡ true
-      row-usable = scanOrder-covers t known root h .usable-ones i in-order
+      pub row-usable : usable t (fileRow ps i) ≡ true
+      row-usable = tp .covers .usable-ones i in-order
 
-      pub row-output : rowAt (tableRows t) (fileRow t root i) .output ≡ c
+      pub row-output : rowAt (tableRows t) (fileRow ps i) .output ≡ c
       unfolding isVariant
       row-output =
           subst (λ (x : Row). x .output ≡ c) row-at
-          (eqb-true (rowAt (scanned t root) i .output) c
-          (and-first (eqb (rowAt (scanned t root) i .output) c)
-          (rowPriced (runOf t root .state .ranks) (rowAt (scanned t root) i)) v))
+          (eqb-true (rowAt (rowsFor t ps) i .output) c
+          (and-first (eqb (rowAt (rowsFor t ps) i .output) c)
+          (rowPriced (ps .orders) (rowAt (rowsFor t ps) i)) v))
 
       pub row-priced :
-          Each (λ (k : Child). priced (runOf t root .state .ranks) k ≡ true)
-          (rowAt (tableRows t) (fileRow t root i) .children)
+          Each (λ (k : Child). priced (ps .orders) k ≡ true)
+          (rowAt (tableRows t) (fileRow ps i) .children)
       unfolding isVariant
       row-priced =
-          subst (λ (x : Row). Each (λ (k : Child). priced (runOf t root .state .ranks) k ≡ true) (x .children)) row-at
-          (all-each (priced (runOf t root .state .ranks)) (rowAt (scanned t root) i .children)
-          (and-second (eqb (rowAt (scanned t root) i .output) c)
-          (rowPriced (runOf t root .state .ranks) (rowAt (scanned t root) i)) v))
+          subst (λ (x : Row). Each (λ (k : Child). priced (ps .orders) k ≡ true) (x .children)) row-at
+          (all-each (priced (ps .orders)) (rowAt (rowsFor t ps) i .children)
+          (and-second (eqb (rowAt (rowsFor t ps) i .output) c)
+          (rowPriced (ps .orders) (rowAt (rowsFor t ps) i)) v))
 
-      pub row-near-all : Each Near (rowAt (tableRows t) (fileRow t root i) .children)
-      row-near-all = row-near (fileRow t root i) row-below row-usable row-output
+      pub row-near-all : Each Near (rowAt (tableRows t) (fileRow ps i) .children)
+      row-near-all = row-near (fileRow ps i) row-below row-usable row-output
 
       pub row-cost-is :
-          costFor t root i
+          costFor t ps i
           ≡ min limit
-          (rowAt (tableRows t) (fileRow t root i) .head
-          + sumOf (childCost (runOf t root .state .costs)) (rowAt (tableRows t) (fileRow t root i) .children))
+          (rowAt (tableRows t) (fileRow ps i) .head
+          + sumOf (childCost (ps .costs)) (rowAt (tableRows t) (fileRow ps i) .children))
       unfolding costFor rowCost
       row-cost-is =
-          ap (λ (x : Row). min limit (x .head + sumOf (childCost (runOf t root .state .costs)) (x .children))) row-at
+          ap (λ (x : Row). min limit (x .head + sumOf (childCost (ps .costs)) (x .children))) row-at
 
-      pub row-cost : RowCost t c (fileRow t root i) (costFor t root i)
+      pub row-cost : RowCost t c (fileRow ps i) (costFor t ps i)
       unfolding Derives AllUsable treeCost
       row-cost =
-          let q : ℕ = fileRow t root i in
+          let q : ℕ = fileRow ps i in
           let ks : List Child = rowAt (tableRows t) q .children in
-          let w : ℕ = sumOf (childCost (runOf t root .state .costs)) ks in
+          let w : ℕ = sumOf (childCost (ps .costs)) ks in
           let g : GrownAll t ks w = children-grown ks row-near-all row-priced in
           record {
             children = g .forest;
@@ -306,27 +302,27 @@ module _ (t : Table) (known : Known t) (root : ℕ) (h : root < length (t .sorts
     -- a row that heads a deriving term is one of the scan order with a cost
     pub record Found (q : ℕ) : Type 0 where
       pub place : ℕ
-      pub inside : place < length (scanned t root)
-      pub is-variant : isVariant t root c place ≡ true
-      pub row : fileRow t root place ≡ q
+      pub inside : place < length (rowsFor t ps)
+      pub is-variant : isVariant t ps c place ≡ true
+      pub row : fileRow ps place ≡ q
 
     pub row-found : (q : ℕ) (f : Forest) → Deriving (tableRows t) (usable t) c (node q f) → Found q
-    unfolding Derives AllUsable scanned isVariant
+    unfolding Derives AllUsable isVariant
     row-found q f d =
         let l : q < length (tableRows t) = d .derives .0 in
         let u : usable t q ≡ true = d .all-usable .0 in
         let e : rowAt (tableRows t) q .output ≡ c = d .derives .1 in
-        let p = scanOrder-covers t known root h .found q l u (subst (ReachedClass t root) (sym e) r) in
+        let p = tp .covers .found q l u (subst In (sym e) r) in
         let i : ℕ = p .0 in
-        let b : i < length (scanned t root) =
-        subst (λ (n : ℕ). i < n) (sym (inOrder-length (tableRows t) (scanOrder t root))) (p .1 .0) in
-        let x : rowAt (scanned t root) i ≡ rowAt (tableRows t) q =
-        row-is t known root h i b ∙ ap (rowAt (tableRows t)) (p .1 .1) in
-        let o : eqb (rowAt (scanned t root) i .output) c ≡ true =
-        eq-eqb (rowAt (scanned t root) i .output) c (ap (λ (y : Row). y .output) x ∙ e) in
-        let m : rowPriced (runOf t root .state .ranks) (rowAt (scanned t root) i) ≡ true =
-        subst (λ (y : Row). rowPriced (runOf t root .state .ranks) y ≡ true) (sym x)
-        (each-all (priced (runOf t root .state .ranks)) (rowAt (tableRows t) q .children)
+        let b : i < length (rowsFor t ps) =
+        subst (λ (n : ℕ). i < n) (sym (inOrder-length (tableRows t) (ps .order))) (p .1 .0) in
+        let x : rowAt (rowsFor t ps) i ≡ rowAt (tableRows t) q =
+        row-is t known In ps tp i b ∙ ap (rowAt (tableRows t)) (p .1 .1) in
+        let o : eqb (rowAt (rowsFor t ps) i .output) c ≡ true =
+        eq-eqb (rowAt (rowsFor t ps) i .output) c (ap (λ (y : Row). y .output) x ∙ e) in
+        let m : rowPriced (ps .orders) (rowAt (rowsFor t ps) i) ≡ true =
+        subst (λ (y : Row). rowPriced (ps .orders) y ≡ true) (sym x)
+        (each-all (priced (ps .orders)) (rowAt (tableRows t) q .children)
         (children-priced (rowAt (tableRows t) q .children) (row-near q l u e) f (d .derives .2) (d .all-usable .1)))
         in
         record { place = i; inside = b; is-variant = rw (o, m); row = p .1 .1 }

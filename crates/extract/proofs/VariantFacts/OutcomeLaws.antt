@@ -23,7 +23,7 @@ use Rattle.choice_rules.proofs.ListLaws.{or-cases, each-get}
 use Rattle.choice_rules.proofs.Demand.OrderLaws.{map-length, map-get}
 use Rattle.build.specs.Building.{State, Out, done, full}
 use Rattle.file_rules.specs.Table.{Table}
-use Rattle.table_rules.specs.Rules.Choosing.{limit, runOf}
+use Rattle.table_rules.specs.Rules.Choosing.{limit, Prices}
 use Rattle.answer_rules.specs.Answers.{Answer, value, refusal}
 use Rattle.answer_rules.specs.Variants.{
   costFor,
@@ -127,96 +127,96 @@ module _ (l : Lending) (ws ts : List ℕ) (p : ℕ) (s : Store) where
           (drop-paste d 0 x (length x) (omega arith) (omega arith))
 
 -- The costs of the rows that are kept.
-cost-at-most : (t : Table) (root i : ℕ) → costFor t root i ≤ limit
+cost-at-most : (t : Table) (ps : Prices) (i : ℕ) → costFor t ps i ≤ limit
 unfolding costFor rowCost
-cost-at-most t root i = omega arith
+cost-at-most t ps i = omega arith
 
-module _ (t : Table) (root : ℕ) where
-  pub cheap-when : (rows : List ℕ) → anyDear t root rows ≡ false → AllBelow limit (map (costFor t root) rows)
+module _ (t : Table) (ps : Prices) where
+  pub cheap-when : (rows : List ℕ) → anyDear t ps rows ≡ false → AllBelow limit (map (costFor t ps) rows)
   cheap-when rows e j h =
-      let b : j < length rows = omega (arith, h, map-length (costFor t root) rows) in
-      rw (map-get (costFor t root) rows j 0 0 b)
-      (each-get (λ (i : ℕ). costFor t root i < limit) rows 0 (not-dear t root rows e) j b)
+      let b : j < length rows = omega (arith, h, map-length (costFor t ps) rows) in
+      rw (map-get (costFor t ps) rows j 0 0 b)
+      (each-get (λ (i : ℕ). costFor t ps i < limit) rows 0 (not-dear t ps rows e) j b)
 
-  pub dear-then : (rows : List ℕ) → anyDear t root rows ≡ true → HasDear (map (costFor t root) rows)
+  pub dear-then : (rows : List ℕ) → anyDear t ps rows ≡ true → HasDear (map (costFor t ps) rows)
   unfolding anyDear
   dear-then [] e =
       let z : _≡_ {A = ℕ} 0 1 = cc in
       absurd (omega arith)
   dear-then (i ∷ rows) e =
-      go (or-cases (leb limit (costFor t root i)) (anyDear t root rows) e) (dear-then rows)
+      go (or-cases (leb limit (costFor t ps i)) (anyDear t ps rows) e) (dear-then rows)
     where
       go :
-          (leb limit (costFor t root i) ≡ true) ⊎ (anyDear t root rows ≡ true) →
-          (anyDear t root rows ≡ true → HasDear (map (costFor t root) rows)) →
-          HasDear (map (costFor t root) (i ∷ rows))
+          (leb limit (costFor t ps i) ≡ true) ⊎ (anyDear t ps rows ≡ true) →
+          (anyDear t ps rows ≡ true → HasDear (map (costFor t ps) rows)) →
+          HasDear (map (costFor t ps) (i ∷ rows))
       go (inl d) rest =
-          (0, (omega arith, omega (arith, leb-true limit (costFor t root i) d, cost-at-most t root i)))
+          (0, (omega arith, omega (arith, leb-true limit (costFor t ps i) d, cost-at-most t ps i)))
       go (inr d) rest = let q = rest d in (suc (q .0), (omega (arith, q .1 .0), q .1 .1))
 
-  pub dear-when : (rows : List ℕ) → HasDear (map (costFor t root) rows) → anyDear t root rows ≡ true
+  pub dear-when : (rows : List ℕ) → HasDear (map (costFor t ps) rows) → anyDear t ps rows ≡ true
   dear-when rows h =
-      cases (anyDear t root rows) (λ e. e)
+      cases (anyDear t ps rows) (λ e. e)
       (λ e. absurd (omega (arith, cheap-when rows e (h .0) (h .1 .0), h .1 .1)))
 
-module _ (t : Table) (root : ℕ) (l : Lending) (rows : List ℕ) where
+module _ (t : Table) (ps : Prices) (np : ℕ) (l : Lending) (rows : List ℕ) where
   -- "12, 13", or what is kept
   pub data Outcome (a : VariantsAfter) : Type 0 where
-    dear : anyDear t root rows ≡ true → a ≡ variantsRefused TooDear l → Outcome a
+    dear : anyDear t ps rows ≡ true → a ≡ variantsRefused TooDear l → Outcome a
     noPlaces :
-        anyDear t root rows ≡ false →
+        anyDear t ps rows ≡ false →
         roomForResults l (length rows) ≡ false →
         a ≡ variantsRefused NoRoom l →
         Outcome a
     stuck :
-        anyDear t root rows ≡ false →
+        anyDear t ps rows ≡ false →
         roomForResults l (length rows) ≡ true →
         (me rs : List ℕ) (ls : List ℤ) (ns : List ℕ) →
-        builtRows t root rows (l .store) ≡ full me rs ls ns →
+        builtRows t ps rows (l .store) ≡ full me rs ls ns →
         a ≡ variantsRefused NoRoom l →
         Outcome a
     kept :
-        anyDear t root rows ≡ false →
+        anyDear t ps rows ≡ false →
         roomForResults l (length rows) ≡ true →
         (ts : List ℕ) (s : State) →
-        builtRows t root rows (l .store) ≡ done ts s →
-        a ≡ variantsKept l (map (costFor t root) rows) ts (runOf t root .passes) (s .lent) →
+        builtRows t ps rows (l .store) ≡ done ts s →
+        a ≡ variantsKept l (map (costFor t ps) rows) ts np (s .lent) →
         Outcome a
 
-  pub outcome : Outcome (variantsOfRows t root l rows)
+  pub outcome : Outcome (variantsOfRows t ps np l rows)
   unfolding variantsOfRows variantsBuilt
   outcome =
-      cases (anyDear t root rows) (λ d. dear d (rw (d, variantsOfRows)))
+      cases (anyDear t ps rows) (λ d. dear d (rw (d, variantsOfRows)))
       (λ d.
-      cases (roomForResults l (length rows)) (λ r. build d r (builtRows t root rows (l .store)) refl)
+      cases (roomForResults l (length rows)) (λ r. build d r (builtRows t ps rows (l .store)) refl)
       (λ r. noPlaces d r (rw (d, r, variantsOfRows))))
     where
       build :
-          anyDear t root rows ≡ false →
+          anyDear t ps rows ≡ false →
           roomForResults l (length rows) ≡ true →
           (o : Out (List ℕ)) →
-          builtRows t root rows (l .store) ≡ o →
-          Outcome (variantsOfRows t root l rows)
+          builtRows t ps rows (l .store) ≡ o →
+          Outcome (variantsOfRows t ps np l rows)
       build d r (done ts s) e = kept d r ts s e (rw (d, r, e, variantsOfRows))
       build d r (full me rs ls ns) e = stuck d r me rs ls ns e (rw (d, r, e, variantsOfRows))
 
   module _ (a : VariantsAfter) where
-    pub dear-told : Outcome a → a .answer ≡ refusal 12 → HasDear (map (costFor t root) rows)
-    dear-told (dear d e) h = dear-then t root rows d
+    pub dear-told : Outcome a → a .answer ≡ refusal 12 → HasDear (map (costFor t ps) rows)
+    dear-told (dear d e) h = dear-then t ps rows d
     dear-told (noPlaces d r e) h = absurd (omega (arith, same-number (told e h)))
     dear-told (stuck d r me rs ls ns b e) h = absurd (omega (arith, same-number (told e h)))
     dear-told (kept d r ts s b e) h =
-        kept-told l (map (costFor t root) rows) ts (runOf t root .passes) (s .lent) a e h
+        kept-told l (map (costFor t ps) rows) ts np (s .lent) a e h
 
-    pub dear-refused : Outcome a → HasDear (map (costFor t root) rows) → a .answer ≡ refusal 12
-    dear-refused o h = go o (dear-when t root rows h)
+    pub dear-refused : Outcome a → HasDear (map (costFor t ps) rows) → a .answer ≡ refusal 12
+    dear-refused o h = go o (dear-when t ps rows h)
       where
-        no : {P : Type 0} → anyDear t root rows ≡ true → anyDear t root rows ≡ false → P
+        no : {P : Type 0} → anyDear t ps rows ≡ true → anyDear t ps rows ≡ false → P
         no p q =
             let z : _≡_ {A = ℕ} 0 1 = cc in
             absurd (omega arith)
 
-        go : Outcome a → anyDear t root rows ≡ true → a .answer ≡ refusal 12
+        go : Outcome a → anyDear t ps rows ≡ true → a .answer ≡ refusal 12
         go (dear d e) p = ap (λ (y : VariantsAfter). y .answer) e
         go (noPlaces d r e) p = no p d
         go (stuck d r me rs ls ns b e) p = no p d
@@ -227,33 +227,33 @@ module _ (t : Table) (root : ℕ) (l : Lending) (rows : List ℕ) where
     rows-number (noPlaces d r e) k h = inr (sym (same-number (told e h)))
     rows-number (stuck d r me rs ls ns b e) k h = inr (sym (same-number (told e h)))
     rows-number (kept d r ts s b e) k h =
-        kept-told l (map (costFor t root) rows) ts (runOf t root .passes) (s .lent) a e h
+        kept-told l (map (costFor t ps) rows) ts np (s .lent) a e h
 
     pub rows-unchanged : Outcome a → (k : ℕ) → a .answer ≡ refusal k → Unchanged l a
     rows-unchanged (dear d e) k h = refused-unchanged l TooDear a e
     rows-unchanged (noPlaces d r e) k h = refused-unchanged l NoRoom a e
     rows-unchanged (stuck d r me rs ls ns b e) k h = refused-unchanged l NoRoom a e
     rows-unchanged (kept d r ts s b e) k h =
-        kept-told l (map (costFor t root) rows) ts (runOf t root .passes) (s .lent) a e h
+        kept-told l (map (costFor t ps) rows) ts np (s .lent) a e h
 
     -- what is told of an answer that is a value
     pub record KeptRows (k : Kept) : Type 0 where
-      pub not-dear-any : anyDear t root rows ≡ false
+      pub not-dear-any : anyDear t ps rows ≡ false
       pub has-places : roomForResults l (length rows) ≡ true
       pub numbers : List ℕ
       pub state : State
-      pub built : builtRows t root rows (l .store) ≡ done numbers state
+      pub built : builtRows t ps rows (l .store) ≡ done numbers state
       pub is :
-          a ≡ variantsKept l (map (costFor t root) rows) numbers (runOf t root .passes) (state .lent)
+          a ≡ variantsKept l (map (costFor t ps) rows) numbers np (state .lent)
       pub count-is : k .count ≡ length rows
-      pub passes-are : k .passes ≡ runOf t root .passes
+      pub passes-are : k .passes ≡ np
 
     pub rows-kept : Outcome a → (k : Kept) → a .answer ≡ value k → KeptRows k
     rows-kept (dear d e) k h = not-refused (sym (told e h))
     rows-kept (noPlaces d r e) k h = not-refused (sym (told e h))
     rows-kept (stuck d r me rs ls ns b e) k h = not-refused (sym (told e h))
     rows-kept (kept d r ts s b e) k h =
-        let q = kept-is l (map (costFor t root) rows) ts (runOf t root .passes) (s .lent) a k e h in
+        let q = kept-is l (map (costFor t ps) rows) ts np (s .lent) a k e h in
         record {
           not-dear-any = d;
           has-places = r;
@@ -261,7 +261,7 @@ module _ (t : Table) (root : ℕ) (l : Lending) (rows : List ℕ) where
           state = s;
           built = b;
           is = e;
-          count-is = q .0 ∙ map-length (costFor t root) rows;
+          count-is = q .0 ∙ map-length (costFor t ps) rows;
           passes-are = q .1;
         }
 

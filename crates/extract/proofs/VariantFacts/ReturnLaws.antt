@@ -20,11 +20,11 @@ use Rattle.build.specs.Building.{State, Out, done, full}
 use Rattle.build.specs.Standing.{Tracks}
 use Rattle.file_rules.specs.Table.{Table}
 use Rattle.table_rules.specs.Rules.Rows.{tableRowOf, tableRows}
-use Rattle.table_rules.specs.Rules.Order.{scanOrder, scanned}
 use Rattle.table_rules.specs.Rules.Terms.{nameOf}
-use Rattle.table_rules.specs.Rules.Choosing.{limit, runOf}
+use Rattle.table_rules.specs.Rules.Choosing.{limit, Prices}
+use Rattle.table_rules.specs.Rules.Prices.{TruePrices}
 use Rattle.table_rules.specs.Rules.Facts.{Known}
-use Rattle.table_rules.proofs.Rules.CoverLaws.{scanned-below, children-length}
+use Rattle.table_rules.proofs.Rules.CoverLaws.{children-length, tableRows-length}
 use Rattle.answer_rules.specs.Plan.{planChild, planChildren, planFor}
 use Rattle.answer_rules.specs.Variants.{
   fileRow,
@@ -36,6 +36,8 @@ use Rattle.answer_rules.specs.Variants.{
   anyDear,
   variantIn,
   variantsIn,
+  rowsFor,
+  depthFor,
 }
 use Rattle.answer_rules.proofs.PlanLaws.{buildRank, plan-ranked}
 use Rattle.variants_root.proofs.kept_rows.SortLaws.{kept-passes}
@@ -49,61 +51,60 @@ each-of-get P (x ∷ xs) f = (f 0 (omega arith), each-of-get P xs (λ j l. f (su
 
 -- No kept row is dear.
 pub not-dear :
-    (t : Table) (root : ℕ) (rows : List ℕ) →
-    anyDear t root rows ≡ false →
-    Each (λ (i : ℕ). costFor t root i < limit) rows
+    (t : Table) (ps : Prices) (rows : List ℕ) →
+    anyDear t ps rows ≡ false →
+    Each (λ (i : ℕ). costFor t ps i < limit) rows
 unfolding anyDear
-not-dear t root [] e = tt
-not-dear t root (i ∷ rows) e =
-    let q = or-fails (leb limit (costFor t root i)) (anyDear t root rows) e in
-    (leb-false limit (costFor t root i) (q .0), not-dear t root rows (q .1))
+not-dear t ps [] e = tt
+not-dear t ps (i ∷ rows) e =
+    let q = or-fails (leb limit (costFor t ps i)) (anyDear t ps rows) e in
+    (leb-false limit (costFor t ps i) (q .0), not-dear t ps rows (q .1))
 
-module _ (t : Table) (k : Known t) (root : ℕ) (h : root < length (t .sorts)) where
+module _ (t : Table) (k : Known t) (In : ℕ → Type 0) (ps : Prices) (tp : TruePrices t In ps) where
   abbrev depth : ℕ
-  depth = suc (runOf t root .state .last)
+  depth = depthFor ps
 
   -- what is known of a kept row
   pub record Sound (i : ℕ) : Type 0 where
-    pub place : i < length (scanned t root)
-    pub priced : rowPriced (runOf t root .state .ranks) (rowAt (scanned t root) i) ≡ true
-    pub cheap : costFor t root i < limit
+    pub place : i < length (rowsFor t ps)
+    pub priced : rowPriced (ps .orders) (rowAt (rowsFor t ps) i) ≡ true
+    pub cheap : costFor t ps i < limit
 
-  row-known : (i : ℕ) → i < length (scanned t root) → fileRow t root i < length (t .rows)
-  unfolding scanned
+  row-known : (i : ℕ) → i < length (rowsFor t ps) → fileRow ps i < length (t .rows)
   row-known i l =
-      scanned-below t k root h i
-      (subst (λ (n : ℕ). i < n) (inOrder-length (tableRows t) (scanOrder t root)) l)
+      let m = tp .covers .known i (subst (λ (n : ℕ). i < n) (inOrder-length (tableRows t) (ps .order)) l) in
+      omega (arith, m, tableRows-length t)
 
-  name-valid : (i : ℕ) → i < length (scanned t root) → valid (nameOf t (fileRow t root i)) ≡ true
-  name-valid i l = k .name (tableRowOf t (fileRow t root i) .function) (k .function (fileRow t root i) (row-known i l))
+  pub name-valid : (i : ℕ) → i < length (rowsFor t ps) → valid (nameOf t (fileRow ps i)) ≡ true
+  name-valid i l = k .name (tableRowOf t (fileRow ps i) .function) (k .function (fileRow ps i) (row-known i l))
 
-  few : (i : ℕ) → i < length (scanned t root) → length (planChildren t (fileRow t root i)) ≤ 8
+  pub few : (i : ℕ) → i < length (rowsFor t ps) → length (planChildren t (fileRow ps i)) ≤ 8
   unfolding planChildren
   few i l =
       let r = row-known i l in
-      rw (map-length (planChild t) (rowAt (tableRows t) (fileRow t root i) .children))
+      rw (map-length (planChild t) (rowAt (tableRows t) (fileRow ps i) .children))
       (omega (
         arith,
-        children-length t k root h (fileRow t root i) r,
-        k .arity (tableRowOf t (fileRow t root i) .function) (k .function (fileRow t root i) r),
+        children-length t k (fileRow ps i) r,
+        k .arity (tableRowOf t (fileRow ps i) .function) (k .function (fileRow ps i) r),
       ))
 
   row-right :
       (s : State) (i : ℕ) →
-      Tracks (planFor t root) s →
+      Tracks (planFor t ps) s →
       Sound i →
-      RowRight (planFor t root) (buildRank t root) (plan-ranked t k root h) depth (nameOf t (fileRow t root i))
-      (planChildren t (fileRow t root i)) s (variantIn t root depth s i)
+      RowRight (planFor t ps) (buildRank ps) (plan-ranked t k In ps tp) depth (nameOf t (fileRow ps i))
+      (planChildren t (fileRow ps i)) s (variantIn t ps depth s i)
   unfolding variantIn
   row-right s i tr q =
-      row-made (planFor t root) (buildRank t root) (plan-ranked t k root h) depth (nameOf t (fileRow t root i))
-      (planChildren t (fileRow t root i)) s (name-valid i (q .place)) (few i (q .place))
-      (row-lower t k root h i (q .place) (q .priced) (q .cheap)) tr
+      row-made (planFor t ps) (buildRank ps) (plan-ranked t k In ps tp) depth (nameOf t (fileRow ps i))
+      (planChildren t (fileRow ps i)) s (name-valid i (q .place)) (few i (q .place))
+      (row-lower t k In ps tp i (q .place) (q .priced) (q .cheap)) tr
 
   -- what all of them leave
   pub record AllMade (s : State) (rows us : List ℕ) (s′ : State) : Type 0 where
     pub grows : Grows (s .lent) (s′ .lent)
-    pub are : BuiltTerms t root (s′ .lent) rows us
+    pub are : BuiltTerms t ps (s′ .lent) rows us
 
   abbrev pub RowsRight : State → List ℕ → Out (List ℕ) → Type 0
   RowsRight s rows (done us s′) = AllMade s rows us s′
@@ -113,26 +114,26 @@ module _ (t : Table) (k : Known t) (root : ℕ) (h : root < length (t .sorts)) w
   abbrev RightOn : List ℕ → Type 0
   RightOn rows =
       (ys : List ℕ) (s₀ s : State) (ts : List ℕ) →
-      Tracks (planFor t root) s →
+      Tracks (planFor t ps) s →
       AllMade s₀ ys ts s →
-      RowsRight s₀ (ys ++ rows) (variantsIn t root depth s ts rows)
+      RowsRight s₀ (ys ++ rows) (variantsIn t ps depth s ts rows)
 
   row-then :
       (i : ℕ) (rows ys : List ℕ) (s₀ s : State) (ts : List ℕ) →
       RightOn rows →
       AllMade s₀ ys ts s →
       (o : Out ℕ) →
-      RowRight (planFor t root) (buildRank t root) (plan-ranked t k root h) depth (nameOf t (fileRow t root i))
-      (planChildren t (fileRow t root i)) s o →
+      RowRight (planFor t ps) (buildRank ps) (plan-ranked t k In ps tp) depth (nameOf t (fileRow ps i))
+      (planChildren t (fileRow ps i)) s o →
       RowsRight s₀ (ys ++ (i ∷ rows))
       (elim o as (λ _. Out (List ℕ)) [
-        | done u s′ ↦ variantsIn t root depth s′ (ts ++ (u ∷ [])) rows
+        | done u s′ ↦ variantsIn t ps depth s′ (ts ++ (u ∷ [])) rows
         | full me rs ls ns ↦ full me rs ls ns
       ])
   row-then i rows ys s₀ s ts on a (done u s′) m =
-      let own : BuiltTerm t root (s′ .lent) i u =
+      let own : BuiltTerm t ps (s′ .lent) i u =
       record { below = m .below; trees = m .trees; of = m .of; means = m .means } in
-      subst (λ (x : List ℕ). RowsRight s₀ x (variantsIn t root depth s′ (ts ++ (u ∷ [])) rows))
+      subst (λ (x : List ℕ). RowsRight s₀ x (variantsIn t ps depth s′ (ts ++ (u ∷ [])) rows))
       (append-assoc ys (i ∷ []) rows)
       (on (ys ++ (i ∷ [])) s₀ s′ (ts ++ (u ∷ [])) (m .tracks)
       (record {
@@ -145,36 +146,36 @@ module _ (t : Table) (k : Known t) (root : ℕ) (h : root < length (t .sorts)) w
   unfolding variantsIn
   rows-right [] q ys s₀ s ts tr a = rw append-nil a
   rows-right (i ∷ rows) q ys s₀ s ts tr a =
-      row-then i rows ys s₀ s ts (rows-right rows (q .1)) a (variantIn t root depth s i) (row-right s i tr (q .0))
+      row-then i rows ys s₀ s ts (rows-right rows (q .1)) a (variantIn t ps depth s i) (row-right s i tr (q .0))
 
   variant-priced :
       (c i : ℕ) →
-      isVariant t root c i ≡ true →
-      rowPriced (runOf t root .state .ranks) (rowAt (scanned t root) i) ≡ true
+      isVariant t ps c i ≡ true →
+      rowPriced (ps .orders) (rowAt (rowsFor t ps) i) ≡ true
   unfolding isVariant
   variant-priced c i e =
-      and-second (eqb (rowAt (scanned t root) i .output) c)
-      (rowPriced (runOf t root .state .ranks) (rowAt (scanned t root) i)) e
+      and-second (eqb (rowAt (rowsFor t ps) i .output) c)
+      (rowPriced (ps .orders) (rowAt (rowsFor t ps) i)) e
 
   passed :
       (c n : ℕ) →
-      Each (λ (i : ℕ). Passes (isVariant t root c) i 0 (length (scanned t root))) (keptRows t root c n)
+      Each (λ (i : ℕ). Passes (isVariant t ps c) i 0 (length (rowsFor t ps))) (keptRows t ps c n)
   unfolding keptRows variantRows
   passed c n =
-      each-of-get (λ (i : ℕ). Passes (isVariant t root c) i 0 (length (scanned t root))) (keptRows t root c n)
-      (λ j l. kept-passes (keyFor t root) (isVariant t root c) (length (scanned t root)) n j l)
+      each-of-get (λ (i : ℕ). Passes (isVariant t ps c) i 0 (length (rowsFor t ps))) (keptRows t ps c n)
+      (λ j l. kept-passes (keyFor t ps) (isVariant t ps c) (length (rowsFor t ps)) n j l)
 
   pub kept-sound :
-      (c n : ℕ) → anyDear t root (keptRows t root c n) ≡ false → Each Sound (keptRows t root c n)
+      (c n : ℕ) → anyDear t ps (keptRows t ps c n) ≡ false → Each Sound (keptRows t ps c n)
   kept-sound c n e =
-      each-both (λ (i : ℕ). Passes (isVariant t root c) i 0 (length (scanned t root)))
-      (λ (i : ℕ). costFor t root i < limit) Sound
+      each-both (λ (i : ℕ). Passes (isVariant t ps c) i 0 (length (rowsFor t ps)))
+      (λ (i : ℕ). costFor t ps i < limit) Sound
       (λ i p l.
       record {
         place = omega (arith, p .high);
         priced = variant-priced c i (p .passes);
         cheap = l;
       })
-      (keptRows t root c n)
+      (keptRows t ps c n)
       (passed c n)
-      (not-dear t root (keptRows t root c n) e)
+      (not-dear t ps (keptRows t ps c n) e)

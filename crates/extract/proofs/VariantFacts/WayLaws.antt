@@ -29,6 +29,7 @@ use Rattle.answer_rules.specs.Variants.{
   variantsRefused,
   variantsAt,
 }
+use Rattle.table_rules.specs.Rules.Choosing.{pricesFor, runOf}
 use Rattle.extract.proofs.VariantFacts.RootLaws.{sort-below}
 use Rattle.extract.proofs.VariantFacts.OutcomeLaws.{Outcome, outcome, LiteralOutcome, literal-outcome}
 
@@ -65,12 +66,12 @@ module _ (file : List ℕ) (root v n : ℕ) (l : Lending) where
         -- a class
         pub at-class :
             eqb (sortOf t root .kind) 0 ≡ false →
-            Outcome t root l (keptRows t root (flatClass t root v) n) (variantsAt file root v n l)
+            Outcome t (pricesFor t root) (runOf t root .passes) l (keptRows t (pricesFor t root) (flatClass t root v) n) (variantsAt file root v n l)
         unfolding variantsOf
         at-class b =
-            let rows : List ℕ = keptRows t root (flatClass t root v) n in
-            let d : variantsOf t root v n l ≡ variantsOfRows t root l rows = rw (b, variantsOf) in
-            subst (λ (a : VariantsAfter). Outcome t root l rows a) (sym (at-formed ∙ d)) (outcome t root l rows)
+            let rows : List ℕ = keptRows t (pricesFor t root) (flatClass t root v) n in
+            let d : variantsOf t root v n l ≡ variantsOfRows t (pricesFor t root) (runOf t root .passes) l rows = rw (b, variantsOf) in
+            subst (λ (a : VariantsAfter). Outcome t (pricesFor t root) (runOf t root .passes) l rows a) (sym (at-formed ∙ d)) (outcome t (pricesFor t root) (runOf t root .passes) l rows)
 
   -- the first way that the file, the root and the store allow
   pub data Way : Type 0 where
@@ -87,7 +88,7 @@ module _ (file : List ℕ) (root v n : ℕ) (l : Lending) where
         Known t →
         root < length (t .sorts) →
         wellFormed (l .store) ≡ true →
-        Outcome t root l (keptRows t root (flatClass t root v) n) (variantsAt file root v n l) →
+        Outcome t (pricesFor t root) (runOf t root .passes) l (keptRows t (pricesFor t root) (flatClass t root v) n) (variantsAt file root v n l) →
         Way
 
   pub way : Way

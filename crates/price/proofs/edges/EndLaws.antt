@@ -6,9 +6,9 @@ use native.Mathlib.Omega.{arith}
 use lib.ListN.{length, getD, length-map}
 use Rattle.choice_rules.specs.Rows.{Child, literal, Row, rowAt, childAt}
 use Rattle.choice_rules.specs.Run.{State}
-use Rattle.choice_rules.specs.Edges.{Under, Edge, edgeOf}
+use Rattle.choice_rules.specs.Edges.{Under, Edge}
 use Rattle.price_passes.specs.Flat.{top, childOf, partOf, rowsOf, FlatOk}
-use Rattle.choice_rules.specs.Promises.{ended}
+use Rattle.choice_rules.specs.Promises.{ended, edgeIn}
 use Rattle.price_passes.proofs.FlatLaws.{rows-length, rows-get}
 use Rattle.price_passes.proofs.EndLaws.{flat-promises}
 
@@ -22,10 +22,10 @@ pub record FlatEdge (s : State) (outputs starts children : List ℕ) (c i : ℕ)
   pub known : i < length outputs
   pub output : getD outputs i 0 ≡ c
   pub under : (j : ℕ) → j < length (partOf starts children i)
-      → Under top s (getD (s .ranks) c 0) (childOf (getD (partOf starts children i) j 0))
+      → Under top (s .costs) (s .ranks) (getD (s .ranks) c 0) (childOf (getD (partOf starts children i) j 0))
 
 module _ (s : State) (outputs heads starts children : List ℕ) (c i : ℕ) where
-  pub flat-edge : Edge top s (rowsOf outputs heads starts children) c i → FlatEdge s outputs starts children c i
+  pub flat-edge : Edge top (s .costs) (s .ranks) (rowsOf outputs heads starts children) c i → FlatEdge s outputs starts children c i
   flat-edge e =
       let h : i < length outputs = omega (arith, e .known, rows-length outputs heads starts children) in
       let g = rows-get outputs heads starts children i h in
@@ -37,7 +37,7 @@ module _ (s : State) (outputs heads starts children : List ℕ) (c i : ℕ) wher
             let k = ap (λ (r : Row). childAt r j) g ∙ m in
             let n : j < length (rowAt (rowsOf outputs heads starts children) i .children) =
             rw g (rw (length-map (partOf starts children i) childOf) l) in
-            subst (λ (x : Child). Under top s (getD (s .ranks) c 0) x) k (e .under j n);
+            subst (λ (x : Child). Under top (s .costs) (s .ranks) (getD (s .ranks) c 0) x) k (e .under j n);
       }
 
 -- every class with a cost below 2^64-1 has its edge
@@ -46,7 +46,7 @@ module _ (n : ℕ) (outputs heads starts children : List ℕ) (ok : FlatOk n out
   flat = rowsOf outputs heads starts children
 
   pub flat-edge-of-class : (c : ℕ) → 0 < getD (ended top flat n .ranks) c 0 → getD (ended top flat n .costs) c 0 < top
-      → FlatEdge (ended top flat n) outputs starts children c (edgeOf top (ended top flat n) flat c)
+      → FlatEdge (ended top flat n) outputs starts children c (edgeIn top flat n c)
   flat-edge-of-class c k h =
-      flat-edge (ended top flat n) outputs heads starts children c (edgeOf top (ended top flat n) flat c)
+      flat-edge (ended top flat n) outputs heads starts children c (edgeIn top flat n c)
       (flat-promises n outputs heads starts children ok .edge c k h)

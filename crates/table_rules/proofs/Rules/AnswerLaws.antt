@@ -1,57 +1,148 @@
--- Demand 3 of document 00 holds of the run over any accepted table. Assumes nothing.
-use mathlib.Core.Path.{_≡_, refl, subst}
-use mathlib.Core.List.{List}
+-- True prices: the tree that their rows choose is a cheapest one, and demand 3 of document 00 holds of the run over any
+-- accepted table. Assumes nothing.
+use mathlib.Core.Path.{_≡_, refl, sym, _∙_, subst}
+use mathlib.Core.Bool.{true}
+use mathlib.Core.List.{[]}
 use Prim.Native.Nat.{ℕ, _<_}
-use lib.ListN.{length}
-use Rattle.choice_rules.specs.Rows.{class}
-use Rattle.choice_rules.specs.Deriving.{Tree}
-use Rattle.choice_rules.specs.Edges.{Chosen}
-use Rattle.choice_rules.specs.Answer.{Answer, best}
+use native.Mathlib.Omega.{arith}
+use borrow.Author.Tests.{ltb-true, lt-ltb}
+use lib.Dec.{ltb}
+use lib.ListN.{length, getD}
+use Rattle.order.proofs.OrderLaws.{cases}
+use Rattle.choice_rules.specs.Rows.{Row, class, rowAt, childAt}
+use Rattle.choice_rules.specs.Run.{rowCost}
+use Rattle.choice_rules.specs.Deriving.{Tree, Once}
+use Rattle.choice_rules.specs.Edges.{Under, Edge, Chosen}
+use Rattle.choice_rules.specs.Answer.{best, answerOf}
+use Rattle.choice_rules.proofs.ChosenLaws.{choice}
 use Rattle.choice_rules.proofs.Promises.{promises}
 use Rattle.choice_rules.specs.Demand.Deriving.{Cheapest, Answered}
-use Rattle.choice_rules.specs.Demand.Orders.{renumber}
-use Rattle.choice_rules.proofs.Demand.DemandLaws.{answered-of-right, cheapest-of-best}
+use Rattle.choice_rules.proofs.Demand.OrderLaws.{inOrder-length, inOrder-get}
+use Rattle.choice_rules.proofs.Demand.DemandLaws.{answered-of-right}
 use Rattle.file_rules.specs.Table.{Table}
-use Rattle.table_rules.specs.Rules.Classes.{sortOf, classCount, flatClass}
+use Rattle.table_rules.specs.Order.{Apart}
+use Rattle.table_rules.proofs.OrderLaws.{rowsInOrder-apart}
+use Rattle.table_rules.specs.Rules.Classes.{classCount}
 use Rattle.table_rules.specs.Rules.Rows.{tableRows, usable}
-use Rattle.table_rules.specs.Rules.Order.{scanOrder, scanned}
-use Rattle.table_rules.specs.Rules.Choosing.{limit, runOf, answerFor, edgeFor, edgeRow}
+use Rattle.table_rules.specs.Rules.Order.{viewOf, scanOrder, scanned}
+use Rattle.table_rules.specs.Rules.Choosing.{limit, Prices, answerFor, runOf, edgeFor, edgeRow, pricesFor}
+use Rattle.table_rules.specs.Rules.Prices.{Priced, TruePrices}
 use Rattle.table_rules.specs.Rules.Facts.{Known}
-use Rattle.table_rules.proofs.Rules.CoverLaws.{ReachedClass, scanOrder-covers, scanned-within, root-class}
-use Rattle.table_rules.proofs.Rules.ChosenLaws.{chosen-in-file}
+use Rattle.table_rules.proofs.Rules.CoverLaws.{ReachedClass, view-sound, scanOrder-covers, scanned-within}
 
--- the tree that the edges' rows choose, a cheapest deriving one
-pub record ChosenTree (t : Table) (root c w : ℕ) : Type 0 where
+differ : {P : Type 0} → _≡_ {A = ℕ} 0 1 → P
+differ z = absurd (omega arith)
+
+-- what prices say of a class with a cost, and what a cost says of the prices
+module _ (p : Prices) (c : ℕ) where
+  pub answer-of-priced : Priced p c → answerFor p c ≡ best (getD (p .costs) c 0)
+  unfolding answerFor answerOf
+  answer-of-priced q =
+      rw (lt-ltb 0 (getD (p .orders) c 0) (q .ranked), lt-ltb (getD (p .costs) c 0) limit (q .below)) refl
+
+  pub priced-of-answer : (w : ℕ) → answerFor p c ≡ best w → Priced p c
+  unfolding answerFor answerOf
+  priced-of-answer w e =
+      cases (ltb 0 (getD (p .orders) c 0))
+      (λ a.
+      cases (ltb (getD (p .costs) c 0) limit)
+      (λ b.
+      record { ranked = ltb-true 0 (getD (p .orders) c 0) a; below = ltb-true (getD (p .costs) c 0) limit b })
+      (λ b. differ (let z = rw (a, b) at e in cc)))
+      (λ a. differ (let z = rw a at e in cc))
+
+-- the tree that the prices' rows choose, a cheapest deriving one, in which no class is met twice on a path
+pub record ChosenTree (t : Table) (p : Prices) (c w : ℕ) : Type 0 where
   pub tree : Tree
-  pub chosen : Chosen (tableRows t) (edgeRow t root) tree (class c)
+  pub chosen : Chosen (tableRows t) (p .row) tree (class c)
   pub cheapest : Cheapest (tableRows t) (usable t) c w tree
+  pub once : Once (tableRows t) [] tree
+  pub below : w < limit
 
+module _ (t : Table) (In : ℕ → Type 0) (p : Prices) (true-ones : TruePrices t In p) where
+  pub chosen-tree : (c w : ℕ) → In c → answerFor p c ≡ best w → ChosenTree t p c w
+  chosen-tree c w r e =
+      let q : Priced p c = priced-of-answer p c w e in
+      let a : Answered limit (tableRows t) (usable t) c (best w) =
+      subst (Answered limit (tableRows t) (usable t) c) e (true-ones .right c r) in
+      let same : getD (p .costs) c 0 ≡ w = same-cost (sym (answer-of-priced p c q) ∙ e) in
+      let x = choice limit (tableRows t) (p .costs) (p .orders) (p .row)
+      (λ d k h. true-ones .named d (record { ranked = k; below = h }))
+      (usable t) (λ d k h. true-ones .is-usable d (record { ranked = k; below = h })) c (q .ranked) (q .below) in
+      record {
+        tree = x .tree;
+        chosen = x .chosen;
+        cheapest = record {
+          is-deriving = record { derives = x .derives; all-usable = x .all-usable };
+          exact = x .cost ∙ same;
+          least = a .1 .1 .least;
+        };
+        once = x .once [] tt;
+        below = a .0;
+      }
+    where
+      same-cost : {a b : ℕ} → best a ≡ best b → a ≡ b
+      same-cost h = cc
+
+-- the run's prices are true
 module _ (t : Table) (k : Known t) (root : ℕ) (h : root < length (t .sorts)) where
-  -- of every class that the root sort reaches
-  pub answered-of-reached :
-      (c : ℕ) → ReachedClass t root c → Answered limit (tableRows t) (usable t) c (answerFor t root c)
+  run-right : (c : ℕ) → ReachedClass t root c → Answered limit (tableRows t) (usable t) c (answerFor (pricesFor t root) c)
   unfolding answerFor runOf scanned
-  answered-of-reached c r =
+  run-right c r =
       answered-of-right (tableRows t) (usable t) (scanOrder t root) (ReachedClass t root) (scanOrder-covers t k root h)
-      limit c r (answerFor t root c)
+      limit c r (answerFor (pricesFor t root) c)
       (promises limit (scanned t root) (classCount t) (scanned-within t k root h) .right c)
 
-  -- "For any accepted table file .. and, as root, class of a constructor sort"
-  pub answered :
-      (v : ℕ) →
-      v < sortOf t root .classes →
-      Answered limit (tableRows t) (usable t) (flatClass t root v) (answerFor t root (flatClass t root v))
-  answered v l = answered-of-reached (flatClass t root v) (root-class t k root h v l)
+  -- the edge of a class, in the scan order and in the file
+  module _ (c : ℕ) (q : Priced (pricesFor t root) c) where
+    scanned-edge :
+        Edge limit (runOf t root .state .costs) (runOf t root .state .ranks) (scanned t root) c (edgeFor t root c)
+    unfolding runOf edgeFor
+    scanned-edge =
+        promises limit (scanned t root) (classCount t) (scanned-within t k root h) .edge c (q .ranked) (q .below)
 
-  -- the tree that the edges choose is a cheapest one, at the cost reported
-  pub chosen-tree : (c w : ℕ) → ReachedClass t root c → answerFor t root c ≡ best w → ChosenTree t root c w
-  unfolding answerFor edgeFor runOf scanned
-  chosen-tree c w r e =
-      let p = promises limit (scanned t root) (classCount t) (scanned-within t k root h) .cheapest c w e in
-      record {
-        tree = renumber (scanOrder t root) (p .0);
-        chosen = chosen-in-file t root (p .0) (class c) (p .1) (p .2 .derives);
-        cheapest =
-            cheapest-of-best (tableRows t) (usable t) (scanOrder t root) (ReachedClass t root)
-            (scanOrder-covers t k root h) c r w (p .0) (p .2);
-      }
+    place : edgeFor t root c < length (scanOrder t root)
+    unfolding scanned
+    place =
+        subst (λ (n : ℕ). edgeFor t root c < n) (inOrder-length (tableRows t) (scanOrder t root)) (scanned-edge .known)
+
+    row-is : rowAt (scanned t root) (edgeFor t root c) ≡ rowAt (tableRows t) (edgeRow t root c)
+    unfolding scanned edgeRow
+    row-is = inOrder-get (tableRows t) (scanOrder t root) (edgeFor t root c) place
+
+    run-named :
+        Edge limit (runOf t root .state .costs) (runOf t root .state .ranks) (tableRows t) c (edgeRow t root c)
+    unfolding edgeRow
+    run-named = record {
+      known = scanOrder-covers t k root h .known (edgeFor t root c) place;
+      output = subst (λ (r : Row). r .output ≡ c) row-is (scanned-edge .output);
+      cost =
+          subst
+          (λ (r : Row). rowCost limit (runOf t root .state .costs) r ≡ getD (runOf t root .state .costs) c 0)
+          row-is (scanned-edge .cost);
+      under =
+          subst
+          (λ (r : Row).
+          (j : ℕ) →
+          j < length (r .children) →
+          Under limit (runOf t root .state .costs) (runOf t root .state .ranks)
+          (getD (runOf t root .state .ranks) c 0) (childAt r j))
+          row-is (scanned-edge .under);
+    }
+
+    run-usable : usable t (edgeRow t root c) ≡ true
+    unfolding edgeRow
+    run-usable = scanOrder-covers t k root h .usable-ones (edgeFor t root c) place
+
+  scan-apart : Apart (length (t .rows)) (scanOrder t root)
+  unfolding scanOrder viewOf
+  scan-apart = rowsInOrder-apart (viewOf t) root (view-sound t k root h)
+
+  pub run-true : TruePrices t (ReachedClass t root) (pricesFor t root)
+  run-true = record {
+    covers = scanOrder-covers t k root h;
+    apart = scan-apart;
+    right = run-right;
+    named = run-named;
+    is-usable = run-usable;
+  }

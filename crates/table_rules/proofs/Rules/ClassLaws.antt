@@ -1,10 +1,8 @@
 -- A class is never keyed without its sort: flat class numbers tell sorts and values apart. Assumes nothing.
-use mathlib.Core.Path.{_≡_, refl, ap, sym, _∙_}
+use mathlib.Core.Path.{_≡_, _∙_}
 use mathlib.Core.List.{List, [], _∷_}
 use Prim.Native.Nat.{ℕ, zero, suc, _+_, _<_, _≤_}
 use native.Mathlib.Omega.{arith}
-use borrow.Author.Tests.{ltb-true, ltb-false}
-use lib.Dec.{ltb}
 use lib.ListN.{length, getD, take}
 use Rattle.order.proofs.OrderLaws.{numbers-cases}
 use Rattle.file_rules.specs.Table.{Sort, Table}

@@ -1,10 +1,10 @@
 -- The scan order has every usable row that can take part in a term of the root's sort. Assumes nothing.
 use mathlib.Core.Path.{_≡_, refl, ap, sym, _∙_, subst}
-use mathlib.Core.Bool.{Bool, true, false, _&&_}
-use mathlib.Core.List.{List, [], _∷_, map}
+use mathlib.Core.Bool.{true, false, _&&_}
+use mathlib.Core.List.{List, [], _∷_}
 use Prim.Native.Nat.{ℕ, zero, suc, _+_, _<_, _≤_}
 use native.Mathlib.Omega.{arith}
-use borrow.Author.Tests.{eq-eqb, ne-eqb, eqb-true, eqb-false}
+use borrow.Author.Tests.{ne-eqb, eqb-false}
 use lib.Dec.{eqb}
 use lib.ListN.{length, getD}
 use Rattle.order.proofs.OrderLaws.{cases}
@@ -12,11 +12,10 @@ use Rattle.choice_rules.specs.Rows.{Child, literal, class, Row, noRow, rowAt, c
 use Rattle.choice_rules.specs.Demand.Orders.{inOrder, Covers}
 use Rattle.choice_rules.proofs.Demand.OrderLaws.{map-length, map-get, inOrder-length, inOrder-get}
 use Rattle.file_rules.specs.Table.{Table, Row as TableRow}
-use Rattle.table_rules.specs.View.{ScanView}
-use Rattle.table_rules.specs.Order.{has, sortsReached, rowsInOrder, Sound}
+use Rattle.table_rules.specs.Order.{has, sortsReached, Sound}
 use Rattle.table_rules.proofs.HasLaws.{and-true, has-get, has-place}
 use Rattle.table_rules.proofs.OrderLaws.{root-reached, arguments-reached, Scanned, rowsInOrder-get, rowsInOrder-finds}
-use Rattle.table_rules.specs.Rules.Classes.{noSort, sortOf, classCount, flatClass, childOf, rangeOf}
+use Rattle.table_rules.specs.Rules.Classes.{sortOf, classCount, flatClass, childOf, rangeOf}
 use Rattle.table_rules.specs.Rules.Rows.{
   noTableRow,
   functionOf,
@@ -90,6 +89,42 @@ pub record ReachedClass (t : Table) (root c : ℕ) : Type 0 where
   pub inside : value < sortOf t sort .classes
   pub flat : flatClass t sort value ≡ c
 
+module _ (t : Table) (k : Known t) where
+  -- the output class of a row
+  pub output-class :
+      (r : ℕ) →
+      r < length (t .rows) →
+      rowAt (tableRows t) r .output
+      ≡ flatClass t (functionOf t (tableRowOf t r .function) .output) (getD (tableRowOf t r .cells) (arityOf t r) 0)
+  unfolding rowBy
+  output-class r l = ap (λ (x : Row). x .output) (tableRows-get t r l)
+
+  row-children :
+      (r : ℕ) →
+      r < length (t .rows) →
+      rowAt (tableRows t) r .children
+      ≡ childrenOf t (functionOf t (tableRowOf t r .function) .arguments) (tableRowOf t r .cells)
+  unfolding rowBy
+  row-children r l = ap (λ (x : Row). x .children) (tableRows-get t r l)
+
+  pub children-length : (r : ℕ) → r < length (t .rows) → length (rowAt (tableRows t) r .children) ≡ arityOf t r
+  children-length r l =
+      ap (λ (x : List Child). length x) (row-children r l)
+      ∙ childrenOf-length t (functionOf t (tableRowOf t r .function) .arguments) (tableRowOf t r .cells)
+      (omega (arith, k .cells r l))
+
+  pub child-get :
+      (r : ℕ) →
+      r < length (t .rows) →
+      (j : ℕ) →
+      j < arityOf t r →
+      childAt (rowAt (tableRows t) r) j
+      ≡ childOf t (getD (functionOf t (tableRowOf t r .function) .arguments) j 0) (getD (tableRowOf t r .cells) j 0)
+  child-get r l j m =
+      ap (λ (x : List Child). getD x j (literal 0)) (row-children r l)
+      ∙ childrenOf-get t (functionOf t (tableRowOf t r .function) .arguments) (tableRowOf t r .cells) j
+      (omega (arith, k .cells r l)) m
+
 module _ (t : Table) (k : Known t) (root : ℕ) (h : root < length (t .sorts)) where
   pub view-sound : Sound (viewOf t) root
   unfolding viewOf
@@ -99,15 +134,6 @@ module _ (t : Table) (k : Known t) (root : ℕ) (h : root < length (t .sorts)) w
         let p = has-place a (functionOf t f .arguments) q in
         subst (λ (x : ℕ). x < length (t .sorts)) (p .2) (k .argument f (p .0) l (p .1));
   }
-
-  -- the output class of a row
-  pub output-class :
-      (r : ℕ) →
-      r < length (t .rows) →
-      rowAt (tableRows t) r .output
-      ≡ flatClass t (functionOf t (tableRowOf t r .function) .output) (getD (tableRowOf t r .cells) (arityOf t r) 0)
-  unfolding rowBy
-  output-class r l = ap (λ (x : Row). x .output) (tableRows-get t r l)
 
   -- a row of a reached class has a reached output sort
   output-reached :
@@ -119,7 +145,7 @@ module _ (t : Table) (k : Known t) (root : ℕ) (h : root < length (t .sorts)) w
       let f = tableRowOf t r .function in
       let e : c .sort ≡ functionOf t f .output =
       flatClass-sort t (c .sort) (c .value) (functionOf t f .output) (getD (tableRowOf t r .cells) (arityOf t r) 0)
-      (c .known) (c .inside) (k .output f (k .function r l)) (k .output-cell r l) (c .flat ∙ output-class r l) in
+      (c .known) (c .inside) (k .output f (k .function r l)) (k .output-cell r l) (c .flat ∙ output-class t k r l) in
       subst (λ (s : ℕ). has s (sortsReached (viewOf t) root) ≡ true) e (c .reached)
 
   usable-parts :
@@ -169,32 +195,6 @@ module _ (t : Table) (k : Known t) (root : ℕ) (h : root < length (t .sorts)) w
       arguments-reached (viewOf t) root view-sound f (getD (functionOf t f .arguments) j 0) (k .function r l)
       (usable-parts r u .0) (output-reached r l c) (has-get (functionOf t f .arguments) j m)
 
-  row-children :
-      (r : ℕ) →
-      r < length (t .rows) →
-      rowAt (tableRows t) r .children
-      ≡ childrenOf t (functionOf t (tableRowOf t r .function) .arguments) (tableRowOf t r .cells)
-  unfolding rowBy
-  row-children r l = ap (λ (x : Row). x .children) (tableRows-get t r l)
-
-  pub children-length : (r : ℕ) → r < length (t .rows) → length (rowAt (tableRows t) r .children) ≡ arityOf t r
-  children-length r l =
-      ap (λ (x : List Child). length x) (row-children r l)
-      ∙ childrenOf-length t (functionOf t (tableRowOf t r .function) .arguments) (tableRowOf t r .cells)
-      (omega (arith, k .cells r l))
-
-  pub child-get :
-      (r : ℕ) →
-      r < length (t .rows) →
-      (j : ℕ) →
-      j < arityOf t r →
-      childAt (rowAt (tableRows t) r) j
-      ≡ childOf t (getD (functionOf t (tableRowOf t r .function) .arguments) j 0) (getD (tableRowOf t r .cells) j 0)
-  child-get r l j m =
-      ap (λ (x : List Child). getD x j (literal 0)) (row-children r l)
-      ∙ childrenOf-get t (functionOf t (tableRowOf t r .function) .arguments) (tableRowOf t r .cells) j
-      (omega (arith, k .cells r l)) m
-
   closed :
       (r : ℕ) →
       r < length (t .rows) →
@@ -207,10 +207,10 @@ module _ (t : Table) (k : Known t) (root : ℕ) (h : root < length (t .sorts)) w
       ReachedClass t root d
   closed r l u c j m d e =
       let f = tableRowOf t r .function in
-      let a : j < arityOf t r = omega (arith, children-length r l) in
+      let a : j < arityOf t r = omega (arith, children-length t k r l) in
       let s : ℕ = getD (functionOf t f .arguments) j 0 in
       let v : ℕ = getD (tableRowOf t r .cells) j 0 in
-      let w = childOf-class t s v d (sym (child-get r l j a) ∙ e) in
+      let w = childOf-class t s v d (sym (child-get t k r l j a) ∙ e) in
       record {
         sort = s;
         value = v;
@@ -253,7 +253,7 @@ module _ (t : Table) (k : Known t) (root : ℕ) (h : root < length (t .sorts)) w
       let f = tableRowOf t r .function in
       let e : rowAt (inOrder (tableRows t) (scanOrder t root)) i .output
       ≡ flatClass t (functionOf t f .output) (getD (tableRowOf t r .cells) (arityOf t r) 0) =
-      ap (λ (x : Row). x .output) (inOrder-get (tableRows t) (scanOrder t root) i m) ∙ output-class r b in
+      ap (λ (x : Row). x .output) (inOrder-get (tableRows t) (scanOrder t root) i m) ∙ output-class t k r b in
       rw e
       (flatClass-below t (functionOf t f .output) (getD (tableRowOf t r .cells) (arityOf t r) 0)
       (k .output f (k .function r b)) (k .output-cell r b))

@@ -1,13 +1,13 @@
 -- What the kept rows answer by a solved flat table is the definition's answer. Assumes nothing.
 use mathlib.Core.Path.{_≡_, refl, ap, sym, _∙_, subst}
-use mathlib.Core.Bool.{Bool, true, false, _&&_, _||_}
+use mathlib.Core.Bool.{true, false, _&&_, _||_}
 use mathlib.Core.List.{List, [], _∷_, map}
 use Prim.Native.Nat.{ℕ, zero, suc, _+_, _<_, _≤_}
 use native.Mathlib.Omega.{arith}
-use borrow.Author.Tests.{leb-false, eqb-true}
+use borrow.Author.Tests.{leb-false}
 use lib.Dec.{leb, eqb}
 use lib.IntN.{ℤ}
-use lib.ListN.{length, getD, take, replicate}
+use lib.ListN.{length, getD, replicate}
 use Rattle.order.proofs.OrderLaws.{cases}
 use Rattle.choice_rules.specs.Rows.{allOf}
 use Rattle.choice_rules.specs.Run.{priced}
@@ -17,11 +17,11 @@ use Rattle.price_passes.specs.Flat.{top, partOf, childOf as flatChild}
 use Rattle.price.specs.Solved.{Solved}
 use Rattle.term_rules.specs.Lent.{Store}
 use Rattle.term_rules.specs.WellFormed.{wellFormed}
-use Rattle.build.specs.Plan.{Plan, planOf}
-use Rattle.build.specs.Building.{State, state, Out, done, full}
+use Rattle.build.specs.Plan.{planOf}
+use Rattle.build.specs.Building.{state, Out, done, full}
 use Rattle.file_rules.specs.Table.{Table}
 use Rattle.table_rules.specs.Rules.Classes.{classCount}
-use Rattle.table_rules.specs.Rules.Choosing.{limit, runOf}
+use Rattle.table_rules.specs.Rules.Choosing.{runOf, pricesFor}
 use Rattle.variant_order.specs.Arrays.{AllBelow}
 use Rattle.answer_rules.specs.Variants.{
   costFor,
@@ -31,7 +31,7 @@ use Rattle.answer_rules.specs.Variants.{
   VariantsAfter,
   variantsKept,
   variantsBuilt,
-  variantsIn,
+  depthFor,
   variantsOfRows,
   roomForResults,
 }
@@ -39,7 +39,7 @@ use Rattle.variant_terms.specs.Rows.{Deep}
 use Rattle.best_class.proofs.SolvedLaws.{planned, priced-of-known}
 use Rattle.variant_rows.specs.Candidates.{Prices, isCandidate}
 use Rattle.variant_rows.specs.Kept.{keptIn}
-use Rattle.variant_terms.specs.Turned.{nameIn, kidsIn, rowsIn, AllListed, Steady, Wholly, wholly}
+use Rattle.variant_terms.specs.Turned.{nameIn, kidsIn, rowsIn, AllListed, Steady, wholly}
 use Rattle.variant_answers.specs.Kept.{dearIn, pricesOf, builtIn, answerIn, AnswerReady, Answers}
 use Rattle.variants_root.specs.Flat.{VariantTable}
 use Rattle.variants_root.proofs.kept_rows.RowLaws.{passes-are, cost-is, kept-is, kept-from}
@@ -57,8 +57,8 @@ not-dear prices (i ∷ rows) e zero h = leb-false top (getD prices i 0) (or-fail
 not-dear prices (i ∷ rows) e (suc j) h =
     not-dear prices rows (or-fails (leb top (getD prices i 0)) (dearIn prices rows) e .1) j (omega arith)
 
-module _ (t : Table) (root n : ℕ) (prices : List ℕ) (is : (i : ℕ) → i < n → getD prices i 0 ≡ costFor t root i) where
-  dear-is : (rows : List ℕ) → AllBelow n rows → dearIn prices rows ≡ anyDear t root rows
+module _ (t : Table) (root n : ℕ) (prices : List ℕ) (is : (i : ℕ) → i < n → getD prices i 0 ≡ costFor t (pricesFor t root) i) where
+  dear-is : (rows : List ℕ) → AllBelow n rows → dearIn prices rows ≡ anyDear t (pricesFor t root) rows
   unfolding dearIn anyDear
   dear-is [] b = refl
   dear-is (i ∷ rows) b =
@@ -66,7 +66,7 @@ module _ (t : Table) (root n : ℕ) (prices : List ℕ) (is : (i : ℕ) → i < 
       let r = dear-is rows (λ j h. b (suc j) (omega arith)) in
       rw (e, r) refl
 
-  costs-are : (rows : List ℕ) → AllBelow n rows → pricesOf prices rows ≡ map (costFor t root) rows
+  costs-are : (rows : List ℕ) → AllBelow n rows → pricesOf prices rows ≡ map (costFor t (pricesFor t root)) rows
   costs-are [] b = refl
   costs-are (i ∷ rows) b =
       let e = is i (b 0 (omega arith)) in
@@ -76,13 +76,13 @@ module _ (t : Table) (root n : ℕ) (prices : List ℕ) (is : (i : ℕ) → i < 
 built-is :
     (t : Table) (root p : ℕ) (prices rows : List ℕ) (l : Lending) →
     runOf t root .passes ≡ p →
-    pricesOf prices rows ≡ map (costFor t root) rows →
+    pricesOf prices rows ≡ map (costFor t (pricesFor t root)) rows →
     (o : Out (List ℕ)) →
-    builtIn p prices rows l (wholly (l .store) o) ≡ variantsBuilt t root l rows o
+    builtIn p prices rows l (wholly (l .store) o) ≡ variantsBuilt t (pricesFor t root) (runOf t root .passes) l rows o
 unfolding builtIn wholly variantsBuilt
 built-is t root p prices rows l e f (done ts s) =
     ap (λ (ws : List ℕ). variantsKept l ws ts p (s .lent)) f
-    ∙ ap (λ (q : ℕ). variantsKept l (map (costFor t root) rows) ts q (s .lent)) (sym e)
+    ∙ ap (λ (q : ℕ). variantsKept l (map (costFor t (pricesFor t root)) rows) ts q (s .lent)) (sym e)
 built-is t root p prices rows l e f (full me rs ls ns) = refl
 
 module _
@@ -109,7 +109,7 @@ module _
   kept-below : AllBelow (length outputs) rows
   kept-below j h = omega (arith, from j h .high)
 
-  price : (i : ℕ) → i < length outputs → getD prices i 0 ≡ costFor t root i
+  price : (i : ℕ) → i < length outputs → getD prices i 0 ≡ costFor t (pricesFor t root) i
   price =
       cost-is t root outputs heads starts children order functions labels values arities cells v costs ranks marks
       known plan passes last long same w prices p
@@ -156,63 +156,63 @@ module _
 
   module _ (l : Lending) where
     abbrev depth : ℕ
-    depth = suc (runOf t root .state .last)
+    depth = depthFor (pricesFor t root)
 
     abbrev built : Out (List ℕ)
     built =
         rowsIn (planOf plan labels values) depth (nameIn labels order functions) (kidsIn values starts children)
         (state (replicate 512 0) (l .store)) [] rows
 
-    depth-enough : Deep known (suc (runOf t root .state .last))
+    depth-enough : Deep known (depthFor (pricesFor t root))
     depth-enough =
         deep t root outputs heads starts children order functions labels values arities cells v costs ranks marks
         known plan passes last long same w
 
     when-dear :
         dearIn prices rows ≡ true →
-        answerIn passes prices rows l (wholly (l .store) built) ≡ variantsOfRows t root l rows
+        answerIn passes prices rows l (wholly (l .store) built) ≡ variantsOfRows t (pricesFor t root) (runOf t root .passes) l rows
     unfolding answerIn variantsOfRows
     when-dear e =
-        let d : anyDear t root rows ≡ true = sym (dear-is t root (length outputs) prices price rows kept-below) ∙ e in
+        let d : anyDear t (pricesFor t root) rows ≡ true = sym (dear-is t root (length outputs) prices price rows kept-below) ∙ e in
         rw (e, answerIn) (rw (d, variantsOfRows) refl)
 
     when-full :
         dearIn prices rows ≡ false →
         roomForResults l (length rows) ≡ false →
-        answerIn passes prices rows l (wholly (l .store) built) ≡ variantsOfRows t root l rows
+        answerIn passes prices rows l (wholly (l .store) built) ≡ variantsOfRows t (pricesFor t root) (runOf t root .passes) l rows
     unfolding answerIn variantsOfRows
     when-full e r =
-        let d : anyDear t root rows ≡ false = sym (dear-is t root (length outputs) prices price rows kept-below) ∙ e in
+        let d : anyDear t (pricesFor t root) rows ≡ false = sym (dear-is t root (length outputs) prices price rows kept-below) ∙ e in
         rw (e, r, answerIn) (rw (d, r, variantsOfRows) refl)
 
     when-room :
         dearIn prices rows ≡ false →
         roomForResults l (length rows) ≡ true →
-        answerIn passes prices rows l (wholly (l .store) built) ≡ variantsOfRows t root l rows
+        answerIn passes prices rows l (wholly (l .store) built) ≡ variantsOfRows t (pricesFor t root) (runOf t root .passes) l rows
     unfolding answerIn variantsOfRows
     when-room e r =
-        let d : anyDear t root rows ≡ false = sym (dear-is t root (length outputs) prices price rows kept-below) ∙ e in
+        let d : anyDear t (pricesFor t root) rows ≡ false = sym (dear-is t root (length outputs) prices price rows kept-below) ∙ e in
         rw (e, r, answerIn) (rw (d, r, variantsOfRows)
         (built-is t root passes prices rows l
         (passes-are t root outputs heads starts children order functions labels values arities cells v costs ranks
         marks known plan passes last long same w) (costs-are t root (length outputs) prices price rows kept-below)
         built
-        ∙ ap (variantsBuilt t root l rows)
+        ∙ ap (variantsBuilt t (pricesFor t root) (runOf t root .passes) l rows)
         (sym
         (variants-are t root outputs heads starts children order functions labels values arities cells v costs ranks
         marks known plan passes last long same w depth depth-enough rows (all-listed e) (state (replicate 512 0) (l
         .store)) []))))
 
-    of-rows : answerIn passes prices rows l (wholly (l .store) built) ≡ variantsOfRows t root l rows
+    of-rows : answerIn passes prices rows l (wholly (l .store) built) ≡ variantsOfRows t (pricesFor t root) (runOf t root .passes) l rows
     of-rows =
         cases (dearIn prices rows) when-dear
         (λ e. cases (roomForResults l (length rows)) (when-room e) (when-full e))
 
     answer-is :
-        answerIn passes prices rows l (wholly (l .store) built) ≡ variantsOfRows t root l (keptRows t root c most)
+        answerIn passes prices rows l (wholly (l .store) built) ≡ variantsOfRows t (pricesFor t root) (runOf t root .passes) l (keptRows t (pricesFor t root) c most)
     answer-is =
         of-rows
-        ∙ ap (variantsOfRows t root l)
+        ∙ ap (variantsOfRows t (pricesFor t root) (runOf t root .passes) l)
         (are
         ∙ kept-is t root outputs heads starts children order functions labels values arities cells v costs ranks marks
         known plan passes last long same w prices p c most)
@@ -221,5 +221,5 @@ module _
     pub answer-told :
         (a : VariantsAfter) →
         Answers (planOf plan labels values) known (nameIn labels order functions) (kidsIn values starts children)
-        passes prices rows l a → a ≡ variantsOfRows t root l (keptRows t root c most)
+        passes prices rows l a → a ≡ variantsOfRows t (pricesFor t root) (runOf t root .passes) l (keptRows t (pricesFor t root) c most)
     answer-told a x = x depth depth-enough ∙ answer-is

@@ -1,36 +1,33 @@
 -- The kept rows of a solved flat table can be built, if none is too dear, and at the definition's depth. Assumes
 -- nothing.
-use mathlib.Core.Path.{_≡_, refl, ap, sym, _∙_, subst}
-use mathlib.Core.Bool.{Bool, true, false, _&&_}
+use mathlib.Core.Path.{_≡_, ap, sym, _∙_, subst}
+use mathlib.Core.Bool.{true, _&&_}
 use mathlib.Core.List.{List, [], _∷_, map}
 use Prim.{Dec, yes, no}
-use Prim.Native.Nat.{ℕ, suc, _+_, _*_, _-_, _<_, _≤_, min}
+use Prim.Native.Nat.{ℕ, _+_, _*_, _-_, _<_, _≤_, min}
 use native.Mathlib.Decide.{decLt}
 use native.Mathlib.Omega.{arith}
-use borrow.Author.Tests.{ltb-true, le-ltb, lt-ltb}
-use lib.Dec.{ltb, eqb}
+use borrow.Author.Tests.{ltb-true}
 use lib.IntN.{ℤ}
-use lib.ListN.{length, getD, take, drop}
-use Rattle.choice_rules.specs.Rows.{Child, literal, class, Row, allOf, sumOf}
-use Rattle.choice_rules.specs.Run.{Run, priced, childCost, run}
-use Rattle.choice_rules.proofs.ListLaws.{and-cases, all-each, each-of-sum, each-get}
-use Rattle.choice_rules.proofs.RunLaws.{run-good}
+use lib.ListN.{length, getD}
+use Rattle.choice_rules.specs.Rows.{Child, literal, allOf, sumOf}
+use Rattle.choice_rules.specs.Run.{Run, priced, childCost}
+use Rattle.choice_rules.proofs.ListLaws.{all-each, each-of-sum, each-get}
 use Rattle.choice_rules.proofs.Demand.OrderLaws.{map-length, map-get}
 use Rattle.price_passes.specs.Flat.{top, partOf, ranTo, childOf as flatChild}
 use Rattle.price_passes.proofs.ChildLaws.{priced-of-class, cost-of-class, child-when-literal}
-use Rattle.price.specs.Planning.{Priced}
 use Rattle.price.specs.Solved.{Solved}
 use Rattle.file_rules.specs.Table.{Table}
 use Rattle.table_rules.specs.Rules.Classes.{classCount}
-use Rattle.table_rules.specs.Rules.Order.{scanned}
-use Rattle.table_rules.specs.Rules.Choosing.{limit, runOf}
-use Rattle.table_rules.proofs.Rules.CoverLaws.{scanned-within}
+use Rattle.table_rules.specs.Rules.Choosing.{runOf, pricesFor}
+use Rattle.answer_rules.specs.Variants.{depthFor}
+use Rattle.answer_rules.proofs.PlanLaws.{order-within}
 use Rattle.best_class.specs.Flat.{FlatTable}
 use Rattle.best_class.proofs.ChildLaws.{InTable}
 use Rattle.best_class.proofs.SolvedLaws.{order-below, part-in, past-rank, run-is, priced-of-known}
 use Rattle.variant_terms.specs.Rows.{Deep, KidIn}
 use Rattle.variant_terms.specs.Turned.{Listed}
-use Rattle.variant_rows.specs.Candidates.{priceOf, isCandidate}
+use Rattle.variant_rows.specs.Candidates.{priceOf}
 use Rattle.variants_root.specs.Flat.{VariantTable}
 use Rattle.variants_root.proofs.kept_rows.RowLaws.{rows-many, named, few-kids}
 
@@ -52,22 +49,16 @@ module _
     many : length order ≡ length outputs
     many = rows-many t root outputs heads starts children order functions labels values arities cells v
 
-    -- no rank is above the last
-    capped : (c : ℕ) → getD (runOf t root .state .ranks) c 0 ≤ runOf t root .state .last
-    unfolding runOf
-    capped c = run-good limit (classCount t) (scanned t root) (scanned-within t (f .known) root (f .root-below)) .capped
-        c
-
     ran : runOf t root ≡ ranTo costs ranks last passes
     ran =
         run-is t root outputs heads starts children order functions labels values f costs ranks marks known plan passes
         last long same w
 
     -- the definition's depth is enough
-    pub deep : Deep known (suc (runOf t root .state .last))
+    pub deep : Deep known (depthFor (pricesFor t root))
     deep c = go (decLt 0 (getD known c 0))
       where
-        go : Dec (0 < getD known c 0) → getD known c 0 < suc (runOf t root .state .last)
+        go : Dec (0 < getD known c 0) → getD known c 0 < depthFor (pricesFor t root)
         go (yes z) =
             let q =
             priced-of-known t root outputs heads starts children order functions labels values f costs ranks marks known
@@ -75,7 +66,7 @@ module _
             let e : getD known c 0 ≡ getD ranks c 0 = w .planned .kept c (omega (arith, q .0, long)) (q .1) in
             let r : getD (runOf t root .state .ranks) c 0 ≡ getD ranks c 0 = ap (λ (x : Run). getD (x .state .ranks) c
             0) ran in
-            omega (arith, e, r, capped c)
+            omega (arith, e, r, order-within (pricesFor t root) c)
         go (no z) = omega (arith, z)
 
     module _

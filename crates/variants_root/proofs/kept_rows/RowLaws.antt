@@ -1,45 +1,36 @@
 -- The rows of a solved flat table: which are variants, what they cost, and that the kept ones can be built. Assumes
 -- nothing.
-use mathlib.Core.Path.{_≡_, refl, ap, sym, _∙_, subst}
-use mathlib.Core.Bool.{Bool, true, false, _&&_}
-use mathlib.Core.List.{List, [], _∷_, map}
-use Prim.{Dec, yes, no}
-use Prim.Native.Nat.{ℕ, suc, _+_, _*_, _-_, _<_, _≤_}
-use native.Mathlib.Decide.{decLt}
+use mathlib.Core.Path.{_≡_, ap, sym, _∙_, subst}
+use mathlib.Core.Bool.{true, _&&_}
+use mathlib.Core.List.{List, [], _∷_}
+use Prim.Native.Nat.{ℕ, _+_, _*_, _-_, _<_, _≤_}
 use native.Mathlib.Omega.{arith}
-use borrow.Author.Tests.{ltb-true, le-ltb, lt-ltb}
-use lib.Dec.{ltb, eqb}
+use lib.Dec.{eqb}
 use lib.IntN.{ℤ}
-use lib.ListN.{length, getD, take, drop, length-take, length-drop}
+use lib.ListN.{length, getD, take, drop, length-take}
 use Rattle.name.specs.Name.{valid}
-use Rattle.name.specs.Entries.{nameAt, lengthAt}
-use Rattle.choice_rules.specs.Rows.{Child, literal, class, Row, rowAt, allOf, sumOf}
-use Rattle.choice_rules.specs.Run.{Run, priced, childCost, rowPriced, rowCost, run}
-use Rattle.choice_rules.proofs.ListLaws.{all-each, each-of-sum, each-get}
-use Rattle.choice_rules.proofs.RunLaws.{run-good}
-use Rattle.choice_rules.proofs.Demand.OrderLaws.{map-length, map-get}
-use Rattle.price_passes.specs.Flat.{top, rowOf, rowsOf, partOf, stateOf, ranTo, childOf as flatChild}
+use Rattle.name.specs.Entries.{nameAt}
+use Rattle.choice_rules.specs.Rows.{Row, rowAt}
+use Rattle.choice_rules.specs.Run.{Run, rowPriced, rowCost}
+use Rattle.price_passes.specs.Flat.{rowOf, partOf, ranTo}
 use Rattle.price_passes.proofs.FlatLaws.{rows-length, rows-get}
-use Rattle.price.specs.Planning.{Priced}
 use Rattle.price.specs.Solved.{Solved}
 use Rattle.file_rules.specs.Table.{Table}
 use Rattle.table_rules.specs.Rules.Classes.{classCount}
 use Rattle.table_rules.specs.Rules.Rows.{tableRowOf}
-use Rattle.table_rules.specs.Rules.Order.{scanOrder, scanned}
-use Rattle.table_rules.specs.Rules.Choosing.{limit, runOf}
+use Rattle.table_rules.specs.Rules.Order.{scanned}
+use Rattle.table_rules.specs.Rules.Choosing.{limit, runOf, pricesFor}
 use Rattle.table_rules.specs.Rules.Terms.{nameOf}
-use Rattle.table_rules.proofs.Rules.CoverLaws.{scanned-within}
 use Rattle.table_rules.specs.Order.{picked}
 use Rattle.table_rules.proofs.PickedLaws.{Passes, picked-same}
-use Rattle.variant_order.specs.Keys.{Key, noLater}
+use Rattle.variant_order.specs.Keys.{noLater}
 use Rattle.order.specs.Sort.{sorted}
 use Rattle.variant_order.specs.Arrays.{cellsIn, keyIn, KeysIn}
 use Rattle.answer_rules.specs.Variants.{fileRow, costFor, isVariant, variantRows, keyFor, keptRows}
 use Rattle.best_class.specs.Flat.{FlatTable}
-use Rattle.best_class.proofs.ChildLaws.{InTable}
-use Rattle.best_class.proofs.SolvedLaws.{order-length, order-below, part-in, past-rank, run-is, priced-of-known}
-use Rattle.variant_terms.specs.Rows.{Deep, KidIn, NameIn, RowIn}
-use Rattle.variant_terms.specs.Turned.{functionIn, Listed}
+use Rattle.best_class.proofs.SolvedLaws.{order-length, order-below, run-is}
+use Rattle.variant_terms.specs.Rows.{NameIn}
+use Rattle.variant_terms.specs.Turned.{functionIn}
 use Rattle.variant_rows.specs.Candidates.{PartsIn, priceOf, Prices, isCandidate}
 use Rattle.variant_rows.specs.Kept.{KeptReady, keptIn}
 use Rattle.variant_rows.proofs.KeptLaws.{picked-below}
@@ -69,7 +60,7 @@ module _
       rowAt (scanned t root) i ≡ rowOf (getD outputs i 0) (getD heads i 0) (partOf starts children i)
   row-is i h = sym (ap (λ (x : List Row). rowAt x i) (f .rows-are)) ∙ rows-get outputs heads starts children i h
 
-  pub file-row : (i : ℕ) → getD order i 0 ≡ fileRow t root i
+  pub file-row : (i : ℕ) → getD order i 0 ≡ fileRow (pricesFor t root) i
   file-row i = ap (λ (x : List ℕ). getD x i 0) (f .order-is)
 
   parts : (n : ℕ) → n ≡ classCount t → PartsIn n (length outputs) starts children
@@ -117,13 +108,13 @@ module _
   pub name-is :
       (i : ℕ) →
       i < length outputs →
-      nameAt labels (functionIn order functions i) ≡ nameOf t (fileRow t root i)
+      nameAt labels (functionIn order functions i) ≡ nameOf t (fileRow (pricesFor t root) i)
   name-is i h = f .label (getD order i 0) (below i h) ∙ ap (nameOf t) (file-row i)
 
   cells-is :
       (i : ℕ) →
       i < length outputs →
-      cellsIn cells (getD order i 0) (getD arities (functionIn order functions i) 0) ≡ tableRowOf t (fileRow t root i)
+      cellsIn cells (getD order i 0) (getD arities (functionIn order functions i) 0) ≡ tableRowOf t (fileRow (pricesFor t root) i)
       .cells
   cells-is i h = v .cells-are (getD order i 0) (below i h) ∙ ap (λ (r : ℕ). tableRowOf t r .cells) (file-row i)
 
@@ -164,8 +155,8 @@ module _
     candidate-is :
         (c i : ℕ) →
         i < length outputs →
-        isCandidate ranks outputs starts children c i ≡ isVariant t root c i
-    unfolding isVariant
+        isCandidate ranks outputs starts children c i ≡ isVariant t (pricesFor t root) c i
+    unfolding isVariant scanned
     candidate-is c i h =
         sym
         (ap (λ (r : Row). eqb (r .output) c && rowPriced (runOf t root .state .ranks) r) (row-is i h)
@@ -175,8 +166,8 @@ module _
         && rowPriced (x .state .ranks) (rowOf (getD outputs i 0) (getD heads i 0) (partOf starts children i)))
         ran)
 
-    pub price-is : (i : ℕ) → i < length outputs → priceOf costs heads starts children i ≡ costFor t root i
-    unfolding costFor rowCost
+    pub price-is : (i : ℕ) → i < length outputs → priceOf costs heads starts children i ≡ costFor t (pricesFor t root) i
+    unfolding costFor rowCost scanned
     price-is i h =
         sym
         (ap (λ (r : Row). rowCost limit (runOf t root .state .costs) r) (row-is i h)
@@ -185,18 +176,18 @@ module _
         rowCost limit (x .state .costs) (rowOf (getD outputs i 0) (getD heads i 0) (partOf starts children i)))
         ran)
 
-    rows-are : (c : ℕ) → picked (isCandidate ranks outputs starts children c) 0 (length outputs) ≡ variantRows t root c
-    unfolding variantRows
+    rows-are : (c : ℕ) → picked (isCandidate ranks outputs starts children c) 0 (length outputs) ≡ variantRows t (pricesFor t root) c
+    unfolding variantRows scanned
     rows-are c =
-        picked-same (isCandidate ranks outputs starts children c) (isVariant t root c) 0 (length outputs)
+        picked-same (isCandidate ranks outputs starts children c) (isVariant t (pricesFor t root) c) 0 (length outputs)
         (λ x l m. candidate-is c x (omega (arith, m)))
-        ∙ ap (picked (isVariant t root c) 0) (sym scanned-many)
+        ∙ ap (picked (isVariant t (pricesFor t root) c) 0) (sym scanned-many)
 
     module _ (prices : List ℕ) (p : Prices costs heads starts children (length outputs) prices) where
-      pub cost-is : (i : ℕ) → i < length outputs → getD prices i 0 ≡ costFor t root i
+      pub cost-is : (i : ℕ) → i < length outputs → getD prices i 0 ≡ costFor t (pricesFor t root) i
       cost-is i h = p i h ∙ price-is i h
 
-      key-is : (i : ℕ) → i < length outputs → keyIn prices order functions arities labels cells i ≡ keyFor t root i
+      key-is : (i : ℕ) → i < length outputs → keyIn prices order functions arities labels cells i ≡ keyFor t (pricesFor t root) i
       unfolding keyIn keyFor
       key-is i h =
           let a = cost-is i h in
@@ -206,15 +197,15 @@ module _
 
       pub kept-is :
           (c most : ℕ) →
-          keptIn prices ranks outputs starts children order functions arities labels cells c most ≡ keptRows t root c
+          keptIn prices ranks outputs starts children order functions arities labels cells c most ≡ keptRows t (pricesFor t root) c
           most
       unfolding keptRows
       kept-is c most =
           ap (take most)
-          (sorted-by-keys (length outputs) (keyIn prices order functions arities labels cells) (keyFor t root) key-is
+          (sorted-by-keys (length outputs) (keyIn prices order functions arities labels cells) (keyFor t (pricesFor t root)) key-is
           (picked (isCandidate ranks outputs starts children c) 0 (length outputs))
           (picked-below (isCandidate ranks outputs starts children c) (length outputs))
-          ∙ ap (sorted (noLater (keyFor t root))) (rows-are c))
+          ∙ ap (sorted (noLater (keyFor t (pricesFor t root)))) (rows-are c))
 
       -- a kept row is one of the class, and each of its children has a cost
       pub kept-from :

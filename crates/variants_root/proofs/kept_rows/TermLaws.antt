@@ -1,24 +1,23 @@
 -- The terms of rows by a solved flat table's plan are those of the table's own. Assumes nothing.
 use mathlib.Core.Path.{_≡_, refl, ap, sym, _∙_, subst}
-use mathlib.Core.Bool.{Bool, true, false}
 use mathlib.Core.List.{List, [], _∷_, _++_, map}
-use Prim.Native.Nat.{ℕ, zero, suc, _+_, _-_, _<_, _≤_}
+use Prim.Native.Nat.{ℕ, suc, _+_, _-_, _<_, _≤_}
 use native.Mathlib.Omega.{arith}
 use borrow.Author.Tests.{ltb-true, ltb-false}
 use lib.Dec.{ltb}
-use lib.IntN.{ℤ, pos}
+use lib.IntN.{ℤ}
 use lib.ListN.{length, getD}
 use Rattle.order.proofs.OrderLaws.{cases}
-use Rattle.price_passes.specs.Flat.{partOf, childOf as flatChild}
+use Rattle.price_passes.specs.Flat.{partOf}
 use Rattle.price.specs.Solved.{Solved}
-use Rattle.build.specs.Plan.{Child, class, value, Plan, planOf, childOf}
+use Rattle.build.specs.Plan.{Child, value, Plan, planOf, childOf}
 use Rattle.build.specs.Building.{State, Out, done, full, childrenIn, buildIn}
 use Rattle.build.specs.Ready.{Lower, AllLower}
 use Rattle.build.proofs.PlanLaws.{childOf-class, childOf-value}
 use Rattle.file_rules.specs.Table.{Table}
 use Rattle.table_rules.specs.Rules.Classes.{classCount}
 use Rattle.table_rules.specs.Rules.Rows.{tableRows}
-use Rattle.table_rules.specs.Rules.Terms.{nameOf}
+use Rattle.table_rules.specs.Rules.Choosing.{pricesFor}
 use Rattle.choice_rules.specs.Rows.{rowAt}
 use Rattle.answer_rules.specs.Plan.{planChild, planChildren, planFor}
 use Rattle.answer_rules.specs.Variants.{fileRow, ownVariant, variantIn, variantsIn}
@@ -65,7 +64,7 @@ module _
   p = planOf plan labels values
 
   kids-are :
-      (i : ℕ) → i < length order → planChildren t (fileRow t root i) ≡ kidsIn values starts children i
+      (i : ℕ) → i < length order → planChildren t (fileRow (pricesFor t root) i) ≡ kidsIn values starts children i
   unfolding planChildren
   kids-are i h =
       sym
@@ -80,7 +79,7 @@ module _
       (i : ℕ) →
       Listed known labels values starts children order functions i →
       (s : State) →
-      variantIn t root d s i
+      variantIn t (pricesFor t root) d s i
       ≡ ownVariant (nameIn labels order functions i) (childrenIn (buildIn p d) s [] (kidsIn values starts children i))
   unfolding variantIn
   variant-is i l s =
@@ -95,16 +94,16 @@ module _
       let n = name-is t root outputs heads starts children order functions labels values arities cells v i h in
       let k = kids-are i (l .place) in
       let c =
-      childrenIn-agrees (buildRank t root) (buildIn (planFor t root) d) (buildIn p d)
-      (buildIn-agrees (planFor t root) p (buildRank t root)
+      childrenIn-agrees (buildRank (pricesFor t root)) (buildIn (planFor t (pricesFor t root)) d) (buildIn p d)
+      (buildIn-agrees (planFor t (pricesFor t root)) p (buildRank (pricesFor t root))
       (agree t root outputs heads starts children order functions labels values f costs ranks marks known plan passes
-      last long same w) d) d s [] (kidsIn values starts children i) (kids-lower known values (buildRank t root)
+      last long same w) d) d s [] (kidsIn values starts children i) (kids-lower known values (buildRank (pricesFor t root))
       (known-is t root outputs heads starts children order functions labels values f costs ranks marks known plan
       passes last long same w) d deep (partOf starts children i) (l .is .each)) in
-      ap (λ (x : List ℕ). ownVariant x (childrenIn (buildIn (planFor t root) d) s [] (planChildren t (fileRow t root
+      ap (λ (x : List ℕ). ownVariant x (childrenIn (buildIn (planFor t (pricesFor t root)) d) s [] (planChildren t (fileRow (pricesFor t root)
       i)))) (sym n)
       ∙ ap
-      (λ (xs : List Child). ownVariant (nameIn labels order functions i) (childrenIn (buildIn (planFor t root) d) s []
+      (λ (xs : List Child). ownVariant (nameIn labels order functions i) (childrenIn (buildIn (planFor t (pricesFor t root)) d) s []
       xs)) k
       ∙ ap (ownVariant (nameIn labels order functions i)) c
 
@@ -112,7 +111,7 @@ module _
       (rows : List ℕ) →
       AllListed known labels values starts children order functions rows →
       (s : State) (ts : List ℕ) →
-      variantsIn t root d s ts rows
+      variantsIn t (pricesFor t root) d s ts rows
       ≡ rowsIn p d (nameIn labels order functions) (kidsIn values starts children) s ts rows
   unfolding variantsIn rowsIn
   variants-are [] l s ts = refl
@@ -125,11 +124,11 @@ module _
       go :
           (o : Out ℕ) →
           ((u : ℕ) (s′ : State) →
-          variantsIn t root d s′ (ts ++ (u ∷ [])) rows
+          variantsIn t (pricesFor t root) d s′ (ts ++ (u ∷ [])) rows
           ≡ rowsIn p d (nameIn labels order functions) (kidsIn values starts children) s′ (ts ++ (u ∷ [])) rows) →
           _≡_ {A = Out (List ℕ)}
           (elim o [
-            | done u s′ ↦ variantsIn t root d s′ (ts ++ (u ∷ [])) rows
+            | done u s′ ↦ variantsIn t (pricesFor t root) d s′ (ts ++ (u ∷ [])) rows
             | full me rs ls ns ↦ full me rs ls ns
           ])
           (elim o [
