@@ -36,7 +36,7 @@ use Rattle.term_rules.proofs.TestLaws.{and-first, and-second, and-both}
 use Rattle.term_rules.proofs.SameLaws.{same-tells, sameNode-tells, tells-apart}
 use Rattle.term_rules.proofs.SearchLaws.{found-cases, first-at, first-missing, findName-first}
 use Rattle.term_rules.proofs.FactsLaws.{sound-of-wellFormed}
-use Rattle.term_rules.proofs.Adding.PasteLaws.{part-paste-before}
+use Rattle.name.proofs.PasteLaws.{part-paste-before}
 use Rattle.term_rules.proofs.Adding.NamingLaws.{valid-short}
 use Rattle.term_rules.proofs.Adding.WithNameLaws.{withName-named}
 use Rattle.term_rules.proofs.Adding.AppendLaws.{room-of-terms}
