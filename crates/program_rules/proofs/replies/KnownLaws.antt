@@ -41,9 +41,9 @@ use Rattle.build.specs.declared.Built.the-variants.{Done, Full}
 use Rattle.file_rules.specs.Table.{Table}
 use Rattle.file_rules.specs.File.{tableAt}
 use Rattle.table_rules.specs.Rules.Classes.{sortOf, isRoot}
-use Rattle.table_rules.specs.Rules.Choosing.{runOf}
+use Rattle.table_rules.specs.Rules.Choosing.{Prices, pricesFor}
 use Rattle.answer_rules.specs.Answers.{After, found, refused}
-use Rattle.answer_rules.specs.Plan.{planFor, rankFor}
+use Rattle.answer_rules.specs.Plan.{planFor, orderFor}
 use Rattle.answer_rules.specs.Best.{BestTerm, bestTerm, bestLiteral, bestBuilt, bestClass, bestOf, bestAt}
 use Rattle.answer_rules.specs.Variants.{
   Kept,
@@ -140,13 +140,13 @@ module _ (s : Store) where
   by-built w p l (Done i n m) = tt
   by-built w p l Full = (NoRoom, refl)
 
-  class-known : (t : Table) (root c : ℕ) (a : choice.Answer) → BestKnown (bestClass t root c s a)
+  class-known : (t : Table) (p : Prices) (n c : ℕ) (a : choice.Answer) → BestKnown (bestClass t p n c s a)
   unfolding bestClass bestBuilt
-  class-known t root c choice.noTerm = (NoTerm, refl)
-  class-known t root c choice.tooDear = (TooDear, refl)
-  class-known t root c (choice.best w) =
-      let l : Left = whole (planFor t root) (rankFor t root c) s c in
-      by-built w (runOf t root .passes) l (l .answer)
+  class-known t p n c choice.noTerm = (NoTerm, refl)
+  class-known t p n c choice.tooDear = (TooDear, refl)
+  class-known t p n c (choice.best w) =
+      let l : Left = whole (planFor t p) (orderFor p c) s c in
+      by-built w n l (l .answer)
 
   best-known : (file : List ℕ) (root v : ℕ) → BestKnown (bestAt file root v s)
   unfolding bestAt bestOf
@@ -154,7 +154,7 @@ module _ (s : Store) where
       by-got BestKnown (tableAt file) (λ r. (r, refl)) (λ t p.
       by-test BestKnown (isRoot t root v)
       (by-test BestKnown (wellFormed s)
-      (by-test BestKnown (eqb (sortOf t root .kind) 0) (literal-known _) (class-known t root _ _))
+      (by-test BestKnown (eqb (sortOf t root .kind) 0) (literal-known _) (class-known t (pricesFor t root) _ _ _))
       (BadStore, refl))
       (BadRoot, refl))
 
@@ -169,16 +169,16 @@ module _ (l : Lending) where
   variant-literal-known noRoom = (NoRoom, refl)
 
   variants-built-known :
-      (t : Table) (root : ℕ) (rows : List ℕ) (o : Out (List ℕ)) → VariantsKnown (variantsBuilt t root l rows o)
+      (t : Table) (p : Prices) (n : ℕ) (rows : List ℕ) (o : Out (List ℕ)) → VariantsKnown (variantsBuilt t p n l rows o)
   unfolding variantsBuilt variantsKept
-  variants-built-known t root rows (done ts s) = tt
-  variants-built-known t root rows (full me rs ls ns) = (NoRoom, refl)
+  variants-built-known t p n rows (done ts s) = tt
+  variants-built-known t p n rows (full me rs ls ns) = (NoRoom, refl)
 
-  rows-known : (t : Table) (root : ℕ) (rows : List ℕ) → VariantsKnown (variantsOfRows t root l rows)
+  rows-known : (t : Table) (p : Prices) (n : ℕ) (rows : List ℕ) → VariantsKnown (variantsOfRows t p n l rows)
   unfolding variantsOfRows
-  rows-known t root rows =
-      by-test VariantsKnown (anyDear t root rows) (TooDear, refl)
-      (by-test VariantsKnown (roomForResults l (length rows)) (variants-built-known t root rows _) (NoRoom, refl))
+  rows-known t p n rows =
+      by-test VariantsKnown (anyDear t p rows) (TooDear, refl)
+      (by-test VariantsKnown (roomForResults l (length rows)) (variants-built-known t p n rows _) (NoRoom, refl))
 
   variants-known : (file : List ℕ) (root v n : ℕ) → VariantsKnown (variantsAt file root v n l)
   unfolding variantsAt variantsOf
@@ -186,7 +186,7 @@ module _ (l : Lending) where
       by-got VariantsKnown (tableAt file) (λ r. (r, refl)) (λ t p.
       by-test VariantsKnown (isRoot t root v)
       (by-test VariantsKnown (wellFormed (l .store))
-      (by-test VariantsKnown (eqb (sortOf t root .kind) 0) (variant-literal-known _) (rows-known t root _))
+      (by-test VariantsKnown (eqb (sortOf t root .kind) 0) (variant-literal-known _) (rows-known t (pricesFor t root) _ _))
       (BadStore, refl))
       (BadRoot, refl))
 
