@@ -13,6 +13,8 @@ use Rattle.needlevale.proofs.main.Reads as reads
 use Rattle.needlevale.proofs.main.Lts as lts
 use Rattle.io.proofs.read_full.Reads as read-full-reads
 use Rattle.io.proofs.write_all.Reads as write-all-reads
+use Rattle.needlevale.proofs.at_end.Reads as at-end-reads
+use Rattle.needlevale.proofs.complain.Reads as complain-reads
 use Rattle.program.proofs.respond.Reads as respond-reads
 
 slice-aggregate-read-full : tie.Need-slice-aggregate-read-full
@@ -20,6 +22,18 @@ slice-aggregate-read-full c = search needs
 
 read-full-requires : tie.Need-read-full-requires
 read-full-requires c κs = search needs
+
+at-end-requires : tie.Need-at-end-requires
+at-end-requires c κs = search needs
+
+slice-aggregate-complain : tie.Need-slice-aggregate-complain
+slice-aggregate-complain c = search needs
+
+complain-requires : tie.Need-complain-requires
+complain-requires c κs = search needs
+
+returns : tie.Need-returns
+returns c = search needs
 
 array-share-prefix-input : tie.Need-array-share-prefix-input
 array-share-prefix-input c = search needs
@@ -54,14 +68,23 @@ slice-aggregate-write-all c =
 write-all-requires : tie.Need-write-all-requires
 write-all-requires c κs = search needs
 
+slice-aggregate-complain-2 : tie.Need-slice-aggregate-complain-2
+slice-aggregate-complain-2 c = search needs
+
+complain-requires-2 : tie.Need-complain-requires-2
+complain-requires-2 c κs = search needs
+
 enum-told : tie.Need-enum-told
 enum-told c = search needs
 
-returns : tie.Need-returns
-returns c = search needs
-
 returns-2 : tie.Need-returns-2
 returns-2 c = search needs
+
+returns-3 : tie.Need-returns-3
+returns-3 c = search needs
+
+returns-4 : tie.Need-returns-4
+returns-4 c = search needs
 
 pub main-spec : {M : Type 1} → statement M
 main-spec =
@@ -69,6 +92,10 @@ main-spec =
     (tie.spec
     slice-aggregate-read-full
     read-full-requires
+    at-end-requires
+    slice-aggregate-complain
+    complain-requires
+    returns
     array-share-prefix-input
     slice-aggregate-respond
     slice-aggregate-respond-2
@@ -77,6 +104,9 @@ main-spec =
     array-share-prefix-out
     slice-aggregate-write-all
     write-all-requires
+    slice-aggregate-complain-2
+    complain-requires-2
     enum-told
-    returns
-    returns-2)
+    returns-2
+    returns-3
+    returns-4)
