@@ -21,6 +21,7 @@ FLOORS = (
     ("Costs and choice", ("choice_", "table_", "price", "price_", "build", "best_", "variant_", "variants_", "answer_",
                           "extract", "extract_")),
     ("The program", ("program", "program_", "cases", "needlevale")),
+    ("The theorems", ("theorems",)),
     ("The library for C", ("needlevale_c",)),
     ("Lent term structs", ("lent", "lent_")),
     ("Runs", ("run_",)),

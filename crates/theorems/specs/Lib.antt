@@ -1,0 +1,2 @@
+-- The definitions of the crate `theorems`.
+pub mod Main
