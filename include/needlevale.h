@@ -4,8 +4,9 @@
  *
  * Proved, for every content of the buffers: a call returns, reads and writes nothing outside them, and gives exactly
  * the answer that the definitions written from the rules give (crates/program_rules/specs/Reply.antt, `replied`;
- * crates/term/specs/Calls.antt, `addLiteral`). A refusal changes no buffer, and bytes past a text's length stay: these
- * and the rest in crates/needlevale_c/specs/Promises.antt.
+ * crates/term/specs/Calls.antt, `addLiteral`). A refusal changes no buffer and comes back as one of -1 to -17, and bytes
+ * past a text's length stay: these and the rest in crates/needlevale_c/specs/Promises.antt and
+ * crates/program/specs/Promises.antt.
  *
  * Not proved, and the caller's part:
  * - each pointer stands for as many readable elements as its length says, and those that are not const are writable;
