@@ -12,8 +12,9 @@
  * - each pointer stands for as many readable elements as its length says, and those that are not const are writable;
  * - no two buffers of a call overlap;
  * - a null pointer goes with length 0, and no length in bytes is over 2^63-1;
- * - there is stack for the call. needlevale_answer took 380,920 bytes for no input, 407,344 for the longest file and
- *   636,512 for a term 512 deep, the most that was seen: measured on x86-64 on 2026-11-15, no bound is proved.
+ * - there is stack for the call. needlevale_answer took 380,920 bytes for no input and 636,512 for a term 512 deep, the
+ *   most that was seen: measured on x86-64 on 2026-11-15, before rows were marked for pricing. Since then, under an
+ *   emulator, that term took 16 bytes more, and the longest file 415,680. No bound is proved.
  *   needlevale_add_literal took 14,704 bytes for a store of 1,023 terms, measured under an emulator. A thread with less
  *   ends with a fault at its guard page.
  * Not proved either: this header, the C compiler, the linker, and the C library's memory functions.
