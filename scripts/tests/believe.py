@@ -125,6 +125,10 @@ class Believe(unittest.TestCase):
             self.assertEqual(len(self.said(tree)), 1)
             self.assertIn("TRUSTED of scripts/believe names file_rules, which holds nothing", self.said(tree)[0])
 
+    def test_asked(self):
+        self.complains("crates/file/src/lib.rt", "    ensures {", "    requires { ⌜ tableAt n ⌝ }\n    ensures {",
+                       "file: the public call `read` has a `requires`")
+
     def test_why(self):
         with Tree(FILES) as tree:
             self.assertEqual(tree.run("believe", "why", "Table"), (

@@ -10,8 +10,8 @@ use term::Got;
 use term::Looked;
 use term::Verdict;
 use term_rules::Term;
-use text::LetText;
-use text::Text;
+use text_whole::LetText;
+use text_whole::Text;
 
 // What an adding call answered, and the records after it.
 pub struct Step {

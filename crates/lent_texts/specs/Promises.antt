@@ -6,10 +6,12 @@ use mathlib.Core.List.{List}
 use Rattle.term_rules.specs.declared.Term.{Term}
 use Rattle.term_rules.specs.Lent.{Store}
 use Rattle.text_rules.specs.LetText.{Naming}
-use Rattle.text.specs.declared.Text.{Text}
-use Rattle.text.specs.declared.LetText.{LetText}
-use Rattle.text.specs.Told.{Answer, Told, told, answerOf, plainTold}
-use Rattle.text.specs.LetTold.{LetAnswer, letAnswerOf, letTold}
+use Rattle.text_whole.specs.declared.Text.{Text}
+use Rattle.text_whole.specs.declared.LetText.{LetText}
+use Rattle.text_whole.specs.Placed.{Answer, Told, told, answerOf}
+use Rattle.text.specs.Told.{plainTold}
+use Rattle.text_whole.specs.LetPlaced.{LetAnswer, letAnswerOf}
+use Rattle.text.specs.LetTold.{letTold}
 use Rattle.lent.specs.Records.{lentStore}
 
 -- What the contracts allow: of lists, counts, term and buffer, the answer and the buffer after.

@@ -1,14 +1,15 @@
 // Let text on a lent slice of term records and a lent slice of name entries. It copies the records and the entries
 // once into arrays of its own, and hands them to the call of the same name in the crate `text`. Assumes nothing.
 ghost use mathlib.Core.Path.{_≡_};
-ghost use Rattle.text.specs.Told.{told};
-ghost use Rattle.text.specs.LetTold.{letAnswerOf, naming, letTold};
+ghost use Rattle.text_whole.specs.Placed.{told};
+ghost use Rattle.text_whole.specs.LetPlaced.{letAnswerOf, naming};
+ghost use Rattle.text.specs.LetTold.{letTold};
 ghost use Rattle.lent.specs.Records.{lentStore};
 ghost use Rattle.lent.specs.Copies.{Whole, storeIn};
 use lent::Flat;
 use lent_entries::Name;
 use term_rules::Term;
-use text::LetText;
+use text_whole::LetText;
 
 fn let_text_in(
     f: Flat,

@@ -1,13 +1,14 @@
 // Plain text on a lent slice of term records and a lent slice of name entries. It copies the records and the entries
 // once into arrays of its own, and hands them to the call of the same name in the crate `text`.
 ghost use mathlib.Core.Path.{_≡_};
-ghost use Rattle.text.specs.Told.{answerOf, told, plainTold};
+ghost use Rattle.text_whole.specs.Placed.{answerOf, told};
+ghost use Rattle.text.specs.Told.{plainTold};
 ghost use Rattle.lent.specs.Records.{lentStore};
 ghost use Rattle.lent.specs.Copies.{Whole, storeIn};
 use lent::Flat;
 use lent_entries::Name;
 use term_rules::Term;
-use text::Text;
+use text_whole::Text;
 
 fn plain_text_in(
     f: Flat,

@@ -9,7 +9,7 @@ use Rattle.term_rules.specs.Nodes.{Node}
 use Rattle.text_rules.specs.PlainText.{plainLine}
 use Rattle.text_pieces.specs.Readable.{nodes, Readable}
 use Rattle.text_write.specs.Widths.{calledBy, Widths}
-use Rattle.text.specs.Told.{Zeros}
+use Rattle.text_whole.specs.Placed.{Zeros}
 use Rattle.program_rules.specs.Lines.{variantLine}
 
 -- "`variant I C N` and the plain text": of term t, where the store has n terms.

@@ -5,7 +5,7 @@ ghost use Prim.Native.Nat.{_<_};
 ghost use lib.ListN.{length};
 ghost use Rattle.term_rules.specs.Lent.{store};
 ghost use Rattle.term_rules.specs.WellFormed.{wellFormed};
-ghost use Rattle.text.specs.Told.{answerOf, told};
+ghost use Rattle.text_whole.specs.Placed.{answerOf, told};
 ghost use Rattle.answer_rules.specs.Answers.{value};
 ghost use Rattle.answer_rules.specs.Best.{bestTerm};
 ghost use Rattle.program_rules.specs.Reply.{bestReply, inRoom, putIn};
@@ -14,8 +14,8 @@ ghost use Rattle.program.specs.BestReply.Text.{bestPlaced};
 use program_rules::headlines;
 use program_rules::replies::Answered;
 use refusal::Refusal;
-use text::LetText;
-use text::Text;
+use text_whole::LetText;
+use text_whole::Text;
 
 // Writes the text of term `term`: plain, or with lets, no prefix, hint `t`, start 0, no zero flag.
 fn put_text(
@@ -38,11 +38,11 @@ fn put_text(
         ⌝ }
 {
     if plain {
-        return text::plain_of(out, records, literals, names, terms, symbols, term);
+        return text_whole::plain_of(out, records, literals, names, terms, symbols, term);
     }
     let none = [0u8; 1];
     let hint = [116u8; 1];
-    let text = text::let_of(
+    let text = text_whole::let_of(
         out,
         records,
         literals,

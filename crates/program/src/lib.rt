@@ -14,9 +14,9 @@ use program_rules::replies::Answered;
 use refusal::Refusal;
 use variants_root::VariantsAnswer;
 
-pub mod variant_lines; // variant_lines.rt: the answers of variants, one after the other: their length, and their bytes
-pub mod best_reply; // best_reply.rt: the text of an answer of best in a lent buffer: the line, the term's text, a newline
-pub mod variants_reply; // variants_reply.rt: the text of an answer of variants in a lent buffer: its length first, then its bytes
+mod variant_lines; // variant_lines.rt: the answers of variants, one after the other: their length, and their bytes
+mod best_reply; // best_reply.rt: the text of an answer of best in a lent buffer: the line, the term's text, a newline
+mod variants_reply; // variants_reply.rt: the text of an answer of variants in a lent buffer: its length first, then its bytes
 
 // Best of a file into a store that starts empty, and its text.
 fn best_of(plain: bool, file: &[u8], sort: u64, value: u64, out: &mut [u8]) -> Answered

@@ -10,8 +10,8 @@
 ghost use Prim.Native.Nat.{_+_, _≤_};
 ghost use lib.ListN.{length};
 use libc::STDOUT_FILENO;
-use text::LetText;
-use text::Text;
+use text_whole::LetText;
+use text_whole::Text;
 
 fn wide(x: u8) -> usize
     ensures { λ r. ⌜ r ≤ 255 ⌝ }

@@ -1,8 +1,5 @@
 -- The laws of the crate `text`.
-pub mod Alike
 pub mod ToldLaws
-pub mod PlainLaws
-pub mod LaidLaws
 pub mod LetToldLaws
 pub mod TwinLaws
 pub mod NextLaws

@@ -19,29 +19,19 @@ use Rattle.term_rules.specs.Nodes.{literal, variable, nodeAt}
 use Rattle.text_rules.specs.Forms.{form, byText, childText, line, lineIn}
 use Rattle.text_rules.specs.PlainText.{plainLine, plainText}
 use Rattle.text_rules.specs.LetText.{Naming, letText, nextCount}
-use Rattle.text.specs.declared.Text.{Text}
-use Rattle.text.specs.declared.Text.the-variants.{Written, Refused}
-use Rattle.text.specs.declared.LetText.{LetText}
-use Rattle.text.specs.declared.LetText.the-variants.{Written as LetWritten, Refused as LetRefused}
-use Rattle.text.specs.Told.{Told, told, placed, Answer, written, refusal, answerOf, plainTold}
-use Rattle.text.specs.LetTold.{LetAnswer, letAnswerOf, validPrefix, letTold}
-use Rattle.text.specs.LetTold.{written as lettered, refusal as letRefusal}
+use Rattle.text_whole.specs.declared.Text.{Text}
+use Rattle.text_whole.specs.declared.Text.the-variants.{Written, Refused}
+use Rattle.text_whole.specs.declared.LetText.{LetText}
+use Rattle.text_whole.specs.declared.LetText.the-variants.{Written as LetWritten, Refused as LetRefused}
+use Rattle.text_whole.specs.Placed.{Told, told, placed, Answer, written, refusal, answerOf}
+use Rattle.text.specs.Told.{plainTold}
+use Rattle.text_whole.specs.LetPlaced.{LetAnswer, letAnswerOf, validPrefix}
+use Rattle.text.specs.LetTold.{letTold}
+use Rattle.text_whole.specs.LetPlaced.{written as lettered, refusal as letRefusal}
 use Rattle.text.specs.Promises.{valueFrom, valueOf}
-use Rattle.text.proofs.ToldLaws.{
-  placed-fits,
-  placed-refuses,
-  plain-store-refuses,
-  plain-term-refuses,
-  plain-placed,
-}
-use Rattle.text.proofs.LetToldLaws.{
-  let-store-refuses,
-  let-term-refuses,
-  let-prefix-refuses,
-  let-hint-refuses,
-  let-start-refuses,
-  let-placed,
-}
+use Rattle.text_whole.proofs.PlacedLaws.{placed-fits, placed-refuses}
+use Rattle.text.proofs.ToldLaws.{plain-store-refuses, plain-term-refuses, plain-placed}
+use Rattle.text.proofs.LetToldLaws.{let-store-refuses, let-term-refuses, let-prefix-refuses, let-hint-refuses, let-start-refuses, let-placed}
 
 -- ---- what is told keeps the length of the lent part
 module _ {A : Type 0} (text : List ℕ) (done noRoom : A) (out : List ℕ) where

@@ -21,8 +21,8 @@ use Rattle.term_rules.proofs.Meaning.TreeLaws.{treeAt-means}
 use Rattle.term_rules.specs.Growing.{Grows}
 use Rattle.text_rules.specs.LetText.{Naming, bindingsOf, letText, nextCount}
 use Rattle.text_rules.specs.PlainText.{plainText}
-use Rattle.text.specs.Alike.{Both, Lower, SameNode, Alike}
-use Rattle.text.proofs.Alike.TextLaws.{plain-both, let-both, bound-length}
+use Rattle.text_whole.specs.Alike.{Both, Lower, SameNode, Alike}
+use Rattle.text_whole.proofs.Alike.TextLaws.{plain-both, let-both, bound-length}
 
 module _ (s s′ : Store) (w : Sound s) (w′ : Sound s′) where
   -- term i of the one store and term j of the other mean the same tree

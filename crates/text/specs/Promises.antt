@@ -14,11 +14,13 @@ use Rattle.term_rules.specs.Nodes.{literal, variable, nodeAt, Tree, Means}
 use Rattle.term_rules.specs.Growing.{Grows}
 use Rattle.text_rules.specs.PlainText.{plainText}
 use Rattle.text_rules.specs.LetText.{Naming, letText, nextCount}
-use Rattle.text.specs.declared.Text.{Text}
-use Rattle.text.specs.declared.LetText.{LetText}
-use Rattle.text.specs.Told.{Told, told, written, refusal, answerOf, plainTold}
-use Rattle.text.specs.LetTold.{letAnswerOf, validPrefix, letTold}
-use Rattle.text.specs.LetTold.{written as lettered, refusal as letRefusal}
+use Rattle.text_whole.specs.declared.Text.{Text}
+use Rattle.text_whole.specs.declared.LetText.{LetText}
+use Rattle.text_whole.specs.Placed.{Told, told, written, refusal, answerOf}
+use Rattle.text.specs.Told.{plainTold}
+use Rattle.text_whole.specs.LetPlaced.{letAnswerOf, validPrefix}
+use Rattle.text.specs.LetTold.{letTold}
+use Rattle.text_whole.specs.LetPlaced.{written as lettered, refusal as letRefusal}
 
 -- the number that decimal digits stand for, after those that stand for n
 unfoldable pub valueFrom : ℕ → List ℕ → ℕ

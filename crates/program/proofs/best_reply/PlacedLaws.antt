@@ -12,8 +12,8 @@ use Rattle.term_rules.specs.Lent.{Store}
 use Rattle.text_rules.specs.PlainText.{plainText}
 use Rattle.name.specs.Name.{allowed, allAllowed, valid}
 use Rattle.text_rules.specs.LetText.{letText, nextCount}
-use Rattle.text.specs.Told.{Answer, written, refusal, Told, told, placed, plainPlaced}
-use Rattle.text.specs.LetTold.{LetAnswer, written as letWritten, refusal as letRefusal, validPrefix, letPlaced}
+use Rattle.text_whole.specs.Placed.{Answer, written, refusal, Told, told, placed, plainPlaced}
+use Rattle.text_whole.specs.LetPlaced.{LetAnswer, written as letWritten, refusal as letRefusal, validPrefix, letPlaced}
 use Rattle.program_rules.specs.Reply.{letNaming}
 use Rattle.program.specs.BestReply.Text.{bestText, bestPlaced, uncounted}
 

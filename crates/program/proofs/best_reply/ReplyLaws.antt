@@ -10,7 +10,7 @@ use lib.Seq.{length-take-le}
 use borrow.Rule.Slice.PartMut.{putMid, put-same}
 use Rattle.refusal.specs.declared.Refusal.the-variants.{NoRoom}
 use Rattle.term_rules.specs.Lent.{Store}
-use Rattle.text.specs.Told.{written, refusal, told, placed}
+use Rattle.text_whole.specs.Placed.{written, refusal, told, placed}
 use Rattle.answer_rules.specs.Answers.{value}
 use Rattle.answer_rules.specs.Best.{bestTerm}
 use Rattle.program_rules.specs.Lines.{bestLine}

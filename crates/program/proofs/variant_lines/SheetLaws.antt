@@ -9,7 +9,7 @@ use Rattle.text_rules.specs.PlainText.{plainLine}
 use Rattle.text_pieces.specs.Pieces.{capped}
 use Rattle.text_pieces.specs.Readable.{nodes}
 use Rattle.text_write.specs.Piece.{piece, view, Sheet}
-use Rattle.text.proofs.PlainLaws.{plain-wide, plain-sheet, plain-piece}
+use Rattle.text_whole.proofs.PlainLaws.{plain-wide, plain-sheet, plain-piece}
 use Rattle.program.specs.Replies.{PlainSheet}
 
 module _ (rs : List ℕ) (ls : List ℤ) (ns ps ws : List ℕ) (n : ℕ) (h : PlainSheet rs ls ns ps ws n) where

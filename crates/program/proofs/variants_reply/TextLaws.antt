@@ -10,7 +10,7 @@ use lib.IntN.{ℤ}
 use Rattle.term_rules.specs.Lent.{store}
 use Rattle.text_rules.specs.PlainText.{plainText, plainLine}
 use Rattle.text_pieces.specs.Readable.{nodes}
-use Rattle.text.proofs.ToldLaws.{plain-text-nodes}
+use Rattle.text_whole.proofs.PlacedLaws.{plain-text-nodes}
 use Rattle.program_rules.specs.Lines.{variantsLine, variantLine}
 use Rattle.program.specs.Replies.{replyText, replyTexts}
 use Rattle.program_rules.specs.Reply.{variantReply, variantReplies, variantsText}

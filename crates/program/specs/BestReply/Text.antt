@@ -8,8 +8,8 @@ use Rattle.refusal.specs.declared.Refusal.the-variants.{NoRoom}
 use Rattle.term_rules.specs.Lent.{Store}
 use Rattle.text_rules.specs.PlainText.{plainText}
 use Rattle.text_rules.specs.LetText.{letText}
-use Rattle.text.specs.Told.{Answer, written, refusal, Told, placed}
-use Rattle.text.specs.LetTold.{LetAnswer, written as letWritten, refusal as letRefusal}
+use Rattle.text_whole.specs.Placed.{Answer, written, refusal, Told, placed}
+use Rattle.text_whole.specs.LetPlaced.{LetAnswer, written as letWritten, refusal as letRefusal}
 use Rattle.program_rules.specs.Reply.{letNaming}
 
 unfoldable pub bestText : Bool → Store → ℕ → List ℕ

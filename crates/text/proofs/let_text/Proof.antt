@@ -3,15 +3,8 @@ use mathlib.Core.Path.{sym, _∙_}
 use borrow.Author.Tests.{not-true, not-false}
 use Rattle.term_rules.specs.Lent.{Store, store}
 use Rattle.text_rules.specs.LetText.{Naming}
-use Rattle.text.specs.LetTold.{naming}
-use Rattle.text.proofs.LetToldLaws.{
-  let-store-refuses,
-  let-term-refuses,
-  let-prefix-refuses,
-  let-hint-refuses,
-  let-start-refuses,
-  let-placed,
-}
+use Rattle.text_whole.specs.LetPlaced.{naming}
+use Rattle.text.proofs.LetToldLaws.{let-store-refuses, let-term-refuses, let-prefix-refuses, let-hint-refuses, let-start-refuses, let-placed}
 use native.Mathlib.Omega.{arith}
 use borrow.Author.Needs.{needs}
 use Rattle.text.proofs.let_text.Statement.{statement}

@@ -53,12 +53,13 @@ use Rattle.lent_texts.proofs.lets.let_text as wrk
 use Rattle.lent_texts.proofs.lets.let_text.Symbol as wrk-def
 use Rattle.lent_texts.proofs.lets.let_text.Symbol.{name as #wrk}
 use Rattle.lent_texts.proofs.lets.let_text.Met as wrk-thm
-use Rattle.text.specs.declared.LetText.{LetText}
-use Rattle.text.proofs.LetText as R
-use Rattle.text.proofs.LetText.Laws as R′
+use Rattle.text_whole.specs.declared.LetText.{LetText}
+use Rattle.text_whole.proofs.LetText as R
+use Rattle.text_whole.proofs.LetText.Laws as R′
 use Rattle.lent.specs.Records.{lentStore}
-use Rattle.text.specs.Told.{told}
-use Rattle.text.specs.LetTold.{letAnswerOf, naming, letTold}
+use Rattle.text_whole.specs.Placed.{told}
+use Rattle.text_whole.specs.LetPlaced.{letAnswerOf, naming}
+use Rattle.text.specs.LetTold.{letTold}
 use Rattle.lent_calls.proofs.steps.let_text.Key.{name as #it}
 use Rattle.lent_calls.proofs.steps.let_text as it
 use Rattle.lent_calls.proofs.steps.let_text.Statement as stated

@@ -51,11 +51,12 @@ use Rattle.lent_texts.proofs.plain.plain_text as wrk
 use Rattle.lent_texts.proofs.plain.plain_text.Symbol as wrk-def
 use Rattle.lent_texts.proofs.plain.plain_text.Symbol.{name as #wrk}
 use Rattle.lent_texts.proofs.plain.plain_text.Met as wrk-thm
-use Rattle.text.specs.declared.Text.{Text}
-use Rattle.text.proofs.Text as R
-use Rattle.text.proofs.Text.Laws as R′
+use Rattle.text_whole.specs.declared.Text.{Text}
+use Rattle.text_whole.proofs.Text as R
+use Rattle.text_whole.proofs.Text.Laws as R′
 use Rattle.lent.specs.Records.{lentStore}
-use Rattle.text.specs.Told.{answerOf, told, plainTold}
+use Rattle.text_whole.specs.Placed.{answerOf, told}
+use Rattle.text.specs.Told.{plainTold}
 use Rattle.lent_calls.proofs.steps.plain_text.Key.{name as #it}
 use Rattle.lent_calls.proofs.steps.plain_text as it
 use Rattle.lent_calls.proofs.steps.plain_text.Statement as stated

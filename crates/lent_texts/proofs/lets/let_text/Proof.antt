@@ -58,12 +58,13 @@ use Rattle.lent_texts.proofs.lets.let_text_in.Met as wrk-thm
 use Rattle.lent.specs.Copies.{Loaded, Whole, storeIn}
 use Rattle.lent.proofs.Calling.{Of, calls-plain, calls-changing}
 use denote.Enum.Laws as EL
-use Rattle.text.specs.declared.LetText.{LetText}
-use Rattle.text.proofs.LetText as R
-use Rattle.text.proofs.LetText.Laws as R′
+use Rattle.text_whole.specs.declared.LetText.{LetText}
+use Rattle.text_whole.proofs.LetText as R
+use Rattle.text_whole.proofs.LetText.Laws as R′
 use Rattle.term_rules.specs.Lent.{Store}
-use Rattle.text.specs.Told.{told}
-use Rattle.text.specs.LetTold.{letAnswerOf, naming, letTold}
+use Rattle.text_whole.specs.Placed.{told}
+use Rattle.text_whole.specs.LetPlaced.{letAnswerOf, naming}
+use Rattle.text.specs.LetTold.{letTold}
 use Rattle.lent.specs.Records.{lentStore}
 use Rattle.lent.proofs.StoreLaws.{loaded-store}
 use Rattle.lent_texts.proofs.lets.let_text.Key.{name as #it}

@@ -4,7 +4,8 @@ use Prim.Native.Nat.{_*_}
 use mathlib.Core.Path.{_≡_, sym, ap, _∙_}
 use lib.Seq.{length-take-le}
 use Rattle.term_rules.specs.Lent.{Store, recordsLength}
-use Rattle.text.specs.LetTold.{naming, letTold}
+use Rattle.text_whole.specs.LetPlaced.{naming}
+use Rattle.text.specs.LetTold.{letTold}
 use Rattle.lent.proofs.StoreLaws.{storeIn-is}
 use borrow.Author.Needs.{needs}
 use Rattle.lent_texts.proofs.lets.let_text_in.Statement.{statement}

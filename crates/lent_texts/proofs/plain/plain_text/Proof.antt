@@ -56,11 +56,12 @@ use Rattle.lent_texts.proofs.plain.plain_text_in.Met as wrk-thm
 use Rattle.lent.specs.Copies.{Loaded, Whole, storeIn}
 use Rattle.lent.proofs.Calling.{Of, calls-plain, calls-changing}
 use denote.Enum.Laws as EL
-use Rattle.text.specs.declared.Text.{Text}
-use Rattle.text.proofs.Text as R
-use Rattle.text.proofs.Text.Laws as R′
+use Rattle.text_whole.specs.declared.Text.{Text}
+use Rattle.text_whole.proofs.Text as R
+use Rattle.text_whole.proofs.Text.Laws as R′
 use Rattle.term_rules.specs.Lent.{Store}
-use Rattle.text.specs.Told.{answerOf, told, plainTold}
+use Rattle.text_whole.specs.Placed.{answerOf, told}
+use Rattle.text.specs.Told.{plainTold}
 use Rattle.lent.specs.Records.{lentStore}
 use Rattle.lent.proofs.StoreLaws.{loaded-store}
 use Rattle.lent_texts.proofs.plain.plain_text.Key.{name as #it}

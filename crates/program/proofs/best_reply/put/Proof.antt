@@ -6,8 +6,8 @@ use lib.ListN.{length, take, drop, length-set}
 use borrow.Rule.Slice.PartMut.{putMid}
 use Rattle.refusal.specs.Numbers.{refusalNo}
 use Rattle.term_rules.specs.Lent.{Store, store}
-use Rattle.text.specs.declared.Text.{Text}
-use Rattle.text.specs.Told.{answerOf, told}
+use Rattle.text_whole.specs.declared.Text.{Text}
+use Rattle.text_whole.specs.Placed.{answerOf, told}
 use Rattle.program.specs.BestReply.Text.{bestPlaced}
 use Rattle.program.proofs.best_reply.ReplyLaws.{no-line, no-text, place, stays, writes}
 use native.Mathlib.Omega.{arith}

@@ -1,9 +1,9 @@
 -- `best_reply::put_text` meets its contract: by the one text or the other. Assumes nothing.
 use mathlib.Core.Path.{_≡_, subst}
 use Rattle.term_rules.specs.Lent.{Store, store}
-use Rattle.text.specs.declared.LetText.{LetText}
-use Rattle.text.specs.Told.{answerOf, told}
-use Rattle.text.specs.LetTold.{letAnswerOf}
+use Rattle.text_whole.specs.declared.LetText.{LetText}
+use Rattle.text_whole.specs.Placed.{answerOf, told}
+use Rattle.text_whole.specs.LetPlaced.{letAnswerOf}
 use Rattle.program.specs.BestReply.Text.{bestPlaced, uncounted}
 use Rattle.program.proofs.best_reply.PlacedLaws.{plain-case, let-case, no-prefix, hint-t}
 use native.Mathlib.Omega.{arith}
@@ -12,8 +12,8 @@ use Rattle.program.proofs.best_reply.put_text.Statement.{statement}
 use Rattle.program.proofs.best_reply.put_text.Tie as tie
 use Rattle.program.proofs.best_reply.put_text.Reads as reads
 use Rattle.program.proofs.best_reply.put_text.Lts as lts
-use Rattle.text.proofs.let_of.Reads as let-of-reads
-use Rattle.text.proofs.plain_of.Reads as plain-of-reads
+use Rattle.text_whole.proofs.let_of.Reads as let-of-reads
+use Rattle.text_whole.proofs.plain_of.Reads as plain-of-reads
 
 abbrev lent : tie.Start → Store
 lent s =

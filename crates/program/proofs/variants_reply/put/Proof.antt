@@ -9,8 +9,8 @@ use Rattle.term_rules.specs.Facts.{Sound}
 use Rattle.term_rules.proofs.FactsLaws.{sound-of-wellFormed}
 use Rattle.text_pieces.specs.Readable.{Readable}
 use Rattle.text_pieces.proofs.heads.ReadableLaws.{readable-of-sound}
-use Rattle.text.proofs.ToldLaws.{zeros-get}
-use Rattle.text.proofs.PlainLaws.{plain-tables}
+use Rattle.text_whole.proofs.PlacedLaws.{zeros-get}
+use Rattle.text_whole.proofs.PlainLaws.{plain-tables}
 use Rattle.answer_rules.specs.Answers.{value}
 use Rattle.program_rules.specs.Reply.{inRoom, putIn}
 use Rattle.program.proofs.variants_reply.TextLaws.{text-is}

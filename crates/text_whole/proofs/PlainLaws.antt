@@ -15,7 +15,7 @@ use Rattle.text_write.proofs.PieceLaws.{lower-of-readable}
 use Rattle.text_write.specs.Widths.{calledBy, Widths, Tables}
 use Rattle.text_write.proofs.widths.WidthLaws.{calledBy-text}
 use Rattle.text_write.proofs.widths.FlatLaws.{line-called, piece-flat}
-use Rattle.text.specs.Told.{Zeros}
+use Rattle.text_whole.specs.Placed.{Zeros}
 
 module _ (rs : List ℕ) (ls : List ℤ) (ns ps stem : List ℕ) (n : ℕ) (r : Readable rs ls ns n) (z : Zeros ps) where
   pub plain-tables : (ws : List ℕ) → n ≤ length ps → n ≤ length ws → Tables rs ls ns ps ws n 0

@@ -1,4 +1,4 @@
--- `text::plain_of` meets its contract: a well-formed store can be read. Assumes nothing.
+-- `text_whole::plain_of` meets its contract: a well-formed store can be read. Assumes nothing.
 use Prim.Native.Nat.{ℕ, _+_}
 use mathlib.Core.Path.{sym, ap, _∙_}
 use mathlib.Core.List.{List}
@@ -6,12 +6,12 @@ use lib.ListN.{length, length-replicate}
 use Rattle.term_rules.specs.Lent.{Store, store}
 use Rattle.term_rules.proofs.FactsLaws.{sound-of-wellFormed}
 use Rattle.text_pieces.proofs.heads.ReadableLaws.{readable-of-sound}
-use Rattle.text.specs.Told.{placed, written, refusal}
-use Rattle.text.proofs.ToldLaws.{zeros-get, plain-text-nodes}
+use Rattle.text_whole.specs.Placed.{placed, written, refusal}
+use Rattle.text_whole.proofs.PlacedLaws.{zeros-get, plain-text-nodes}
 use native.Mathlib.Omega.{arith}
 use borrow.Author.Needs.{needs}
-use Rattle.text.proofs.plain_of.Statement.{statement}
-use Rattle.text.proofs.plain_of.Tie as tie
+use Rattle.text_whole.proofs.plain_of.Statement.{statement}
+use Rattle.text_whole.proofs.plain_of.Tie as tie
 
 abbrev lent : tie.Start → Store
 lent s =

@@ -9,7 +9,7 @@ use lib.IntN.{ℤ}
 use Rattle.text_rules.specs.Forms.{children}
 use Rattle.text_rules.specs.Bindings.{Bound, bindings}
 use Rattle.text_rules.specs.LetText.{several, textWith, bindingsOf, letLayout}
-use Rattle.text.proofs.Alike.KidLaws.{bindings-same}
+use Rattle.text_whole.proofs.Alike.KidLaws.{bindings-same}
 use Rattle.term_rules.specs.Lent.{kidsAt}
 use Rattle.text_pieces.specs.Readable.{nodes, Readable}
 use Rattle.text_pieces.proofs.heads.NodeLaws.{children-of-nodes}
@@ -22,8 +22,8 @@ use Rattle.text_lines.specs.Lines.{Bundle}
 use Rattle.text_lines.specs.Whole.{wholeText}
 use Rattle.text_lines.proofs.lets.BoundLaws.{bundle-of-met, place-at-most}
 use Rattle.text_lines.proofs.lets.LetLaws.{wholeText-right}
-use Rattle.text.specs.LetTold.{naming, Layable}
-use Rattle.text.proofs.ToldLaws.{zeros-get}
+use Rattle.text_whole.specs.LetPlaced.{naming, Layable}
+use Rattle.text_whole.proofs.PlacedLaws.{zeros-get}
 
 pub linked-of-readable : (rs : List ℕ) (ls : List ℤ) (ns : List ℕ) (n : ℕ) → Readable rs ls ns n → Linked rs n
 linked-of-readable rs ls ns n r =

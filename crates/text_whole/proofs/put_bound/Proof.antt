@@ -1,4 +1,4 @@
--- `text::put_bound` meets its contract: the inline lengths, the length, then the bytes. Assumes nothing.
+-- `text_whole::put_bound` meets its contract: the inline lengths, the length, then the bytes. Assumes nothing.
 use Prim.Native.Nat.{ℕ, _+_, _-_, _≤_}
 use mathlib.Core.Path.{_≡_, sym, ap, _∙_}
 use mathlib.Core.List.{List, _++_}
@@ -11,14 +11,14 @@ use Rattle.text_write.specs.Piece.{view, Sheet}
 use Rattle.text_write.specs.Widths.{calledBy, Widths, Tables}
 use Rattle.text_lines.specs.Lines.{Bundle}
 use Rattle.text_lines.specs.Whole.{wholeText}
-use Rattle.text.specs.Told.{told}
-use Rattle.text.specs.LetTold.{written, refusal, naming}
-use Rattle.text.proofs.ToldLaws.{placed-fits, placed-refuses}
-use Rattle.text.proofs.LaidLaws.{laid-tables, laid-bundle, laid-next, laid-sheet, laid-text}
+use Rattle.text_whole.specs.Placed.{told}
+use Rattle.text_whole.specs.LetPlaced.{written, refusal, naming}
+use Rattle.text_whole.proofs.PlacedLaws.{placed-fits, placed-refuses}
+use Rattle.text_whole.proofs.LaidLaws.{laid-tables, laid-bundle, laid-next, laid-sheet, laid-text}
 use native.Mathlib.Omega.{arith}
 use borrow.Author.Needs.{needs}
-use Rattle.text.proofs.put_bound.Statement.{statement}
-use Rattle.text.proofs.put_bound.Tie as tie
+use Rattle.text_whole.proofs.put_bound.Statement.{statement}
+use Rattle.text_whole.proofs.put_bound.Tie as tie
 
 abbrev node : tie.Start → ℕ → Node
 node s = nodes (s .args .records .now) (s .args .literals .now) (s .args .names .now)

@@ -1,4 +1,4 @@
--- `text::let_of` meets its contract: the stem, and then the text. Assumes nothing.
+-- `text_whole::let_of` meets its contract: the stem, and then the text. Assumes nothing.
 use Prim.Native.Nat.{ℕ, _+_, _≤_}
 use mathlib.Core.Path.{_≡_, sym, ap, _∙_}
 use mathlib.Core.Bool.{false}
@@ -8,12 +8,12 @@ use Rattle.decimal.specs.Written.{Wrote}
 use Rattle.term_rules.specs.Lent.{Store, store}
 use Rattle.term_rules.proofs.FactsLaws.{sound-of-wellFormed}
 use Rattle.text_rules.specs.LetText.{Naming, several}
-use Rattle.text.specs.LetTold.{naming}
-use Rattle.text.proofs.LetToldLaws.{stem-long, stem-clean, stem-is, layable-of-sound, let-text-last}
+use Rattle.text_whole.specs.LetPlaced.{naming}
+use Rattle.text_whole.proofs.LetPlacedLaws.{stem-long, stem-clean, stem-is, layable-of-sound, let-text-last}
 use native.Mathlib.Omega.{arith}
 use borrow.Author.Needs.{needs}
-use Rattle.text.proofs.let_of.Statement.{statement}
-use Rattle.text.proofs.let_of.Tie as tie
+use Rattle.text_whole.proofs.let_of.Statement.{statement}
+use Rattle.text_whole.proofs.let_of.Tie as tie
 
 abbrev lent : tie.Start → Store
 lent s =

@@ -1,10 +1,10 @@
--- `text::join` meets its contract: the prefix, and the hint after it. Assumes nothing.
+-- `text_whole::join` meets its contract: the prefix, and the hint after it. Assumes nothing.
 use mathlib.Core.List.{_++_}
 use Rattle.decimal.proofs.WrittenLaws.{stands-of-wrote, wrote-of-stands, stands-then}
 use native.Mathlib.Omega.{arith}
 use borrow.Author.Needs.{needs}
-use Rattle.text.proofs.join.Statement.{statement}
-use Rattle.text.proofs.join.Tie as tie
+use Rattle.text_whole.proofs.join.Statement.{statement}
+use Rattle.text_whole.proofs.join.Tie as tie
 
 put-bytes-requires : tie.Need-put-bytes-requires
 put-bytes-requires c κs = search needs

@@ -8,7 +8,7 @@ use lib.ListN.{length, getD}
 use lib.Dec.{eqb, ltb, leb}
 use Rattle.text_rules.specs.Counts.{inTurn, member, reachIn, reached, places, placesIn, count, sumOf, sizeIn, size}
 use Rattle.text_rules.specs.Bindings.{Bound, Place, nowhere, place, find, toBind, bind, meetIn, bindings}
-use Rattle.text.specs.Alike.{Both, Lower, Once, AlikeKids, SameBound}
+use Rattle.text_whole.specs.Alike.{Both, Lower, Once, AlikeKids, SameBound}
 
 -- ---- two lists
 pub both-map :

@@ -1,11 +1,11 @@
--- `text::put_let` meets its contract: the bindings, and then the text. Assumes nothing.
+-- `text_whole::put_let` meets its contract: the bindings, and then the text. Assumes nothing.
 use Prim.Native.Nat.{ℕ}
 use lib.ListN.{length-replicate}
-use Rattle.text.proofs.LaidLaws.{linked-of-readable, blank-tables}
+use Rattle.text_whole.proofs.LaidLaws.{linked-of-readable, blank-tables}
 use native.Mathlib.Omega.{arith}
 use borrow.Author.Needs.{needs}
-use Rattle.text.proofs.put_let.Statement.{statement}
-use Rattle.text.proofs.put_let.Tie as tie
+use Rattle.text_whole.proofs.put_let.Statement.{statement}
+use Rattle.text_whole.proofs.put_let.Tie as tie
 
 slice-aggregate-bind : tie.Need-slice-aggregate-bind
 slice-aggregate-bind c = search needs

@@ -1,4 +1,4 @@
--- `text::put_plain` meets its contract: the length first, then the bytes. Assumes nothing.
+-- `text_whole::put_plain` meets its contract: the length first, then the bytes. Assumes nothing.
 use Prim.Native.Nat.{ℕ, _≤_}
 use mathlib.Core.Path.{_≡_, sym, ap, _∙_}
 use mathlib.Core.Bool.{false}
@@ -10,13 +10,13 @@ use Rattle.text_pieces.specs.Pieces.{capped}
 use Rattle.text_pieces.specs.Readable.{nodes}
 use Rattle.text_write.specs.Piece.{piece, view, Sheet}
 use Rattle.text_write.specs.Widths.{calledBy, Widths}
-use Rattle.text.specs.Told.{written, refusal, told}
-use Rattle.text.proofs.ToldLaws.{placed-fits, placed-refuses}
-use Rattle.text.proofs.PlainLaws.{plain-tables, plain-wide, plain-sheet, plain-piece}
+use Rattle.text_whole.specs.Placed.{written, refusal, told}
+use Rattle.text_whole.proofs.PlacedLaws.{placed-fits, placed-refuses}
+use Rattle.text_whole.proofs.PlainLaws.{plain-tables, plain-wide, plain-sheet, plain-piece}
 use native.Mathlib.Omega.{arith}
 use borrow.Author.Needs.{needs}
-use Rattle.text.proofs.put_plain.Statement.{statement}
-use Rattle.text.proofs.put_plain.Tie as tie
+use Rattle.text_whole.proofs.put_plain.Statement.{statement}
+use Rattle.text_whole.proofs.put_plain.Tie as tie
 
 abbrev node : tie.Start → ℕ → Node
 node s = nodes (s .args .records .now) (s .args .literals .now) (s .args .names .now)

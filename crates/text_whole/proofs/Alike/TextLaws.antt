@@ -28,8 +28,8 @@ use Rattle.text_rules.specs.LetText.{
 }
 use Rattle.text_rules.specs.PlainText.{plainLine}
 use Rattle.text_rules.proofs.FormLaws.{childText-is}
-use Rattle.text.specs.Alike.{Both, Lower, Once, AlikeKids, SameNode, Alike, SameBound}
-use Rattle.text.proofs.Alike.KidLaws.{pick, pick-both, both-length, find-both, bindings-both}
+use Rattle.text_whole.specs.Alike.{Both, Lower, Once, AlikeKids, SameNode, Alike, SameBound}
+use Rattle.text_whole.proofs.Alike.KidLaws.{pick, pick-both, both-length, find-both, bindings-both}
 
 -- ---- forms
 each-both :
