@@ -60,6 +60,16 @@ class Gate(unittest.TestCase):
         self.assertEqual(self.gate({}, SCRIPT + "[ $1 = fmt ] && exit\necho '2 passed, 1 failed'\nexit 1\n"),
                          (1, ["2 passed, 1 failed"]))
 
+    def test_words(self):
+        """Help is an answer, on standard output; another word is refused. Neither starts a step."""
+        with Tree({}) as tree:
+            shutil.copy(os.path.join(TOP, "test"), tree.path("test"))
+            for word, wanted, said in (("--help", 0, "Usage: ./test"), ("--verbose", 2, "takes no arguments")):
+                status, lines = run(tree, "test", word)
+                self.assertEqual(status, wanted, lines)
+                self.assertIn(said, "\n".join(lines))
+                self.assertFalse([line for line in lines if line.startswith("==")], lines)
+
 
 class WithoutRust(unittest.TestCase):
     """With the crate's Rust there, but neither cargo nor rustc nor a way to install them."""

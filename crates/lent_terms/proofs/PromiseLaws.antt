@@ -25,7 +25,7 @@ use Rattle.term.specs.Calls.{getTerm}
 use Rattle.term.proofs.CallLaws.{get-given}
 use Rattle.term.proofs.Promises.{promises}
 use Rattle.lent_terms.specs.Lists.{LentAdded}
-use Rattle.lent_terms.specs.Promises.{seenLent, OnLists, RefusalKeeps}
+use Rattle.lent_terms.specs.Promises.{seenLent, OnLists, RefusalKeeps, Reads}
 
 -- what is seen of the lists after a call is what was wanted
 pub lent-seen :
@@ -44,6 +44,13 @@ pub carry :
 carry model P h ts ts′ ns ns′ n m r a =
     subst (P (lentStore ts ns n m)) (sym (lent-seen ts ts′ ns ns′ n m (model (lentStore ts ns n m)) r a))
     (h (lentStore ts ns n m))
+
+-- and so of a call that only reads
+pub read :
+    {R A : Type 0} (model : Store → A) (seen : R → A) (P : Store → A → Type 0) →
+    ((s : Store) → P s (model s)) →
+    Reads model seen P
+read model seen P h ts ns n m r e = subst (P (lentStore ts ns n m)) (sym e) (h (lentStore ts ns n m))
 
 pub refusal-keeps :
     (model : Store → Answer ℕ × Store) →

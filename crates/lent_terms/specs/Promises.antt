@@ -12,12 +12,37 @@ use Rattle.term_rules.specs.WellFormed.{wellFormed}
 use Rattle.term_rules.specs.Nodes.{Node, literal, variable, application}
 use Rattle.lent.specs.Records.{noTerm, lentStore}
 use Rattle.lent.specs.Promises.{Shaped}
+use Rattle.order.specs.declared.Ordering.{Ordering}
+use Rattle.term_order.specs.TreeOrder.{compareAt}
 use Rattle.term.specs.declared.Added.{Added}
 use Rattle.term.specs.declared.Got.{Got}
-use Rattle.term.specs.Answers.{Answer, given, refused, seenAdded, seenGot}
-use Rattle.term.specs.Calls.{addLiteral, addVariable, addApplication, getTerm}
-use Rattle.term.specs.Orders.{Telling}
-use Rattle.term.specs.Outcomes.{Adds, asksLiteral, asksVariable, asksApplication}
+use Rattle.term.specs.Answers.{
+  Answer,
+  given,
+  refused,
+  seenAdded,
+  seenFound,
+  seenCount,
+  seenGot,
+  seenOrder,
+  seenSort,
+}
+use Rattle.term.specs.Calls.{
+  addLiteral,
+  addVariable,
+  addApplication,
+  findLiteral,
+  findVariable,
+  findApplication,
+  sizeOf,
+  zeroRecord,
+  getTerm,
+  compareTerms,
+  sortTerms,
+}
+use Rattle.term.specs.Orders.{Telling, never, must, Refuses}
+use Rattle.term.specs.Outcomes.{AllIn, Adds, Finds, asksLiteral, asksVariable, asksApplication}
+use Rattle.term.specs.Promises.{Sorts}
 use Rattle.lent_terms.specs.Lists.{LentAdded}
 
 -- What a call that adds has told, and the store that the lent lists are then.
@@ -46,6 +71,34 @@ RefusalKeeps model =
     OnLists model
     (λ ts ns n m r ts′ ns′. (k : ℕ) → seenLent r ts′ ns′ n m .0 ≡ refused k → (ts′ ≡ ts) × (ns′ ≡ ns))
 
+-- The promise P of `term` on a call that only reads, `model`: of what is seen of its answer on lent lists.
+abbrev pub Reads : {R A : Type 0} → (Store → A) → (R → A) → (Store → A → Type 0) → Type 0
+Reads {R} model seen P =
+    (ts : List Term) (ns : List (List ℕ)) (n m : ℕ) (r : R) →
+    seen r ≡ model (lentStore ts ns n m) →
+    P (lentStore ts ns n m) (seen r)
+
+-- "Size: 17": else the count of terms.
+abbrev pub Sizes : Store → Answer ℕ → Type 0
+Sizes s a = Refuses a (must (wellFormed s ≡ true) 17 never) × ((n : ℕ) → a ≡ given n → n ≡ s .terms)
+
+-- "Get, compare and sort: 17, 14": compare tells how the two terms stand,
+abbrev pub Compares : Store → ℕ → ℕ → Answer Ordering → Type 0
+Compares s i j a =
+    Refuses a (must (wellFormed s ≡ true) 17 (must ((i < s .terms) × (j < s .terms)) 14 never))
+    × ((o : Ordering) → a ≡ given o → o ≡ compareAt s i j)
+
+-- sort leaves the sorted permutation of the list, or with a refusal the list as it was,
+abbrev pub Sorting : Store → List ℕ → Answer Unit × List ℕ → Type 0
+Sorting s l x =
+    Refuses (x .0) (must (wellFormed s ≡ true) 17 (must (AllIn s l) 14 never)) × Sorts s l (x .0) (x .1)
+
+-- and get gives a record, or zeros with its refusal.
+abbrev pub Gets : Store → ℕ → Answer Unit × Term → Type 0
+Gets s i x =
+    Refuses (x .0) (must (wellFormed s ≡ true) 17 (must (i < s .terms) 14 never))
+    × ((k : ℕ) → x .0 ≡ refused k → x .1 ≡ zeroRecord)
+
 pub record Promises : Type 1 where
   -- Each refusal exactly when and in its order; the old number, and nothing changed; or exactly one record more, and a
   -- name only if it is new.
@@ -68,14 +121,21 @@ pub record Promises : Type 1 where
   pub restStays :
       (model : Store → Answer ℕ × Store) →
       OnLists model (λ ts ns n m r ts′ ns′. (drop 1024 ts′ ≡ drop 1024 ts) × (drop 128 ns′ ≡ drop 128 ns))
-  -- The calls that only read answer as the flat calls do on the store that the lists are: what is promised of these on
-  -- every store holds of them.
-  pub read :
-      {A : Type 0} (model : Store → A) (P : Store → A → Type 0) →
-      ((s : Store) → P s (model s)) →
-      (ts : List Term) (ns : List (List ℕ)) (n m : ℕ) (a : A) →
-      a ≡ model (lentStore ts ns n m) →
-      P (lentStore ts ns n m) a
+  -- "Lookup has its kind's order with 15 for 13": what is found is the term, and Absent comes exactly when no number has
+  -- it.
+  pub literalFound : (z : ℤ) → Reads (λ s. findLiteral s z) seenFound (λ s a. Finds s (literal z) (asksLiteral s) a)
+  pub variableFound :
+      (name : List ℕ) →
+      Reads (λ s. findVariable s name) seenFound (λ s a. Finds s (variable name) (asksVariable s name) a)
+  pub applicationFound :
+      (name ks : List ℕ) →
+      Reads (λ s. findApplication s name ks) seenFound
+      (λ s a. Finds s (application name ks) (asksApplication s name ks) a)
+  -- The other calls that read, each refusal exactly when, and what they tell else.
+  pub sized : Reads sizeOf seenCount Sizes
+  pub compared : (i j : ℕ) → Reads (λ s. compareTerms s i j) seenOrder (λ s a. Compares s i j a)
+  pub sorted : (l after : List ℕ) → Reads (λ s. sortTerms s l) (λ v. seenSort v after) (λ s x. Sorting s l x)
+  pub getRefused : (i : ℕ) → Reads (λ s. getTerm s i) seenGot (λ s x. Gets s i x)
   -- What get gives is the lent record itself.
   pub got :
       (ts : List Term) (ns : List (List ℕ)) (n m i : ℕ) (r : Got) →
