@@ -1,6 +1,7 @@
 -- The promises of the crate `term` hold. Assumes nothing.
 use Rattle.order.proofs.Sorting.SortLaws.{sorted-unique}
 use Rattle.term_rules.proofs.FactsLaws.{sound-of-wellFormed, wellFormed-of-sound}
+use Rattle.term_rules.proofs.Meaning.NodeLaws.{node-few, node-lower}
 use Rattle.term_rules.proofs.Meaning.MeansLaws.{means-one, means-once}
 use Rattle.term_rules.proofs.Meaning.TreeLaws.{treeAt-means}
 use Rattle.term_order.specs.TreeOrder.{atMost}
@@ -41,6 +42,8 @@ pub promises : Promises
 promises = record {
   facts = sound-of-wellFormed;
   enough = wellFormed-of-sound;
+  childrenLower = λ s i n ks w h e. node-lower s (sound-of-wellFormed s w) i h n ks e;
+  childrenFew = λ s i n ks w h e. node-few s (sound-of-wellFormed s w) i h n ks e;
   meant = λ s i w h. treeAt-means s (sound-of-wellFormed s w) i h;
   oneTerm = λ s i t u p q. means-one s t u i p q;
   oneNumber = λ s i j t w h k p q. means-once s (sound-of-wellFormed s w) t i j h k p q;

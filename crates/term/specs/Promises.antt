@@ -1,9 +1,10 @@
 -- What the term store promises: document 01, 'Terms'. Assumes nothing: a record, with one field for each theorem.
-use Prim.Native.Nat.{ℕ, _<_}
+use Prim.Native.Nat.{ℕ, _≤_, _<_}
 use mathlib.Core.Path.{_≡_}
 use mathlib.Core.Bool.{true}
 use mathlib.Core.List.{List}
 use mathlib.Core.Logic.{_↔_}
+use lib.ListN.{length, getD}
 use lib.IntN.{ℤ}
 use Rattle.order.specs.declared.Ordering.{Ordering}
 use Rattle.order.specs.declared.Ordering.the-variants.{Less, Same}
@@ -11,7 +12,7 @@ use Rattle.order.specs.Compare.{flip, upTo}
 use Rattle.order.specs.Sort.{SameCounts, Sorted}
 use Rattle.term_rules.specs.Lent.{Store, recordAt}
 use Rattle.term_rules.specs.WellFormed.{wellFormed}
-use Rattle.term_rules.specs.Nodes.{literal, variable, application, Tree, Means}
+use Rattle.term_rules.specs.Nodes.{literal, variable, application, nodeAt, Tree, Means}
 use Rattle.term_rules.specs.Facts.{Sound}
 use Rattle.term_rules.specs.Trees.{treeAt}
 use Rattle.term_order.specs.TreeOrder.{trees, compareAt, atMost}
@@ -57,6 +58,22 @@ pub record Promises : Type 0 where
   -- The published facts are what a well-formed store has, no more and no less.
   pub facts : (s : Store) → wellFormed s ≡ true → Sound s
   pub enough : (s : Store) → Sound s → wellFormed s ≡ true
+  -- "Every child lower than its parent", and "up to eight child numbers": of what a number says, not of its record
+  -- alone.
+  pub childrenLower :
+      (s : Store) (i : ℕ) (n ks : List ℕ) →
+      wellFormed s ≡ true →
+      i < s .terms →
+      nodeAt s i ≡ application n ks →
+      (j : ℕ) →
+      j < length ks →
+      getD ks j 0 < i
+  pub childrenFew :
+      (s : Store) (i : ℕ) (n ks : List ℕ) →
+      wellFormed s ≡ true →
+      i < s .terms →
+      nodeAt s i ≡ application n ks →
+      length ks ≤ 8
   -- Every number of a well-formed store means a term,
   pub meant : (s : Store) (i : ℕ) → wellFormed s ≡ true → i < s .terms → Means s i (treeAt s i)
   -- one alone: different terms have different numbers,

@@ -2,6 +2,7 @@
 // refusal leaves all that is lent as it was.
 ghost use mathlib.Core.Path.{_≡_};
 ghost use Rattle.term_rules.specs.Lent.{store};
+ghost use Rattle.term_rules.specs.WellFormed.{wellFormed};
 ghost use Rattle.term.specs.Calls.{
   addLiteral,
   addVariable,
@@ -55,6 +56,21 @@ pub enum Verdict {
 pub struct Got {
     pub verdict: Verdict,
     pub term: Term,
+}
+
+// Whether what is lent is a well-formed store. Where it is not, every other call gives BadStore.
+pub fn is_well_formed(
+    records: &[u64],
+    literals: &[i64],
+    names: &[u8],
+    terms: usize,
+    symbols: usize,
+) -> bool
+    ensures { λ r. ⌜
+        r ≡ wellFormed (store (now (records .entry)) (now (literals .entry)) (now (names .entry)) terms symbols)
+        ⌝ }
+{
+    term_record::check(records, literals, names, terms, symbols)
 }
 
 // Gives the literal's number, and adds it if it is not there: `lit` of src/termdag.rs.

@@ -10,10 +10,8 @@ use native.Mathlib.Decide.{ℕ-discrete}
 use lib.ListN.{length, getD, length-append}
 use Rattle.term_rules.specs.Lent.{Store}
 use Rattle.term_rules.specs.WellFormed.{wellFormed}
-use Rattle.term_rules.specs.Facts.{Sound}
 use Rattle.term_rules.specs.Nodes.{Node, literal, variable, application, nodeAt}
-use Rattle.term_rules.proofs.FactsLaws.{sound-of-wellFormed}
-use Rattle.term_rules.proofs.Meaning.NodeLaws.{node-lower}
+use Rattle.term.proofs.Promises.{promises as store-promises}
 use Rattle.text_rules.specs.Forms.{children}
 use Rattle.text_rules.specs.Counts.{inTurn}
 use Rattle.text_rules.specs.Bindings.{Bound, Place, nowhere, place, find, toBind, bind, meetIn, bindings}
@@ -149,7 +147,7 @@ bindings-few kids root lower =
 -- ---- a store's terms
 kids-lower :
     (s : Store) →
-    Sound s →
+    wellFormed s ≡ true →
     (t : ℕ) →
     t < s .terms →
     (j : ℕ) →
@@ -160,7 +158,7 @@ kids-lower s w t h j l = by (nodeAt s t) refl l
     by : (x : Node) → nodeAt s t ≡ x → j < length (children x) → getD (children x) j 0 < t
     by (literal z) e k = let z : ⊥ = omega arith in absurd z
     by (variable n) e k = let z : ⊥ = omega arith in absurd z
-    by (application n ks) e k = node-lower s w t h n ks e j k
+    by (application n ks) e k = store-promises .childrenLower s t n ks w h e j k
 
 pub next-low :
     (s : Store) (nm : Naming) (t : ℕ) →
@@ -170,9 +168,8 @@ pub next-low :
     nextCount s nm t ≤ 4294967295
 unfolding nextCount bindingsOf
 next-low s nm t e h l =
-    let w = sound-of-wellFormed s e in
     omega (
       arith,
-      w .termLimit,
-      bindings-few (λ (u : ℕ). children (nodeAt s u)) t (λ u k. kids-lower s w u (omega arith)),
+      store-promises .facts s e .termLimit,
+      bindings-few (λ (u : ℕ). children (nodeAt s u)) t (λ u k. kids-lower s e u (omega arith)),
     )

@@ -31,7 +31,14 @@ use Rattle.text_whole.specs.LetPlaced.{written as lettered, refusal as letRefus
 use Rattle.text.specs.Promises.{valueFrom, valueOf}
 use Rattle.text_whole.proofs.PlacedLaws.{placed-fits, placed-refuses}
 use Rattle.text.proofs.ToldLaws.{plain-store-refuses, plain-term-refuses, plain-placed}
-use Rattle.text.proofs.LetToldLaws.{let-store-refuses, let-term-refuses, let-prefix-refuses, let-hint-refuses, let-start-refuses, let-placed}
+use Rattle.text.proofs.LetToldLaws.{
+  let-store-refuses,
+  let-term-refuses,
+  let-prefix-refuses,
+  let-hint-refuses,
+  let-start-refuses,
+  let-placed,
+}
 
 -- ---- what is told keeps the length of the lent part
 module _ {A : Type 0} (text : List ℕ) (done noRoom : A) (out : List ℕ) where

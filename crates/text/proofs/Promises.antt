@@ -3,7 +3,14 @@ use mathlib.Core.Path.{_∙_}
 use Rattle.text.specs.Promises.{Promises}
 use Rattle.text_whole.proofs.PlacedLaws.{placed-fits, placed-refuses}
 use Rattle.text.proofs.ToldLaws.{plain-store-refuses, plain-term-refuses, plain-placed}
-use Rattle.text.proofs.LetToldLaws.{let-store-refuses, let-term-refuses, let-prefix-refuses, let-hint-refuses, let-start-refuses, let-placed}
+use Rattle.text.proofs.LetToldLaws.{
+  let-store-refuses,
+  let-term-refuses,
+  let-prefix-refuses,
+  let-hint-refuses,
+  let-start-refuses,
+  let-placed,
+}
 use Rattle.text.proofs.TwinLaws.{
   plain-of-tree,
   let-of-tree,

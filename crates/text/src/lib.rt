@@ -1,5 +1,5 @@
-// Plain text and let text, byte for byte (`src/termdag.rs`, to_string and to_string_with_let). Every call checks what it
-// is lent for itself, and a refusal leaves all of it as it was.
+// Plain text and let text, byte for byte (`src/termdag.rs`, to_string and to_string_with_let). Every call checks what
+// it is lent for itself, and a refusal leaves all of it as it was.
 ghost use mathlib.Core.Path.{_≡_};
 ghost use Rattle.term_rules.specs.Lent.{store};
 ghost use Rattle.text_whole.specs.Placed.{answerOf, told};
@@ -27,7 +27,7 @@ pub fn plain_text(
         (now (out .entry))
         ⌝ }
 {
-    if !term_record::check(records, literals, names, terms, symbols) {
+    if !term::is_well_formed(records, literals, names, terms, symbols) {
         return Text::Refused(Refusal::BadStore);
     }
     if terms <= term {
@@ -68,7 +68,7 @@ pub fn let_text(
         (naming (now (prefix .entry)) (now (hint .entry)) start bare) term (now (out .entry))
         ⌝ }
 {
-    if !term_record::check(records, literals, names, terms, symbols) {
+    if !term::is_well_formed(records, literals, names, terms, symbols) {
         return LetText::Refused(Refusal::BadStore);
     }
     if terms <= term {

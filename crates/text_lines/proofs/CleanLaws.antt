@@ -1,6 +1,6 @@
 -- No newline stands in a line: names, literals and forms of them. Assumes nothing.
 use mathlib.Core.Path.{_≡_, refl, sym, _∙_}
-use mathlib.Core.Bool.{Bool, true, false, _&&_, _||_}
+use mathlib.Core.Bool.{Bool, true, false, _&&_, _||_, and-eq-true-iff}
 use mathlib.Core.List.{List, [], _∷_, _++_}
 use Prim.{Dec, yes, no}
 use Prim.Native.Nat.{ℕ, zero, suc, _+_, _/_, _%_, _<_}
@@ -14,7 +14,6 @@ use Rattle.decimal.specs.Decimal.{digits, literalText}
 use Rattle.decimal.proofs.DigitLaws.{digits-one, digits-more}
 use Rattle.name.specs.Name.{allowed, allAllowed}
 use Rattle.term_rules.specs.Nodes.{Node, literal, variable, application}
-use Rattle.term_rules.proofs.TestLaws.{and-first, and-second}
 use Rattle.text_rules.specs.Forms.{children, each, form}
 use Rattle.text_rules.specs.LetText.{several, anySeveral, newLine, countText}
 use Rattle.text_rules.proofs.FormLaws.{each-none, each-step, form-of-application}
@@ -73,7 +72,7 @@ several-left (x ∷ a) b e = or-keeps (eqb x 10) (several a) (several (a ++ b)) 
 allowed-not-newline : (b : ℕ) → allowed b ≡ true → b ≡ 10 → ⊥
 unfolding allowed
 allowed-not-newline b e n =
-    let l : leb 33 b ≡ true = and-first (leb 33 b) _ e in
+    let l : leb 33 b ≡ true = and-eq-true-iff (leb 33 b) _ .0 e .0 in
     let f : leb 33 b ≡ false = lt-leb 33 b (omega arith) in
     let w : true ≡ false = sym l ∙ f in
     let z : _≡_ {A = ℕ} 0 1 = cc in omega arith
@@ -82,8 +81,8 @@ pub several-of-allowed : (name : List ℕ) → allAllowed name ≡ true → seve
 unfolding allAllowed
 several-of-allowed [] e = several-none
 several-of-allowed (b ∷ bs) e =
-    several-step b bs (allowed-not-newline b (and-first (allowed b) (allAllowed bs) e))
-    (several-of-allowed bs (and-second (allowed b) (allAllowed bs) e))
+    let both = and-eq-true-iff (allowed b) (allAllowed bs) .0 e in
+    several-step b bs (allowed-not-newline b (both .0)) (several-of-allowed bs (both .1))
 
 several-digits-in : (f x : ℕ) → x < f → several (digits x) ≡ false
 several-digits-in zero x l = let z : ⊥ = omega arith in absurd z

@@ -1,6 +1,6 @@
 -- The laws of a let text placed in the lent part, and of the stores and names that it takes. Assumes nothing.
 use mathlib.Core.Path.{_≡_, refl, sym, ap, _∙_}
-use mathlib.Core.Bool.{true, false, _&&_}
+use mathlib.Core.Bool.{true, false, and-eq-true-iff}
 use mathlib.Core.List.{List, _++_}
 use Prim.Native.Nat.{ℕ, _+_, _-_, _≤_, _<_}
 use native.Mathlib.Omega.{arith}
@@ -14,8 +14,6 @@ use Rattle.name.specs.Name.{allAllowed, valid}
 use Rattle.term_rules.specs.Lent.{store, recordIn}
 use Rattle.term_rules.specs.Nodes.{nodeOf, nodeAt}
 use Rattle.term_rules.specs.Facts.{Sound, SoundRecord, aLiteral, aVariable, anApplication}
-use Rattle.term_rules.proofs.TestLaws.{and-first, and-second}
-use Rattle.term_rules.proofs.Adding.NamingLaws.{valid-short}
 use Rattle.text_rules.specs.LetText.{Naming, several, bindingsOf, letLayout, letText, nextCount}
 use Rattle.text_pieces.specs.Readable.{nodes, headText}
 use Rattle.text_pieces.proofs.heads.NodeLaws.{node-literal, node-variable, node-application}
@@ -44,21 +42,23 @@ pub let-text-last :
 let-text-last rs ls ns terms symbols nm t out =
     let e : t + 1 - 1 ≡ t = omega arith in rw e (sym (let-text-nodes rs ls ns terms symbols nm t out))
 
--- ---- names hold no newline
-pub clean-of-valid : (name : List ℕ) → valid name ≡ true → several name ≡ false
-unfolding valid
-clean-of-valid name e =
-    several-of-allowed name
-    (and-second (leb (length name) 31) (allAllowed name)
-    (and-second (leb 1 (length name)) (leb (length name) 31 && allAllowed name) e))
-
-pub clean-of-prefix : (prefix : List ℕ) → validPrefix prefix ≡ true → several prefix ≡ false
-unfolding validPrefix
-clean-of-prefix prefix e = several-of-allowed prefix (and-second (leb (length prefix) 31) (allAllowed prefix) e)
+-- ---- a name is short, and holds no newline
+short-and-allowed : (name : List ℕ) → valid name ≡ true → validPrefix name ≡ true
+unfolding valid validPrefix
+short-and-allowed name e = and-eq-true-iff (leb 1 (length name)) _ .0 e .1
 
 pub short-of-prefix : (prefix : List ℕ) → validPrefix prefix ≡ true → length prefix ≤ 31
 unfolding validPrefix
-short-of-prefix prefix e = leb-true (length prefix) 31 (and-first (leb (length prefix) 31) (allAllowed prefix) e)
+short-of-prefix prefix e =
+    leb-true (length prefix) 31 (and-eq-true-iff (leb (length prefix) 31) (allAllowed prefix) .0 e .0)
+
+pub clean-of-prefix : (prefix : List ℕ) → validPrefix prefix ≡ true → several prefix ≡ false
+unfolding validPrefix
+clean-of-prefix prefix e =
+    several-of-allowed prefix (and-eq-true-iff (leb (length prefix) 31) (allAllowed prefix) .0 e .1)
+
+pub clean-of-valid : (name : List ℕ) → valid name ≡ true → several name ≡ false
+clean-of-valid name e = clean-of-prefix name (short-and-allowed name e)
 
 module _ (rs : List ℕ) (ls : List ℤ) (ns : List ℕ) (terms symbols : ℕ) (w : Sound (store rs ls ns terms symbols)) where
   head-clean : (t : ℕ) → SoundRecord symbols t (recordIn rs ls t) → several (headText (nodes rs ls ns t)) ≡ false
@@ -91,7 +91,8 @@ pub stem-long :
     validPrefix prefix ≡ true →
     valid hint ≡ true →
     length prefix + length hint ≤ 62
-stem-long prefix hint p h = omega (arith, short-of-prefix prefix p, valid-short hint h)
+stem-long prefix hint p h =
+    omega (arith, short-of-prefix prefix p, short-of-prefix hint (short-and-allowed hint h))
 
 pub stem-clean :
     (prefix hint : List ℕ) →

@@ -12,27 +12,27 @@ abbrev lent : tie.Start → Store
 lent s =
     store (s .args .records .now) (s .args .literals .now) (s .args .names .now) (s .args .terms) (s .args .symbols)
 
-check-requires : tie.Need-check-requires
-check-requires c κs = search needs
+is-well-formed-requires : tie.Need-is-well-formed-requires
+is-well-formed-requires c κs = search needs
 
 returns : tie.Need-returns
 returns c =
     let s = c .before .before .before .before .before in
     sym
     (plain-store-refuses (lent s) (s .args .term) (s .args .out .now)
-    (sym (c .before .check .ensures) ∙ not-true _ (c .if1 .taken)))
+    (sym (c .before .is-well-formed .ensures) ∙ not-true _ (c .if1 .taken)))
 
 returns-2 : tie.Need-returns-2
 returns-2 c =
     let s = c .before .before .before .before .before .before in
     sym
     (plain-term-refuses (lent s) (s .args .term) (s .args .out .now)
-    (sym (c .before .before .check .ensures) ∙ not-false _ (c .before .if1 .left)) (c .if2 .taken))
+    (sym (c .before .before .is-well-formed .ensures) ∙ not-false _ (c .before .if1 .left)) (c .if2 .taken))
 
 plain-of-requires : tie.Need-plain-of-requires
 plain-of-requires c κs =
     let d3 = c .before .before .before in (
-      sym (d3 .check .ensures) ∙ not-false _ (c .before .before .if1 .left),
+      sym (d3 .is-well-formed .ensures) ∙ not-false _ (c .before .before .if1 .left),
       c .before .if2 .left,
     )
 
@@ -48,11 +48,11 @@ returns-3 c =
     c .before .before .plain-of .ensures
     ∙ sym
     (plain-placed (lent s) (s .args .term) (s .args .out .now)
-    (sym (d6 .check .ensures)
+    (sym (d6 .is-well-formed .ensures)
     ∙ not-false _ (d5 .if1 .left))
     (d4 .if2 .left))
 
 pub plain-text-spec : {M : Type 1} → statement M
 plain-text-spec =
     tie.close
-    (tie.spec check-requires returns returns-2 plain-of-requires same-length returns-3)
+    (tie.spec is-well-formed-requires returns returns-2 plain-of-requires same-length returns-3)

@@ -6,7 +6,7 @@ use mathlib.Core.List.{List, _++_}
 use lib.ListN.{length, take, length-append, length-replicate}
 use Rattle.decimal.specs.Written.{Wrote}
 use Rattle.term_rules.specs.Lent.{Store, store}
-use Rattle.term_rules.proofs.FactsLaws.{sound-of-wellFormed}
+use Rattle.term.proofs.Promises.{promises as store-promises}
 use Rattle.text_rules.specs.LetText.{Naming, several}
 use Rattle.text_whole.specs.LetPlaced.{naming}
 use Rattle.text_whole.proofs.LetPlacedLaws.{stem-long, stem-clean, stem-is, layable-of-sound, let-text-last}
@@ -71,7 +71,7 @@ put-let-requires c κs =
     let s = d3 .before .before .before .before .before .before .before in
     let j = d3 .join in
     layable-of-sound (s .args .records .now) (s .args .literals .now) (s .args .names .now) (s .args .terms)
-    (s .args .symbols) (sound-of-wellFormed (lent s) (s .pre .0)) (take (j .result) (j .last .0)) (s .args .term)
+    (s .args .symbols) (store-promises .facts (lent s) (s .pre .0)) (take (j .result) (j .last .0)) (s .args .term)
     (s .args .start) (s .pre .1 .0) (clean s _ (j .last .0) (j .result) (j .ensures)) (s .pre .1 .1 .1)
 
 same-length : tie.Need-same-length

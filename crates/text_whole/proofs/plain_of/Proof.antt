@@ -4,7 +4,7 @@ use mathlib.Core.Path.{sym, ap, _∙_}
 use mathlib.Core.List.{List}
 use lib.ListN.{length, length-replicate}
 use Rattle.term_rules.specs.Lent.{Store, store}
-use Rattle.term_rules.proofs.FactsLaws.{sound-of-wellFormed}
+use Rattle.term.proofs.Promises.{promises as store-promises}
 use Rattle.text_pieces.proofs.heads.ReadableLaws.{readable-of-sound}
 use Rattle.text_whole.specs.Placed.{placed, written, refusal}
 use Rattle.text_whole.proofs.PlacedLaws.{zeros-get, plain-text-nodes}
@@ -29,7 +29,7 @@ add-put-plain c = search needs
 put-plain-requires : tie.Need-put-plain-requires
 put-plain-requires c κs =
     let s = c .before .before .before .before .before .before in
-    let w = sound-of-wellFormed (lent s) (s .pre .0) in (
+    let w = store-promises .facts (lent s) (s .pre .0) in (
       readable-of-sound (s .args .records .now) (s .args .literals .now) (s .args .names .now) (s .args .terms)
           (s .args .symbols) (s .args .term + 1) w (omega (arith, s .pre .1)),
       (
