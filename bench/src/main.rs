@@ -257,9 +257,9 @@ fn main() -> ExitCode {
         [count, kind, folder] => (count, kind, Some(folder)),
         _ => ("", "", None),
     };
-    let count = count.parse().ok().filter(|count| (1..=1000).contains(count));
+    let count = count.parse().ok().filter(|count| (1..=999).contains(count));
     let (Some(count), "native" | "emulated") = (count, kind) else {
-        eprintln!("bench: give the number of rounds, 1 to 1,000, then native or emulated, then perhaps a folder");
+        eprintln!("bench: give the number of rounds, 1 to 999, then native or emulated, then perhaps a folder");
         return ExitCode::from(2);
     };
     match table(count, kind, folder) {

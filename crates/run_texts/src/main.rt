@@ -1,12 +1,13 @@
 // Makes each call of data/calls.bin on its store, with `text::plain_text` or `text::let_text`, and writes the answer:
 // `plain` and the length, or `let`, the next unused count and the length, and the text on the lines after it; or else
-// `refused` and the number. Calls and answers are recorded ones of the oracle; scripts/text-calls takes them from
-// examples/recorded/terms-0.bin.
+// `refused` and the number. Calls and answers are the oracle's; scripts/text-calls takes them from
+// examples/recorded/terms-0.bin, and from oracle/text-runs for stores of 1,024 records and 128 names.
 //
 // In calls.bin each call stands after its length, two bytes, the higher first. Its bytes are: 0 for plain text or 1 for
-// let text; the zero flag; the lengths of prefix and hint; how many records are lent; a zero; two bytes each, terms,
-// symbols, the term and the room; eight bytes, the start count; prefix; hint; a byte for each number of the records;
-// eight bytes for each literal; and the names.
+// let text, and 2 more where the store is that of the call before; the zero flag; the lengths of prefix and hint; two
+// bytes each, how many records are lent, terms, symbols, the term and the room; eight bytes, the start count; prefix;
+// hint; and the store, if it is the call's own: two bytes for each number of the records, eight bytes for each literal,
+// and the names.
 ghost use Prim.Native.Nat.{_+_, _≤_};
 ghost use lib.ListN.{length};
 use libc::STDOUT_FILENO;
@@ -38,18 +39,18 @@ fn number(s: &[u8], p: usize, n: usize) -> u64
 
 // The numbers of the records, from place `a` on.
 fn load_records(records: &mut [u64], s: &[u8], a: usize)
-    requires { ⌜ a + length (now records) ≤ 1000000 ⌝ }
+    requires { ⌜ (a ≤ 500000) × (length (now records) ≤ 20000) ⌝ }
 {
     let mut j = 0;
     while j < records.len() {
-        records[j] = number(s, a + j, 1);
+        records[j] = number(s, a + j * 2, 2);
         j += 1;
     }
 }
 
 // The literals, from place `a` on.
 fn load_literals(literals: &mut [i64], s: &[u8], a: usize)
-    requires { ⌜ (a ≤ 500000) × (length (now literals) ≤ 1000) ⌝ }
+    requires { ⌜ (a ≤ 500000) × (length (now literals) ≤ 2000) ⌝ }
 {
     let mut j = 0;
     while j < literals.len() {
@@ -142,36 +143,67 @@ fn run(s: &[u8], stem: &[u8], records: &[u64], literals: &[i64], names: &[u8], o
     if out.len() < room {
         return;
     }
-    if s[0] == 0 {
+    if s[0] % 2 == 0 {
         run_plain(s, records, literals, names, &mut out[..room]);
         return;
     }
     run_let(s, stem, records, literals, names, &mut out[..room]);
 }
 
-// Lays out the store that `s` describes, and makes the call.
-fn lay(s: &[u8], out: &mut [u8]) {
+// Whether a call brings its own store.
+fn has_store(s: &[u8]) -> bool {
+    if s.len() == 0 {
+        return false;
+    }
+    s[0] < 2
+}
+
+// Lays out the store of the call `held`, and makes the call that `s` describes on it.
+fn lay(held: &[u8], s: &[u8], out: &mut [u8]) {
+    if held.len() < 22 {
+        return;
+    }
     if s.len() < 22 {
         return;
     }
-    let p = 22 + wide(s[2]) + wide(s[3]);
-    let r = wide(s[4]);
-    let m = r * term_layout::WIDTH;
-    let a = p + m;
-    let b = a + r * 8;
-    if s.len() < b {
+    let q = 22 + wide(s[2]) + wide(s[3]);
+    let p = 22 + wide(held[2]) + wide(held[3]);
+    let r = pair(held, 4);
+    if s.len() < q {
         return;
     }
-    let mut records = [0u64; 2805];
-    load_records(&mut records, s, p);
-    let mut literals = [0i64; 255];
-    load_literals(&mut literals, s, a);
-    run(s, &s[22..p], &records[..m], &literals[..r], &s[b..], out);
+    if 1040 < r {
+        return;
+    }
+    let m = r * term_layout::WIDTH;
+    let a = p + m * 2;
+    let b = a + r * 8;
+    if held.len() < b {
+        return;
+    }
+    let mut records = [0u64; 11440];
+    load_records(&mut records, held, p);
+    let mut literals = [0i64; 1040];
+    load_literals(&mut literals, held, a);
+    run(s, &s[22..q], &records[..m], &literals[..r], &held[b..], out);
 }
 
-// Makes each call of `s`.
+// Makes the call that `call` describes on the store of the call from `b` to `c` of `s`.
+fn lay_on(s: &[u8], b: usize, c: usize, call: &[u8], out: &mut [u8]) {
+    if c < b {
+        return;
+    }
+    if s.len() < c {
+        return;
+    }
+    lay(&s[b..c], call, out);
+}
+
+// Makes each call of `s`; the store of the last that brought one stands from `b` to `c`.
 fn run_all(s: &[u8], out: &mut [u8]) {
     let mut p: usize = 0;
+    let mut b: usize = 0;
+    let mut c: usize = 0;
     while p < s.len() {
         if s.len() - p < 2 {
             return;
@@ -182,7 +214,11 @@ fn run_all(s: &[u8], out: &mut [u8]) {
             return;
         }
         let e = a + n;
-        lay(&s[a..e], out);
+        if has_store(&s[a..e]) {
+            b = a;
+            c = e;
+        }
+        lay_on(s, b, c, &s[a..e], out);
         p = e;
     }
 }
@@ -193,7 +229,7 @@ fn main() {
         os::fail(b"calls.bin");
         return;
     }
-    let mut buffer = [0u8; 262144];
+    let mut buffer = [0u8; 327680];
     let n = io::read_full(file, &mut buffer);
     libc::close(file);
     let mut out = [0u8; 65536];

@@ -16,6 +16,9 @@ abbrev μ-loop : tie.MeasureT-loop
 loop-holds : tie.Need-loop-holds Inv-loop μ-loop
 loop-holds c = search needs
 
+mul-number : tie.Need-mul-number Inv-loop μ-loop
+mul-number c = search needs
+
 add-number : tie.Need-add-number Inv-loop μ-loop
 add-number c = search needs
 
@@ -50,6 +53,7 @@ load-records-spec =
     Inv-loop
     μ-loop
     loop-holds
+    mul-number
     add-number
     number-requires
     mul-records

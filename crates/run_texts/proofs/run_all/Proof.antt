@@ -8,10 +8,10 @@ use Rattle.run_texts.proofs.run_all.Statement.{statement}
 use Rattle.run_texts.proofs.run_all.Tie as tie
 
 abbrev Inv-loop : tie.InvT-loop
-Inv-loop s out₀ p₀ out p = (p ≤ length s) × (length out ≡ length out₀)
+Inv-loop s out₀ p₀ b₀ c₀ out p b c = (p ≤ length s) × (length out ≡ length out₀)
 
 abbrev μ-loop : tie.MeasureT-loop
-μ-loop s out₀ p₀ out p = length s - p
+μ-loop s out₀ p₀ b₀ c₀ out p b c = length s - p
 
 loop-holds : tie.Need-loop-holds Inv-loop μ-loop
 loop-holds c = search needs
@@ -43,17 +43,29 @@ returns-2 c = search needs
 add-e : tie.Need-add-e Inv-loop μ-loop
 add-e c = search needs
 
-sub-lay : tie.Need-sub-lay Inv-loop μ-loop
-sub-lay c = search needs
+sub-has-store : tie.Need-sub-has-store Inv-loop μ-loop
+sub-has-store c = search needs
 
-part-lay-start : tie.Need-part-lay-start Inv-loop μ-loop
-part-lay-start c = search needs
+part-has-store-start : tie.Need-part-has-store-start Inv-loop μ-loop
+part-has-store-start c = search needs
 
-part-lay-end : tie.Need-part-lay-end Inv-loop μ-loop
-part-lay-end c = search needs
+part-has-store-end : tie.Need-part-has-store-end Inv-loop μ-loop
+part-has-store-end c = search needs
 
-lay-requires : tie.Need-lay-requires Inv-loop μ-loop
-lay-requires c κs = search needs
+has-store-requires : tie.Need-has-store-requires Inv-loop μ-loop
+has-store-requires c κs = search needs
+
+sub-lay-on : tie.Need-sub-lay-on Inv-loop μ-loop
+sub-lay-on c = search needs
+
+part-lay-on-start : tie.Need-part-lay-on-start Inv-loop μ-loop
+part-lay-on-start c = search needs
+
+part-lay-on-end : tie.Need-part-lay-on-end Inv-loop μ-loop
+part-lay-on-end c = search needs
+
+lay-on-requires : tie.Need-lay-on-requires Inv-loop μ-loop
+lay-on-requires c κs = search needs
 
 loop-less : tie.Need-loop-less Inv-loop μ-loop
 loop-less c = search needs
@@ -83,10 +95,14 @@ run-all-spec =
     same-length-2
     returns-2
     add-e
-    sub-lay
-    part-lay-start
-    part-lay-end
-    lay-requires
+    sub-has-store
+    part-has-store-start
+    part-has-store-end
+    has-store-requires
+    sub-lay-on
+    part-lay-on-start
+    part-lay-on-end
+    lay-on-requires
     loop-less
     loop-again
     same-length-3
