@@ -34,8 +34,8 @@ use Rattle.table_rules.specs.Rules.Classes.{classCount}
 use Rattle.table_rules.specs.Rules.Rows.{tableRows, tableRowOf}
 use Rattle.table_rules.specs.Rules.Order.{scanOrder, scanned}
 use Rattle.table_rules.specs.Rules.Terms.{nameOf}
-use Rattle.table_rules.specs.Rules.Choosing.{runOf, edgeFor, edgeRow, pricesFor}
-use Rattle.table_rules.proofs.Rules.CoverLaws.{ReachedClass, scanned-below}
+use Rattle.table_rules.specs.Rules.Choosing.{runOver, runOf, edgeFor, edgeRow, pricesFor}
+use Rattle.table_rules.proofs.Rules.CoverLaws.{ReachedClass, one-below, scanned-below}
 use Rattle.table_rules.proofs.Rules.AnswerLaws.{run-true}
 use Rattle.answer_rules.specs.Plan.{planChild, planChildren, planFor, orderFor, costOf}
 use Rattle.answer_rules.proofs.AgreeLaws.{Agree, buildIn-agrees}
@@ -63,14 +63,15 @@ module _
   unfolding scanned
   order-length =
       ap (λ (x : List ℕ). length x) (v .order-is)
-      ∙ sym (inOrder-length (tableRows t) (scanOrder t root))
+      ∙ sym (inOrder-length (tableRows t) (scanOrder t (root ∷ [])))
       ∙ sym (ap (λ (x : List Row). length x) (v .rows-are))
       ∙ rows-length outputs heads starts children
 
   pub order-below : (i : ℕ) → i < length order → getD order i 0 < length (t .rows)
   order-below i h =
       subst (λ (x : List ℕ). getD x i 0 < length (t .rows)) (sym (v .order-is))
-      (scanned-below t (v .known) root (v .root-below) i (subst (λ (x : List ℕ). i < length x) (v .order-is) h))
+      (scanned-below t (v .known) (root ∷ []) (one-below (length (t .sorts)) root (v .root-below)) i
+      (subst (λ (x : List ℕ). i < length x) (v .order-is) h))
 
   pub solve-ready : SolveReady (classCount t) outputs heads starts children order functions
   solve-ready = record {
@@ -88,11 +89,11 @@ module _
   unfolding scanned
   part-children i h =
       let l : i < length outputs = omega (arith, order-length) in
-      let m : i < length (scanOrder t root) = subst (λ (x : List ℕ). i < length x) (v .order-is) h in
+      let m : i < length (scanOrder t (root ∷ [])) = subst (λ (x : List ℕ). i < length x) (v .order-is) h in
       ap (λ (x : Row). x .children)
       (sym (rows-get outputs heads starts children i l)
       ∙ ap (λ (x : List Row). rowAt x i) (v .rows-are)
-      ∙ inOrder-get (tableRows t) (scanOrder t root) i m
+      ∙ inOrder-get (tableRows t) (scanOrder t (root ∷ [])) i m
       ∙ ap (λ (x : List ℕ). rowAt (tableRows t) (getD x i 0)) (sym (v .order-is)))
 
   pub part-in :
@@ -118,17 +119,17 @@ module _
     where
       -- the run that was made is the table's own
       pub run-is : runOf t root ≡ ranTo costs ranks last passes
-      unfolding runOf
+      unfolding runOver
       run-is = sym (w .ran ∙ ap (λ (x : List Row). run top x (classCount t)) (v .rows-are))
 
-      mark-is : (c : ℕ) → c < length ranks → getD marks c 0 ≡ edgeFor t root c
+      mark-is : (c : ℕ) → c < length ranks → getD marks c 0 ≡ edgeFor t (root ∷ []) c
       unfolding edgeFor
       mark-is c h =
           ap (λ (x : List ℕ). getD x c 0) (w .edges-are)
           ∙ tabulate-get (edgeOf top costs ranks (rowsOf outputs heads starts children)) (length ranks) c 0
           h
           ∙ ap (λ (x : List Row). edgeOf top costs ranks x c) (v .rows-are)
-          ∙ ap (λ (x : Run). edgeOf top (x .state .costs) (x .state .ranks) (scanned t root) c) (sym run-is)
+          ∙ ap (λ (x : Run). edgeOf top (x .state .costs) (x .state .ranks) (scanned t (root ∷ [])) c) (sym run-is)
 
       -- a class of the plan has a cost below 2^64-1
       pub priced-of-known : (c : ℕ) → 0 < getD known c 0 → (c < length ranks) × Priced costs ranks c
@@ -157,11 +158,11 @@ module _
         class-plan = w .planned .shown c (omega (arith, long)) p
 
         -- its row is the row of the table's own edge
-        pub row-is : getD order (getD marks c 0) 0 ≡ edgeRow t root c
+        pub row-is : getD order (getD marks c 0) 0 ≡ edgeRow t (root ∷ []) c
         unfolding edgeRow
         row-is =
             ap (λ (x : List ℕ). getD x (getD marks c 0) 0) (v .order-is)
-            ∙ ap (λ (x : ℕ). getD (scanOrder t root) x 0) (mark-is c h)
+            ∙ ap (λ (x : ℕ). getD (scanOrder t (root ∷ [])) x 0) (mark-is c h)
 
         row-below : getD order (getD marks c 0) 0 < length (t .rows)
         row-below = order-below (getD marks c 0) place

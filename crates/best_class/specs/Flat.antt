@@ -2,7 +2,7 @@
 -- definitions.
 use mathlib.Core.Path.{_≡_}
 use mathlib.Core.Bool.{true}
-use mathlib.Core.List.{List}
+use mathlib.Core.List.{List, [], _∷_}
 use Prim.Native.Nat.{ℕ, _+_, _*_, _<_, _≤_}
 use lib.IntN.{ℤ, pos}
 use lib.ListN.{length, getD}
@@ -29,9 +29,9 @@ pub record FlatTable
   where
     pub known : Known t
     pub root-below : root < length (t .sorts)
-    pub rows-are : rowsOf outputs heads starts children ≡ scanned t root
+    pub rows-are : rowsOf outputs heads starts children ≡ scanned t (root ∷ [])
     pub flat : FlatOk (classCount t) outputs heads starts children
-    pub order-is : order ≡ scanOrder t root
+    pub order-is : order ≡ scanOrder t (root ∷ [])
     pub arity : (i : ℕ) → i < length order → getD starts (i + 1) 0 ≤ getD starts i 0 + 8
     pub functions-long : length (t .rows) ≤ length functions
     pub functions-few : length functions ≤ 1024

@@ -2,7 +2,7 @@
 -- Assumes nothing: definitions.
 use mathlib.Core.Path.{_≡_}
 use mathlib.Core.Bool.{true, false}
-use mathlib.Core.List.{List}
+use mathlib.Core.List.{List, [], _∷_}
 use Prim.Native.Nat.{ℕ, _+_, _<_}
 use lib.IntN.{ℤ}
 use lib.ListN.{take}
@@ -56,7 +56,7 @@ classAnswer t root c s =
 pub record FlatClass
     (t : Table) (root c n m w : ℕ) (order flat heads starts children functions labels : List ℕ) (values : List ℤ)
     : Type 0 where
-  pub flattened : Flattened t root n m w order flat heads starts children
+  pub flattened : Flattened t (root ∷ []) n m w order flat heads starts children
   pub is :
       FlatTable t root (take n flat) (take n heads) (take (n + 1) starts) (take m children) (take n order) functions
       labels values

@@ -89,7 +89,7 @@ use Rattle.order.specs.Compare.{numbers, lists}
 use Rattle.order.specs.Sort.{count, insert, sorted}
 use Rattle.variant_order.specs.Arrays.{keyIn}
 use Rattle.variant_order.specs.Keys.{compareKeys, compareRows}
-use Rattle.table_rules.specs.Rules.Choosing.{runOf, answerFor, edgeFor, edgeRow}
+use Rattle.table_rules.specs.Rules.Choosing.{runOver, answerFor, edgeFor, edgeRow}
 use Rattle.table_rules.specs.Rules.Classes.{flatClass, childOf, rangeOf, isRoot}
 use Rattle.table_rules.specs.Rules.Order.{viewOf, scanOrder, scanned}
 use Rattle.table_rules.specs.Rules.Rows.{headCost, childrenOf, rowBy, tableRows, usableFunction, usable}
@@ -181,7 +181,7 @@ unfolding queryAt emptyStore emptyLending numberText bestLine variantsLine varia
     argumentsIn broughtIn viewIn has picked inTurn functionsOf rowsOf join brought visits sortsReached functionsInOrder
     rowsInOrder answerOf treeCost forestCost childRank isEdge firstRow sumOf allOf tabulate childCost priced rowCost
     improves relax pass passes runFrom run given inOrder numbers lists count insert sorted keyIn compareKeys compareRows
-    runOf answerFor edgeFor edgeRow flatClass childOf rangeOf isRoot viewOf scanOrder scanned headCost childrenOf rowBy
+    runOver answerFor edgeFor edgeRow flatClass childOf rangeOf isRoot viewOf scanOrder scanned headCost childrenOf rowBy
     tableRows usableFunction usable added kept childIn childrenIn ownIn buildIn childOf-build-Plan childrenOf-build-Plan
     left whole bestLiteral bestBuilt bestClass bestOf bestAt planChild planChildren planFor costFor isVariant
     variantRows keyFor keptRows anyDear ownVariant variantIn variantsIn variantsKept roomForResults variantLiteral

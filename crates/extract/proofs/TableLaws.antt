@@ -1,6 +1,6 @@
 -- The lists that a loaded table leaves are a flat table. Assumes nothing.
 use mathlib.Core.Path.{_≡_, refl, ap, sym, _∙_, subst}
-use mathlib.Core.List.{List, _∷_, _++_, append-assoc, map}
+use mathlib.Core.List.{List, [], _∷_, _++_, append-assoc, map}
 use Prim.Native.Nat.{ℕ, suc, _+_, _*_, _-_, _<_, _≤_}
 use native.Mathlib.Nat.{add-zero}
 use native.Mathlib.Omega.{arith}
@@ -117,9 +117,9 @@ module _
 
   -- The lists of a class.
   module _ (c n m w : ℕ) (e : r ≡ Class c n m w) (below : root < length (t .sorts)) where
-    pub laid : Flattened t root n m w order flat heads starts children
+    pub laid : Flattened t (root ∷ []) n m w order flat heads starts children
     laid =
-        subst (λ (x : Loaded). OnClass x (λ n m w. Flattened t root n m w order flat heads starts children)) e
+        subst (λ (x : Loaded). OnClass x (λ n m w. Flattened t (root ∷ []) n m w order flat heads starts children)) e
         (h .reached)
 
     pub flat-table :

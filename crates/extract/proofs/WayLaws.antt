@@ -2,7 +2,7 @@
 use Prim.{tt}
 use mathlib.Core.Path.{_≡_, refl, ap, sym, _∙_, subst}
 use mathlib.Core.Bool.{true, false}
-use mathlib.Core.List.{List}
+use mathlib.Core.List.{List, [], _∷_}
 use mathlib.Core.Logic.{_⊎_, inl, inr}
 use Prim.Native.Nat.{ℕ, _+_, _<_, _≤_}
 use native.Mathlib.Omega.{arith}
@@ -33,9 +33,9 @@ use Rattle.table_rules.specs.Rules.Classes.{sortOf, classCount, flatClass, rang
 use Rattle.table_rules.specs.Rules.Rows.{tableRows, usable}
 use Rattle.table_rules.specs.Rules.Order.{scanned}
 use Rattle.table_rules.specs.Rules.Terms.{literalOf}
-use Rattle.table_rules.specs.Rules.Choosing.{limit, runOf, answerFor, Prices, pricesFor}
+use Rattle.table_rules.specs.Rules.Choosing.{limit, runOver, runOf, answerFor, Prices, pricesFor}
 use Rattle.table_rules.specs.Rules.Facts.{Known}
-use Rattle.table_rules.proofs.Rules.CoverLaws.{rangeOf-eq, scanned-within}
+use Rattle.table_rules.proofs.Rules.CoverLaws.{rangeOf-eq, one-below, scanned-within}
 use Rattle.table_rows.proofs.Held.KnownLaws.{known-of-accepted}
 use Rattle.table_rows.proofs.LoadLaws.{accepted-of}
 use Rattle.answer_rules.specs.Answers.{Answer, value, refusal, After, refused}
@@ -221,9 +221,10 @@ pub pass-count :
     root < length (t .sorts) →
     p ≡ runOf t root .passes →
     PassCount t root p
-unfolding runOf
+unfolding runOver
 pass-count t known root p h e =
-    let q = promises limit (scanned t root) (classCount t) (scanned-within t known root h) in
+    let q = promises limit (scanned t (root ∷ [])) (classCount t)
+    (scanned-within t known (root ∷ []) (one-below (length (t .sorts)) root h)) in
     record {
       run = runOf t root;
       first-still = q .first-still;

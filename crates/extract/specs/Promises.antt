@@ -4,7 +4,7 @@
 -- Assumes nothing: statements, kept by `promises` of proofs/Promises.antt.
 use mathlib.Core.Path.{_≡_}
 use mathlib.Core.Bool.{true, false}
-use mathlib.Core.List.{List}
+use mathlib.Core.List.{List, [], _∷_}
 use mathlib.Core.Logic.{_↔_, _⊎_}
 use Prim.Native.Nat.{ℕ, _+_, _<_, _≤_}
 use lib.IntN.{ℤ}
@@ -73,7 +73,7 @@ OfClasses P =
 -- with a cost"
 pub record PassCount (t : Table) (root p : ℕ) : Type 0 where
   pub run : Run
-  pub first-still : FirstStill limit (scanned t root) (blank (classCount t)) run
+  pub first-still : FirstStill limit (scanned t (root ∷ [])) (blank (classCount t)) run
   pub counted : p ≡ run .passes
   pub few : p ≤ costed (run .state .ranks) + 1
 

@@ -2,7 +2,7 @@
 use Prim.{tt}
 use Prim.Native.Nat.{ℕ, _*_, _≤_}
 use mathlib.Core.Path.{_≡_, refl, ap, sym, _∙_, subst}
-use mathlib.Core.List.{List, map}
+use mathlib.Core.List.{List, [], _∷_, map}
 use native.Mathlib.Omega.{arith}
 use lib.IntN.{ℤ}
 use lib.ListN.{length, length-map}
@@ -165,9 +165,9 @@ module _ {kinds classes : List ℕ} {literals : List ℤ} {names declared costs 
             row-functions-are = h .rows-held .functions-are;
             cells-are = h .rows-held .cells-are;
             reached =
-                subst (λ (x : Loaded). OnClass x (λ n m w. Flattened t s n m w order flat heads starts children))
+                subst (λ (x : Loaded). OnClass x (λ n m w. Flattened t (s ∷ []) n m w order flat heads starts children))
                 (sym q)
-                (reached-of-opened o (λ n m w. Flattened t s n m w order flat heads starts children) (w .reached));
+                (reached-of-opened o (λ n m w. Flattened t (s ∷ []) n m w order flat heads starts children) (w .reached));
           });
     }
 

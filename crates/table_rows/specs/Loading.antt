@@ -2,7 +2,7 @@
 use Prim.{Unit}
 use Prim.Native.Nat.{ℕ}
 use mathlib.Core.Path.{_≡_}
-use mathlib.Core.List.{List, map}
+use mathlib.Core.List.{List, [], _∷_, map}
 use lib.IntN.{ℤ}
 use lib.ListN.{length, replicate}
 use Rattle.refusal.specs.declared.Refusal.{Refusal}
@@ -70,7 +70,7 @@ pub record Standing (t : Table) (s : ℕ) (r : Loaded) (literals : List ℤ) (na
   pub arities-are : arities ≡ pad 128 (map (λ (f : Function). length (f .arguments)) (t .functions))
   pub row-functions-are : rowFunctions ≡ pad 1024 (map (λ (r : Row). r .function) (t .rows))
   pub cells-are : cells ≡ pad 9216 (blocks (λ (r : Row). pad 9 (r .cells)) (t .rows))
-  pub reached : OnClass r (λ n m w. Flattened t s n m w order flat heads starts children)
+  pub reached : OnClass r (λ n m w. Flattened t (s ∷ []) n m w order flat heads starts children)
 
 pub record Loads (g : Got Table) (s v : ℕ) (r : Loaded) (literals : List ℤ) (names arities rowFunctions cells : List ℕ)
     (order flat heads starts children : List ℕ) : Type 0 where

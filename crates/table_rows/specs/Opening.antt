@@ -2,7 +2,7 @@
 use Prim.{Unit}
 use Prim.Native.Nat.{ℕ}
 use mathlib.Core.Path.{_≡_}
-use mathlib.Core.List.{List}
+use mathlib.Core.List.{List, [], _∷_}
 use Rattle.file_rules.specs.Table.{Table}
 use Rattle.table_rows.specs.Standing.{StandsWhole}
 use Rattle.table_rows.specs.Rooted.{rootOf}
@@ -27,7 +27,7 @@ OnClass (Class c n m w) P = P n m w
 -- The answer is the table's root, and the lists hold the rows that its sort reaches.
 pub record OpenedOf (t : Table) (s v : ℕ) (r : Opened) (order flat heads starts children : List ℕ) : Type 0 where
   pub root-is : rootIn r ≡ rootOf t s v
-  pub reached : OnClass r (λ n m w. Flattened t s n m w order flat heads starts children)
+  pub reached : OnClass r (λ n m w. Flattened t (s ∷ []) n m w order flat heads starts children)
 
 -- `OpenedOf` holds of every table that stands in the arrays.
 abbrev pub Opens :

@@ -9,7 +9,7 @@ use crate::prepare::Opened;
 use file_reader::Outcome;
 use refusal::Refusal;
 
-pub mod prepare; // prepare.rt: what the extractor goes by, out of the arrays of a table: its root, and the rows that its root sort reaches
+pub mod prepare; // prepare.rt: what the extractor goes by, out of the arrays of a table: its root, and the rows that root sorts reach
 
 // The first fault, a literal's index, or a flat class with the number of rows that its sort reaches, of their
 // children and of all classes.

@@ -1,6 +1,6 @@
-// What the extractor goes by, out of the arrays of a table: its root, and the rows that its root sort reaches.
+// What the extractor goes by, out of the arrays of a table: its root, and the rows that root sorts reach.
 // From src/extract.rs: the maps by sort name and value (costs, topo_rnk) become flat class numbers.
-ghost use Prim.Native.Nat.{_<_};
+ghost use Rattle.table_rules.specs.Order.{Within};
 ghost use Rattle.table_rows.specs.Standing.{Some, SortsStand, Stands, StandsWhole};
 ghost use Rattle.table_rows.specs.Rooted.{RootIs};
 ghost use Rattle.table_rows.specs.Flattened.{Space, Flattens};
@@ -43,19 +43,19 @@ pub fn root_of(
     Root::Class(bases[s] + value)
 }
 
-// How many rows the root sort reaches, how many children they have in all, and how many classes the table has.
+// How many rows the root sorts reach, how many children they have in all, and how many classes the table has.
 pub struct Flat {
     pub rows: usize,
     pub children: usize,
     pub classes: usize,
 }
 
-// The rows that the root sort reaches, in scan order: their numbers in the file, and as flat rows.
+// The rows that the root sorts reach, in scan order: their numbers in the file, and as flat rows.
 pub fn flatten(
     sorts: usize,
     functions: usize,
     rows: usize,
-    root: u64,
+    roots: &[u64],
     kinds: &[u64],
     classes: &[u64],
     declared: &[u64],
@@ -76,10 +76,10 @@ pub fn flatten(
 ) -> Flat
     requires { ⌜ Some (Stands sorts functions rows (now kinds) (now classes) (now declared) (now costs) (now unextractable)
         (now hidden) (now outputs) (now arities) (now arguments) (now rowfunctions) (now subsumed) (now cells)) ⌝ }
-    requires { ⌜ root < sorts ⌝ }
+    requires { ⌜ Within sorts (now roots) ⌝ }
     requires { ⌜ Space (now order) (now flat) (now heads) (now starts) (now children) ⌝ }
-    ensures { λ r. ⌜ Flattens sorts functions rows root (now (kinds .entry)) (now (classes .entry)) (now (declared .entry))
-        (now (costs .entry)) (now (unextractable .entry)) (now (hidden .entry)) (now (outputs .entry))
+    ensures { λ r. ⌜ Flattens sorts functions rows (now (roots .entry)) (now (kinds .entry)) (now (classes .entry))
+        (now (declared .entry)) (now (costs .entry)) (now (unextractable .entry)) (now (hidden .entry)) (now (outputs .entry))
         (now (arities .entry)) (now (arguments .entry)) (now (rowfunctions .entry)) (now (subsumed .entry))
         (now (cells .entry)) (r .rows) (r .children) (r .classes) (now (order .exit)) (now (flat .exit))
         (now (heads .exit)) (now (starts .exit)) (now (children .exit)) ⌝ }
@@ -90,7 +90,7 @@ pub fn flatten(
         sorts,
         functions,
         rows,
-        root,
+        roots,
         outputs,
         arities,
         arguments,
@@ -172,11 +172,12 @@ pub fn open(
         Root::Bad => Opened::Bad,
         Root::Literal(i) => Opened::Literal(i),
         Root::Class(c) => {
+            let roots: [u64; 1] = [sort];
             let r = flatten(
                 sorts,
                 functions,
                 rows,
-                sort,
+                &roots,
                 kinds,
                 classes,
                 declared,

@@ -1,4 +1,4 @@
--- A fixed case of the scan order, by computing. Assumes nothing.
+-- Fixed cases of the scan order, by computing. Assumes nothing.
 use mathlib.Core.Path.{_≡_, refl}
 use mathlib.Core.List.{[], _∷_}
 use Rattle.table_rules.specs.View.{ScanView}
@@ -27,15 +27,20 @@ five =
     (3 ∷ 0 ∷ 0 ∷ 1 ∷ 0 ∷ 4 ∷ []) (0 ∷ 0 ∷ 1 ∷ 0 ∷ 0 ∷ 0 ∷ [])
 
 -- Sort 4 is an argument of the hidden function alone, so it is not reached.
-pub five-sorts : sortsReached five 0 ≡ 0 ∷ 2 ∷ 1 ∷ []
+pub five-sorts : sortsReached five (0 ∷ []) ≡ 0 ∷ 2 ∷ 1 ∷ []
 unfolding has picked inTurn functionsOf join brought visits sortsReached argumentsIn viewIn
 five-sorts = refl
 
-pub five-functions : functionsInOrder five 0 ≡ 0 ∷ 2 ∷ 3 ∷ []
+-- Two root sorts, the first of them given again: each is in the queue once, in the order given.
+pub five-sorts-of-two : sortsReached five (4 ∷ 0 ∷ 4 ∷ []) ≡ 4 ∷ 0 ∷ 2 ∷ 1 ∷ []
+unfolding has picked inTurn functionsOf join brought visits sortsReached argumentsIn viewIn
+five-sorts-of-two = refl
+
+pub five-functions : functionsInOrder five (0 ∷ []) ≡ 0 ∷ 2 ∷ 3 ∷ []
 unfolding has picked inTurn functionsOf join brought visits sortsReached functionsInOrder argumentsIn viewIn
 five-functions = refl
 
-pub five-rows : rowsInOrder five 0 ≡ 1 ∷ 4 ∷ 0 ∷ []
+pub five-rows : rowsInOrder five (0 ∷ []) ≡ 1 ∷ 4 ∷ 0 ∷ []
 unfolding has picked inTurn functionsOf rowsOf join brought visits sortsReached functionsInOrder
     rowsInOrder argumentsIn viewIn
 five-rows = refl

@@ -3,7 +3,7 @@
 use Prim.Native.Nat.{ℕ, _≤_, _<_}
 use mathlib.Core.Path.{_≡_, refl, sym, _∙_, subst}
 use mathlib.Core.Bool.{Bool, true, _&&_}
-use mathlib.Core.List.{[], _∷_}
+use mathlib.Core.List.{List, []}
 use native.Mathlib.Omega.{arith}
 use borrow.Author.Tests.{eqb-true, eq-eqb}
 use lib.Dec.{eqb}
@@ -14,16 +14,16 @@ use Rattle.table_rules.specs.Order.{
   Within,
   Apart,
   none,
-  more,
   functionsOf,
   rowsOf,
+  join,
   brought,
   sortsReached,
   functionsInOrder,
   rowsInOrder,
   Sound,
 }
-use Rattle.table_rules.proofs.HasLaws.{and-true, has-first, has-get, apart-length}
+use Rattle.table_rules.proofs.HasLaws.{and-true, has-get, apart-length}
 use Rattle.table_rules.proofs.PickedLaws.{
   picked-has,
   picked-finds,
@@ -32,7 +32,7 @@ use Rattle.table_rules.proofs.PickedLaws.{
   inTurn-finds,
   inTurn-apart,
 }
-use Rattle.table_rules.proofs.QueueLaws.{visits-keeps, visits-apart, visits-bring}
+use Rattle.table_rules.proofs.QueueLaws.{join-apart, join-finds, visits-keeps, visits-apart, visits-bring}
 
 -- A function of a sort: it is one of the functions, usable, and that sort is its output sort.
 pub record FunctionOf (v : ScanView) (s f : ℕ) : Type 0 where
@@ -79,56 +79,55 @@ module _ (v : ScanView) where
       picked-finds (rows-test f) r 0 (v .rows) (omega arith) (omega (arith, w .below))
       (rw (w .unsubsumed, eq-eqb (v .function r) f (w .function)))
 
-  module _ (root : ℕ) (sound : Sound v root) where
+  module _ (roots : List ℕ) (sound : Sound v roots) where
     brought-within : (s : ℕ) → Within (v .sorts) (brought v s)
     unfolding brought
     brought-within s a h =
         let w = inTurn-has (v .arguments) a (functionsOf v s) h in
         sound .arguments-below (w .0) (functionsOf-has s (w .0) (w .1) .below) a (w .2)
 
-    first-apart : Apart (v .sorts) (root ∷ [])
-    unfolding has
-    first-apart = more (sound .root-below) refl none
+    first-apart : Apart (v .sorts) (join [] roots)
+    first-apart = join-apart (v .sorts) [] roots none (sound .roots-below)
 
-    pub sortsReached-apart : Apart (v .sorts) (sortsReached v root)
+    pub sortsReached-apart : Apart (v .sorts) (sortsReached v roots)
     unfolding sortsReached
-    sortsReached-apart = visits-apart (brought v) (v .sorts) brought-within (v .sorts) 0 (root ∷ []) first-apart
+    sortsReached-apart = visits-apart (brought v) (v .sorts) brought-within (v .sorts) 0 (join [] roots) first-apart
 
-    pub functionsInOrder-apart : Apart (v .functions) (functionsInOrder v root)
+    pub functionsInOrder-apart : Apart (v .functions) (functionsInOrder v roots)
     unfolding functionsInOrder functionsOf functions-test
     functionsInOrder-apart =
-        inTurn-apart (functionsOf v) (v .functions) (v .sorts) (sortsReached v root) sortsReached-apart
+        inTurn-apart (functionsOf v) (v .functions) (v .sorts) (sortsReached v roots) sortsReached-apart
         (λ s. picked-apart (functions-test s) (v .functions) 0 (v .functions) (omega arith))
         (λ f s t h k. sym (functionsOf-has s f h .output) ∙ functionsOf-has t f k .output)
 
     -- No row comes twice.
-    pub rowsInOrder-apart : Apart (v .rows) (rowsInOrder v root)
+    pub rowsInOrder-apart : Apart (v .rows) (rowsInOrder v roots)
     unfolding rowsInOrder rowsOf rows-test
     rowsInOrder-apart =
-        inTurn-apart (rowsOf v) (v .rows) (v .functions) (functionsInOrder v root) functionsInOrder-apart
+        inTurn-apart (rowsOf v) (v .rows) (v .functions) (functionsInOrder v roots) functionsInOrder-apart
         (λ f. picked-apart (rows-test f) (v .rows) 0 (v .rows) (omega arith))
         (λ r f g h k. sym (rowsOf-has f r h .function) ∙ rowsOf-has g r k .function)
 
-    pub sortsReached-length : length (sortsReached v root) ≤ v .sorts
-    sortsReached-length = apart-length (v .sorts) (sortsReached v root) sortsReached-apart
+    pub sortsReached-length : length (sortsReached v roots) ≤ v .sorts
+    sortsReached-length = apart-length (v .sorts) (sortsReached v roots) sortsReached-apart
 
-    pub functionsInOrder-length : length (functionsInOrder v root) ≤ v .functions
-    functionsInOrder-length = apart-length (v .functions) (functionsInOrder v root) functionsInOrder-apart
+    pub functionsInOrder-length : length (functionsInOrder v roots) ≤ v .functions
+    functionsInOrder-length = apart-length (v .functions) (functionsInOrder v roots) functionsInOrder-apart
 
-    pub rowsInOrder-length : length (rowsInOrder v root) ≤ v .rows
-    rowsInOrder-length = apart-length (v .rows) (rowsInOrder v root) rowsInOrder-apart
+    pub rowsInOrder-length : length (rowsInOrder v roots) ≤ v .rows
+    rowsInOrder-length = apart-length (v .rows) (rowsInOrder v roots) rowsInOrder-apart
 
-    pub root-reached : has root (sortsReached v root) ≡ true
+    pub root-reached : (root : ℕ) → has root roots ≡ true → has root (sortsReached v roots) ≡ true
     unfolding sortsReached
-    root-reached = visits-keeps (brought v) root (v .sorts) 0 (root ∷ []) (has-first root root [] refl)
+    root-reached root h = visits-keeps (brought v) root (v .sorts) 0 (join [] roots) (join-finds root [] roots h)
 
     -- The argument sorts of a usable function of a reached sort are reached.
     pub arguments-reached :
-        (f a : ℕ) → f < v .functions → v .usable f ≡ true → has (v .output f) (sortsReached v root) ≡ true →
-        has a (v .arguments f) ≡ true → has a (sortsReached v root) ≡ true
+        (f a : ℕ) → f < v .functions → v .usable f ≡ true → has (v .output f) (sortsReached v roots) ≡ true →
+        has a (v .arguments f) ≡ true → has a (sortsReached v roots) ≡ true
     unfolding sortsReached brought
     arguments-reached f a l u h k =
-        visits-bring (brought v) (v .sorts) brought-within (v .output f) a (root ∷ []) first-apart h
+        visits-bring (brought v) (v .sorts) brought-within (v .output f) a (join [] roots) first-apart h
         (inTurn-finds (v .arguments) a f (functionsOf v (v .output f))
         (functionsOf-finds (v .output f) f (record { below = l; usable = u; output = refl })) k)
 
@@ -138,21 +137,21 @@ module _ (v : ScanView) where
       pub unsubsumed : v .unsubsumed r ≡ true
       pub function-below : v .function r < v .functions
       pub usable : v .usable (v .function r) ≡ true
-      pub output-reached : has (v .output (v .function r)) (sortsReached v root) ≡ true
+      pub output-reached : has (v .output (v .function r)) (sortsReached v roots) ≡ true
       pub arguments-reached : (a : ℕ) → has a (v .arguments (v .function r)) ≡ true → has a
-          (sortsReached v root) ≡ true
+          (sortsReached v roots) ≡ true
 
-    pub rowsInOrder-has : (r : ℕ) → has r (rowsInOrder v root) ≡ true → Scanned r
+    pub rowsInOrder-has : (r : ℕ) → has r (rowsInOrder v roots) ≡ true → Scanned r
     unfolding rowsInOrder functionsInOrder
     rowsInOrder-has r h =
-        let w = inTurn-has (rowsOf v) r (functionsInOrder v root) h in
+        let w = inTurn-has (rowsOf v) r (functionsInOrder v roots) h in
         let row = rowsOf-has (w .0) r (w .2) in
-        let s = inTurn-has (functionsOf v) (w .0) (sortsReached v root) (w .1) in
+        let s = inTurn-has (functionsOf v) (w .0) (sortsReached v roots) (w .1) in
         let fn = functionsOf-has (s .0) (w .0) (s .2) in
         let e = row .function in
-        let o : has (v .output (v .function r)) (sortsReached v root) ≡ true =
-        subst (λ (f : ℕ). has (v .output f) (sortsReached v root) ≡ true) (sym e)
-        (subst (λ (k : ℕ). has k (sortsReached v root) ≡ true) (sym (fn .output)) (s .1)) in
+        let o : has (v .output (v .function r)) (sortsReached v roots) ≡ true =
+        subst (λ (f : ℕ). has (v .output f) (sortsReached v roots) ≡ true) (sym e)
+        (subst (λ (k : ℕ). has k (sortsReached v roots) ≡ true) (sym (fn .output)) (s .1)) in
         record {
           below = row .below;
           unsubsumed = row .unsubsumed;
@@ -164,18 +163,18 @@ module _ (v : ScanView) where
               (subst (λ (f : ℕ). v .usable f ≡ true) (sym e) (fn .usable)) o k;
         }
 
-    pub rowsInOrder-get : (i : ℕ) → i < length (rowsInOrder v root) → Scanned (getD (rowsInOrder v root) i 0)
-    rowsInOrder-get i h = rowsInOrder-has (getD (rowsInOrder v root) i 0) (has-get (rowsInOrder v root) i h)
+    pub rowsInOrder-get : (i : ℕ) → i < length (rowsInOrder v roots) → Scanned (getD (rowsInOrder v roots) i 0)
+    rowsInOrder-get i h = rowsInOrder-has (getD (rowsInOrder v roots) i 0) (has-get (rowsInOrder v roots) i h)
 
     -- Every usable row whose output sort is reached is scanned.
     pub rowsInOrder-finds :
         (r : ℕ) → r < v .rows → v .unsubsumed r ≡ true → v .function r < v .functions →
-        v .usable (v .function r) ≡ true → has (v .output (v .function r)) (sortsReached v root) ≡ true →
-        has r (rowsInOrder v root) ≡ true
+        v .usable (v .function r) ≡ true → has (v .output (v .function r)) (sortsReached v roots) ≡ true →
+        has r (rowsInOrder v roots) ≡ true
     unfolding rowsInOrder functionsInOrder
     rowsInOrder-finds r l s k u h =
-        inTurn-finds (rowsOf v) r (v .function r) (functionsInOrder v root)
-        (inTurn-finds (functionsOf v) (v .function r) (v .output (v .function r)) (sortsReached v root) h
+        inTurn-finds (rowsOf v) r (v .function r) (functionsInOrder v roots)
+        (inTurn-finds (functionsOf v) (v .function r) (v .output (v .function r)) (sortsReached v roots) h
         (functionsOf-finds (v .output (v .function r)) (v .function r)
         (record { below = k; usable = u; output = refl })))
         (rowsOf-finds (v .function r) r (record { below = l; unsubsumed = s; function = refl }))

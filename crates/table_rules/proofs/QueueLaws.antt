@@ -75,7 +75,7 @@ join-extends q (a ∷ l) = by-test (has a q)
     (λ e. rw (join-new a q l e) (extends-trans q (q ++ (a ∷ [])) (join (q ++ (a ∷ [])) l)
     (a ∷ [], refl) (join-extends (q ++ (a ∷ [])) l)))
 
-join-finds : (x : ℕ) (q l : List ℕ) → has x l ≡ true → has x (join q l) ≡ true
+pub join-finds : (x : ℕ) (q l : List ℕ) → has x l ≡ true → has x (join q l) ≡ true
 join-finds x q [] h = has-nil x h
 join-finds x q (a ∷ l) h = has-cons x a l h
     (λ e. by-test (has a q)
@@ -249,19 +249,18 @@ pub record Reaching (s : ℕ) (bring : ℕ → List ℕ) (wanted q : List ℕ) (
   pub is : visits bring (s - i) i (take n q) ≡ wanted
 
 pub reaching-start :
-    (s root : ℕ) (bring : ℕ → List ℕ) (q : List ℕ) →
+    (s : ℕ) (roots : List ℕ) (bring : ℕ → List ℕ) (q : List ℕ) (n : ℕ) →
     s ≤ length q →
-    root < s →
-    Reaching s bring (visits bring s 0 (root ∷ [])) (set q 0 root) 1 0
-unfolding has
-reaching-start s root bring q l r =
-    let e : take 1 (set q 0 root) ≡ root ∷ [] = take-set-last q 0 root (omega arith) in
-    record {
-      room = rw length-set (omega arith);
-      all = rw length-set l;
-      apart = rw e (more r refl none);
-      is = rw (sub-zero, e);
-    }
+    Within s roots →
+    n ≤ length q →
+    take n q ≡ join [] roots →
+    Reaching s bring (visits bring s 0 (join [] roots)) q n 0
+reaching-start s roots bring q n l w r e = record {
+  room = r;
+  all = l;
+  apart = rw e (join-apart s [] roots none w);
+  is = rw (sub-zero, e);
+}
 
 module _ (s : ℕ) (bring : ℕ → List ℕ) (wanted q : List ℕ) (n i : ℕ) (v : Reaching s bring wanted q n i) where
   pub reaching-few : n ≤ s

@@ -56,11 +56,11 @@ pub record Filled (list : List ℕ) (r : ℕ) (wanted : List ℕ) : Type 0 where
   pub held : take r list ≡ wanted
 
 -- What scan_rows asks of its arguments.
-pub record ScanArrays (sorts functions rows root : ℕ)
-    (outputs arities arguments unextractable hidden rowFunctions subsumed order : List ℕ) : Type 0 where
+pub record ScanArrays (sorts functions rows : ℕ)
+    (roots outputs arities arguments unextractable hidden rowFunctions subsumed order : List ℕ) : Type 0 where
   pub sorts-most : sorts ≤ 32
   pub functions-most : functions ≤ 128
-  pub root-below : root < sorts
+  pub roots-below : Within sorts roots
   pub outputs-long : functions ≤ length outputs
   pub unextractable-long : functions ≤ length unextractable
   pub hidden-long : functions ≤ length hidden

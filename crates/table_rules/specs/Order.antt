@@ -54,19 +54,20 @@ visits bring zero i queue = queue
 visits bring (suc n) i queue =
     cond (ltb i (length queue)) (visits bring n (suc i) (join queue (bring (getD queue i 0)))) queue
 
--- "from the root sort". No sort joins twice, so as many visits as there are sorts are enough.
-unfoldable pub sortsReached : ScanView → ℕ → List ℕ
-sortsReached v root = visits (brought v) (v .sorts) 0 (root ∷ [])
+-- "from the root sort": the queue begins with the root sorts, of which a call of document 01 has one and the request of
+-- document 02 for a function's rows several. No sort joins twice, so as many visits as there are sorts are enough.
+unfoldable pub sortsReached : ScanView → List ℕ → List ℕ
+sortsReached v roots = visits (brought v) (v .sorts) 0 (join [] roots)
 
 -- "A pass takes functions in that order": each visited sort adds its own.
-unfoldable pub functionsInOrder : ScanView → ℕ → List ℕ
-functionsInOrder v root = inTurn (functionsOf v) (sortsReached v root)
+unfoldable pub functionsInOrder : ScanView → List ℕ → List ℕ
+functionsInOrder v roots = inTurn (functionsOf v) (sortsReached v roots)
 
 -- "and their unsubsumed rows in file order."
-unfoldable pub rowsInOrder : ScanView → ℕ → List ℕ
-rowsInOrder v root = inTurn (rowsOf v) (functionsInOrder v root)
+unfoldable pub rowsInOrder : ScanView → List ℕ → List ℕ
+rowsInOrder v roots = inTurn (rowsOf v) (functionsInOrder v roots)
 
--- The root is a sort, and so is every argument sort.
-pub record Sound (v : ScanView) (root : ℕ) : Type 0 where
-  pub root-below : root < v .sorts
+-- The roots are sorts, and so is every argument sort.
+pub record Sound (v : ScanView) (roots : List ℕ) : Type 0 where
+  pub roots-below : Within (v .sorts) roots
   pub arguments-below : (f : ℕ) → f < v .functions → Within (v .sorts) (v .arguments f)

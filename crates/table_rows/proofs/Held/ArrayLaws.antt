@@ -9,7 +9,7 @@ use borrow.Author.Tests.{eq-eqb}
 use lib.ListN.{length, take, length-append, length-replicate}
 use Rattle.file_rules.specs.Table.{Table}
 use Rattle.file_rules.specs.Arrays.{padWith, pad}
-use Rattle.table_rules.specs.Order.{rowsInOrder}
+use Rattle.table_rules.specs.Order.{Within, rowsInOrder}
 use Rattle.table_rules.specs.Arrays.{viewIn, Columns, Filled, ScanArrays}
 use Rattle.table_rules.proofs.HasLaws.{has-place}
 use Rattle.table_flat.specs.Arrays.{Each}
@@ -71,15 +71,15 @@ module _ (t : Table) (known : Known t) where
 
     -- The arrays are as `scan_rows` asks.
     pub scan-arrays-held :
-        (root : ℕ) (order : List ℕ) →
-        root < length (t .sorts) →
+        (roots order : List ℕ) →
+        Within (length (t .sorts)) roots →
         length (t .rows) ≤ length order →
-        ScanArrays (length (t .sorts)) (length (t .functions)) (length (t .rows)) root outputs arities arguments
+        ScanArrays (length (t .sorts)) (length (t .functions)) (length (t .rows)) roots outputs arities arguments
         unextractable hidden rowFunctions subsumed order
-    scan-arrays-held root order l k = record {
+    scan-arrays-held roots order l k = record {
       sorts-most = omega (arith, known .few-sorts);
       functions-most = omega (arith, known .few-functions);
-      root-below = l;
+      roots-below = l;
       outputs-long = rw (h .functions-held .outputs-are) (padded-long 128 (length (t .functions)) _ (omega
           (arith, known .few-functions)));
       unextractable-long = rw (h .functions-held .unextractable-are) (padded-long 128 (length (t .functions)) _
@@ -96,14 +96,14 @@ module _ (t : Table) (known : Known t) where
 
     -- What `scan_rows` leaves is the scan order of the table.
     pub order-held :
-        (root r : ℕ) (order : List ℕ) →
+        (roots : List ℕ) (r : ℕ) (order : List ℕ) →
         Filled order r (rowsInOrder (viewIn (length (t .sorts)) (length (t .functions)) (length
         (t .rows)) outputs arities
-        arguments unextractable hidden rowFunctions subsumed) root) →
-        take r order ≡ scanOrder t root
+        arguments unextractable hidden rowFunctions subsumed) roots) →
+        take r order ≡ scanOrder t roots
     unfolding scanOrder
-    order-held root r order w =
+    order-held roots r order w =
         w .held
-        ∙ ap (λ v. rowsInOrder v root)
+        ∙ ap (λ v. rowsInOrder v roots)
         (view-held t known kinds classes names declared costs unextractable hidden outputs
         arities arguments rowFunctions subsumed cells h)

@@ -12,6 +12,7 @@ use Rattle.price_passes.specs.Flat.{rowsOf, FlatOk, childOf as flatChild}
 use Rattle.choice_rules.specs.Demand.Orders.{inOrder}
 use Rattle.file_rules.specs.Table.{Table}
 use Rattle.file_rules.specs.Sorts.{classesOf}
+use Rattle.table_rules.specs.Order.{Within}
 use Rattle.table_rules.specs.Arrays.{argumentsIn}
 use Rattle.table_rules.proofs.OrderLaws.{rowsInOrder-length, rowsInOrder-get}
 use Rattle.table_flat.specs.Classes.{Bases}
@@ -302,18 +303,18 @@ module _ (t : Table) (known : Known t)
   }
 
   -- The scan order lists rows of the table, at most 1,024.
-  module _ (root : ℕ) (small : root < length (t .sorts)) where
-    pub order-listed : Listed (length (t .rows)) (scanOrder t root)
+  module _ (roots : List ℕ) (small : Within (length (t .sorts)) roots) where
+    pub order-listed : Listed (length (t .rows)) (scanOrder t roots)
     unfolding scanOrder viewOf
     order-listed = record {
-      few = omega (arith, rowsInOrder-length (viewOf t) root (view-sound t known root small), known .few-rows);
-      below = λ i l. rowsInOrder-get (viewOf t) root (view-sound t known root small) i l .below;
+      few = omega (arith, rowsInOrder-length (viewOf t) roots (view-sound t known roots small), known .few-rows);
+      below = λ i l. rowsInOrder-get (viewOf t) roots (view-sound t known roots small) i l .below;
     }
 
     -- The rows of the scan order can be laid.
     pub rows-fit-scanned :
         (order : List ℕ) →
-        order ≡ scanOrder t root →
+        order ≡ scanOrder t roots →
         length (t .sorts) ≤ length bases →
         RowsFit kinds bases declared costs outputs arities arguments rowFunctions cells order
     rows-fit-scanned order e long =
@@ -324,23 +325,23 @@ module _ (t : Table) (known : Known t)
     -- What is laid in scan order is the rows that the rules speak of, over the table's classes.
     pub laid-scanned :
         (order : List ℕ) (m : ℕ) (flat heads starts children : List ℕ) →
-        order ≡ scanOrder t root →
+        order ≡ scanOrder t roots →
         Laid kinds bases declared costs outputs arities arguments rowFunctions cells order m flat
         heads starts children →
         rowsOf (take (length order) flat) (take (length order) heads) (take (length order + 1) starts)
         (take m children)
-        ≡ scanned t root
+        ≡ scanned t roots
     unfolding scanned inOrder
     laid-scanned order m flat heads starts children e v =
         v .rows
         ∙ ap (map (rowIn kinds bases declared costs outputs arities arguments rowFunctions cells)) e
         ∙ map-same (rowIn kinds bases declared costs outputs arities arguments rowFunctions cells)
-        (rowAt (tableRows t)) (scanOrder t root)
-        (λ k l. row-held (getD (scanOrder t root) k 0) (order-listed .below k l))
+        (rowAt (tableRows t)) (scanOrder t roots)
+        (λ k l. row-held (getD (scanOrder t roots) k 0) (order-listed .below k l))
 
     pub laid-flat-scanned :
         (order : List ℕ) (m : ℕ) (flat heads starts children : List ℕ) →
-        order ≡ scanOrder t root →
+        order ≡ scanOrder t roots →
         length (t .sorts) ≤ length bases →
         Laid kinds bases declared costs outputs arities arguments rowFunctions cells order m flat
         heads starts children →

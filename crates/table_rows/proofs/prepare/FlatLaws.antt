@@ -1,4 +1,4 @@
--- The rows that a root sort reaches, from the arrays of an accepted table. Assumes nothing.
+-- The rows that roots sorts reach, from the arrays of an accepted table. Assumes nothing.
 use Prim.Native.Nat.{ℕ, _+_, _*_, _≤_, _<_}
 use mathlib.Core.Path.{_≡_, ap, sym, _∙_, subst}
 use mathlib.Core.List.{List}
@@ -7,7 +7,7 @@ use native.Mathlib.Numerals.{add-one}
 use lib.ListN.{length, getD, take}
 use lib.Seq.{length-take-le, getD-take}
 use Rattle.file_rules.specs.Table.{Table}
-use Rattle.table_rules.specs.Order.{rowsInOrder}
+use Rattle.table_rules.specs.Order.{Within, rowsInOrder}
 use Rattle.table_rules.specs.Arrays.{viewIn, Filled, ScanArrays}
 use Rattle.table_rules.proofs.OrderLaws.{rowsInOrder-length}
 use Rattle.table_flat.specs.Classes.{firstClass, Bases}
@@ -62,28 +62,28 @@ module _ (sorts functions rows : ℕ)
   pub count-few : firstClass classes sorts ≤ 512
   count-few = omega (arith, count-is, known .few-classes)
 
-  module _ (root : ℕ) (l : root < sorts) where
-    below : root < length (t .sorts)
-    below = omega (arith, h .sorts-are)
+  module _ (roots : List ℕ) (l : Within sorts roots) where
+    below : Within (length (t .sorts)) roots
+    below = rw (h .sorts-are) l
 
     -- The arrays are as the scan asks.
     pub scan-ready :
         (order : List ℕ) →
         1024 ≤ length order →
-        ScanArrays sorts functions rows root outputs arities arguments unextractable hidden rowFunctions subsumed order
+        ScanArrays sorts functions rows roots outputs arities arguments unextractable hidden rowFunctions subsumed order
     scan-ready order k =
         rw (h .sorts-are, h .functions-are, h .rows-are) at
         (scan-arrays-held t known kinds classes (h .names) declared costs unextractable hidden outputs arities arguments
-        rowFunctions subsumed cells (h .held) root order below (omega (arith, known .few-rows)))
+        rowFunctions subsumed cells (h .held) roots order below (omega (arith, known .few-rows)))
 
     module _ (n : ℕ) (order : List ℕ)
         (filled : Filled order n
         (rowsInOrder (viewIn sorts functions rows outputs arities arguments unextractable hidden
-        rowFunctions subsumed) root)) where
-      order-is : take n order ≡ scanOrder t root
+        rowFunctions subsumed) roots)) where
+      order-is : take n order ≡ scanOrder t roots
       order-is =
           order-held t known kinds classes (h .names) declared costs unextractable hidden outputs arities arguments
-          rowFunctions subsumed cells (h .held) root n order
+          rowFunctions subsumed cells (h .held) roots n order
           (rw (← h .sorts-are, ← h .functions-are, ← h .rows-are) at filled)
 
       pub order-length : length (take n order) ≡ n
@@ -96,7 +96,7 @@ module _ (sorts functions rows : ℕ)
             arith,
             order-length,
             ap length order-is,
-            rowsInOrder-length (viewOf t) root (view-sound t known root below),
+            rowsInOrder-length (viewOf t) roots (view-sound t known roots below),
           )
 
       -- The rows in scan order can be laid, and there is room for them.
@@ -112,7 +112,7 @@ module _ (sorts functions rows : ℕ)
         lay-ready =
             rows-fit-scanned t known kinds classes (h .names) declared costs unextractable hidden outputs arities
             arguments
-            rowFunctions subsumed cells (h .held) bases bases-are root below (take n order) order-is bases-long
+            rowFunctions subsumed cells (h .held) bases bases-are roots below (take n order) order-is bases-long
 
         pub lay-room :
             (flat heads starts children : List ℕ) →
@@ -125,14 +125,14 @@ module _ (sorts functions rows : ℕ)
           children-room = omega (arith, order-length, order-few, known .few-rows);
         }
 
-        -- What is laid is the rows that the root sort reaches.
+        -- What is laid is the rows that the roots sorts reach.
         pub flattened :
             (m w : ℕ) (flat heads starts children : List ℕ) →
             w ≡ firstClass classes sorts →
             Laid kinds bases declared costs outputs arities arguments rowFunctions cells (take n order) m flat heads
             starts
             children →
-            Flattened t root n m w order flat heads starts children
+            Flattened t roots n m w order flat heads starts children
         flattened m w flat heads starts children e v = record {
           few = order-few;
           classes-are = e ∙ count-is;
@@ -145,18 +145,18 @@ module _ (sorts functions rows : ℕ)
           rows-are = rw order-length at
               (laid-scanned t known kinds classes (h .names) declared costs unextractable hidden outputs arities
               arguments
-              rowFunctions subsumed cells (h .held) bases bases-are root below (take n order) m flat heads starts
+              rowFunctions subsumed cells (h .held) bases bases-are roots below (take n order) m flat heads starts
               children
               order-is v);
           flat-ok = rw order-length at
               (laid-flat-scanned t known kinds classes (h .names) declared costs unextractable hidden outputs arities
-              arguments rowFunctions subsumed cells (h .held) bases bases-are root below (take n order) m flat heads
+              arguments rowFunctions subsumed cells (h .held) bases bases-are roots below (take n order) m flat heads
               starts
               children order-is bases-long v);
           below = λ i d. rw order-is
               (order-listed t known kinds classes (h .names) declared costs unextractable hidden outputs arities
               arguments
-              rowFunctions subsumed cells (h .held) bases bases-are root below .below i
+              rowFunctions subsumed cells (h .held) bases bases-are roots below .below i
               (omega (arith, order-length, ap length order-is)));
           arity = λ i d. subst
               (λ (k : ℕ). getD (take (k + 1) starts) (i + 1) 0 ≤ getD (take (k + 1) starts) i 0 + 8) order-length

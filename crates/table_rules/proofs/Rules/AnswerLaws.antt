@@ -2,7 +2,7 @@
 -- accepted table. Assumes nothing.
 use mathlib.Core.Path.{_≡_, refl, sym, _∙_, subst}
 use mathlib.Core.Bool.{true}
-use mathlib.Core.List.{[]}
+use mathlib.Core.List.{List, [], _∷_}
 use Prim.Native.Nat.{ℕ, _<_}
 use native.Mathlib.Omega.{arith}
 use borrow.Author.Tests.{ltb-true, lt-ltb}
@@ -20,15 +20,31 @@ use Rattle.choice_rules.specs.Demand.Deriving.{Cheapest, Answered}
 use Rattle.choice_rules.proofs.Demand.OrderLaws.{inOrder-length, inOrder-get}
 use Rattle.choice_rules.proofs.Demand.DemandLaws.{answered-of-right}
 use Rattle.file_rules.specs.Table.{Table}
-use Rattle.table_rules.specs.Order.{Apart}
+use Rattle.table_rules.specs.Order.{Within, Apart}
 use Rattle.table_rules.proofs.OrderLaws.{rowsInOrder-apart}
 use Rattle.table_rules.specs.Rules.Classes.{classCount}
 use Rattle.table_rules.specs.Rules.Rows.{tableRows, usable}
 use Rattle.table_rules.specs.Rules.Order.{viewOf, scanOrder, scanned}
-use Rattle.table_rules.specs.Rules.Choosing.{limit, Prices, answerFor, runOf, edgeFor, edgeRow, pricesFor}
+use Rattle.table_rules.specs.Rules.Choosing.{
+  limit,
+  Prices,
+  answerFor,
+  runOver,
+  edgeFor,
+  edgeRow,
+  pricesOver,
+  pricesFor,
+}
 use Rattle.table_rules.specs.Rules.Prices.{Priced, TruePrices}
 use Rattle.table_rules.specs.Rules.Facts.{Known}
-use Rattle.table_rules.proofs.Rules.CoverLaws.{ReachedClass, view-sound, scanOrder-covers, scanned-within}
+use Rattle.table_rules.proofs.Rules.CoverLaws.{
+  Reached,
+  ReachedClass,
+  one-below,
+  view-sound,
+  scanOrder-covers,
+  scanned-within,
+}
 
 differ : {P : Type 0} → _≡_ {A = ℕ} 0 1 → P
 differ z = absurd (omega arith)
@@ -85,64 +101,68 @@ module _ (t : Table) (In : ℕ → Type 0) (p : Prices) (true-ones : TruePrices 
       same-cost h = cc
 
 -- the run's prices are true
-module _ (t : Table) (k : Known t) (root : ℕ) (h : root < length (t .sorts)) where
-  run-right : (c : ℕ) → ReachedClass t root c → Answered limit (tableRows t) (usable t) c (answerFor (pricesFor t root) c)
-  unfolding answerFor runOf scanned
+module _ (t : Table) (k : Known t) (roots : List ℕ) (h : Within (length (t .sorts)) roots) where
+  run-right : (c : ℕ) → Reached t roots c → Answered limit (tableRows t) (usable t) c (answerFor (pricesOver t roots) c)
+  unfolding answerFor runOver scanned
   run-right c r =
-      answered-of-right (tableRows t) (usable t) (scanOrder t root) (ReachedClass t root) (scanOrder-covers t k root h)
-      limit c r (answerFor (pricesFor t root) c)
-      (promises limit (scanned t root) (classCount t) (scanned-within t k root h) .right c)
+      answered-of-right (tableRows t) (usable t) (scanOrder t roots) (Reached t roots) (scanOrder-covers t k roots h)
+      limit c r (answerFor (pricesOver t roots) c)
+      (promises limit (scanned t roots) (classCount t) (scanned-within t k roots h) .right c)
 
   -- the edge of a class, in the scan order and in the file
-  module _ (c : ℕ) (q : Priced (pricesFor t root) c) where
+  module _ (c : ℕ) (q : Priced (pricesOver t roots) c) where
     scanned-edge :
-        Edge limit (runOf t root .state .costs) (runOf t root .state .ranks) (scanned t root) c (edgeFor t root c)
-    unfolding runOf edgeFor
+        Edge limit (runOver t roots .state .costs) (runOver t roots .state .ranks) (scanned t roots) c (edgeFor t roots c)
+    unfolding runOver edgeFor
     scanned-edge =
-        promises limit (scanned t root) (classCount t) (scanned-within t k root h) .edge c (q .ranked) (q .below)
+        promises limit (scanned t roots) (classCount t) (scanned-within t k roots h) .edge c (q .ranked) (q .below)
 
-    place : edgeFor t root c < length (scanOrder t root)
+    place : edgeFor t roots c < length (scanOrder t roots)
     unfolding scanned
     place =
-        subst (λ (n : ℕ). edgeFor t root c < n) (inOrder-length (tableRows t) (scanOrder t root)) (scanned-edge .known)
+        subst (λ (n : ℕ). edgeFor t roots c < n) (inOrder-length (tableRows t) (scanOrder t roots)) (scanned-edge .known)
 
-    row-is : rowAt (scanned t root) (edgeFor t root c) ≡ rowAt (tableRows t) (edgeRow t root c)
+    row-is : rowAt (scanned t roots) (edgeFor t roots c) ≡ rowAt (tableRows t) (edgeRow t roots c)
     unfolding scanned edgeRow
-    row-is = inOrder-get (tableRows t) (scanOrder t root) (edgeFor t root c) place
+    row-is = inOrder-get (tableRows t) (scanOrder t roots) (edgeFor t roots c) place
 
     run-named :
-        Edge limit (runOf t root .state .costs) (runOf t root .state .ranks) (tableRows t) c (edgeRow t root c)
+        Edge limit (runOver t roots .state .costs) (runOver t roots .state .ranks) (tableRows t) c (edgeRow t roots c)
     unfolding edgeRow
     run-named = record {
-      known = scanOrder-covers t k root h .known (edgeFor t root c) place;
+      known = scanOrder-covers t k roots h .known (edgeFor t roots c) place;
       output = subst (λ (r : Row). r .output ≡ c) row-is (scanned-edge .output);
       cost =
           subst
-          (λ (r : Row). rowCost limit (runOf t root .state .costs) r ≡ getD (runOf t root .state .costs) c 0)
+          (λ (r : Row). rowCost limit (runOver t roots .state .costs) r ≡ getD (runOver t roots .state .costs) c 0)
           row-is (scanned-edge .cost);
       under =
           subst
           (λ (r : Row).
           (j : ℕ) →
           j < length (r .children) →
-          Under limit (runOf t root .state .costs) (runOf t root .state .ranks)
-          (getD (runOf t root .state .ranks) c 0) (childAt r j))
+          Under limit (runOver t roots .state .costs) (runOver t roots .state .ranks)
+          (getD (runOver t roots .state .ranks) c 0) (childAt r j))
           row-is (scanned-edge .under);
     }
 
-    run-usable : usable t (edgeRow t root c) ≡ true
+    run-usable : usable t (edgeRow t roots c) ≡ true
     unfolding edgeRow
-    run-usable = scanOrder-covers t k root h .usable-ones (edgeFor t root c) place
+    run-usable = scanOrder-covers t k roots h .usable-ones (edgeFor t roots c) place
 
-  scan-apart : Apart (length (t .rows)) (scanOrder t root)
+  scan-apart : Apart (length (t .rows)) (scanOrder t roots)
   unfolding scanOrder viewOf
-  scan-apart = rowsInOrder-apart (viewOf t) root (view-sound t k root h)
+  scan-apart = rowsInOrder-apart (viewOf t) roots (view-sound t k roots h)
 
-  pub run-true : TruePrices t (ReachedClass t root) (pricesFor t root)
-  run-true = record {
-    covers = scanOrder-covers t k root h;
+  pub prices-true : TruePrices t (Reached t roots) (pricesOver t roots)
+  prices-true = record {
+    covers = scanOrder-covers t k roots h;
     apart = scan-apart;
     right = run-right;
     named = run-named;
     is-usable = run-usable;
   }
+
+pub run-true :
+    (t : Table) → Known t → (root : ℕ) → root < length (t .sorts) → TruePrices t (ReachedClass t root) (pricesFor t root)
+run-true t k root h = prices-true t k (root ∷ []) (one-below (length (t .sorts)) root h)

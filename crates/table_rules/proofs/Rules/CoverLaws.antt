@@ -1,4 +1,4 @@
--- The scan order has every usable row that can take part in a term of the root's sort. Assumes nothing.
+-- The scan order has every usable row that can take part in a term of a root's sort. Assumes nothing.
 use mathlib.Core.Path.{_≡_, refl, ap, sym, _∙_, subst}
 use mathlib.Core.Bool.{true, false, _&&_}
 use mathlib.Core.List.{List, [], _∷_}
@@ -12,8 +12,8 @@ use Rattle.choice_rules.specs.Rows.{Child, literal, class, Row, noRow, rowAt, c
 use Rattle.choice_rules.specs.Demand.Orders.{inOrder, Covers}
 use Rattle.choice_rules.proofs.Demand.OrderLaws.{map-length, map-get, inOrder-length, inOrder-get}
 use Rattle.file_rules.specs.Table.{Table, Row as TableRow}
-use Rattle.table_rules.specs.Order.{has, sortsReached, Sound}
-use Rattle.table_rules.proofs.HasLaws.{and-true, has-get, has-place}
+use Rattle.table_rules.specs.Order.{has, Within as SortsWithin, sortsReached, Sound}
+use Rattle.table_rules.proofs.HasLaws.{and-true, has-first, has-cons, has-nil, has-get, has-place}
 use Rattle.table_rules.proofs.OrderLaws.{root-reached, arguments-reached, Scanned, rowsInOrder-get, rowsInOrder-finds}
 use Rattle.table_rules.specs.Rules.Classes.{sortOf, classCount, flatClass, childOf, rangeOf}
 use Rattle.table_rules.specs.Rules.Rows.{
@@ -80,14 +80,21 @@ pub rangeOf-eq : (t : Table) (s : ℕ) → (sortOf t s .kind ≡ 0 → ⊥) → 
 unfolding rangeOf
 rangeOf-eq t s n = rw (ne-eqb (sortOf t s .kind) 0 n, rangeOf)
 
--- a class of a sort that the root sort reaches
-pub record ReachedClass (t : Table) (root c : ℕ) : Type 0 where
+-- a class of a sort that the root sorts reach
+pub record Reached (t : Table) (roots : List ℕ) (c : ℕ) : Type 0 where
   pub sort : ℕ
   pub value : ℕ
-  pub reached : has sort (sortsReached (viewOf t) root) ≡ true
+  pub reached : has sort (sortsReached (viewOf t) roots) ≡ true
   pub known : sort < length (t .sorts)
   pub inside : value < sortOf t sort .classes
   pub flat : flatClass t sort value ≡ c
+
+-- the same of one root sort
+abbrev pub ReachedClass : Table → ℕ → ℕ → Type 0
+ReachedClass t root c = Reached t (root ∷ []) c
+
+pub one-below : (n root : ℕ) → root < n → SortsWithin n (root ∷ [])
+one-below n root h a q = has-cons a root [] q (λ e. subst (λ (x : ℕ). x < n) e h) (λ z. has-nil a z)
 
 module _ (t : Table) (k : Known t) where
   -- the output class of a row
@@ -125,11 +132,11 @@ module _ (t : Table) (k : Known t) where
       ∙ childrenOf-get t (functionOf t (tableRowOf t r .function) .arguments) (tableRowOf t r .cells) j
       (omega (arith, k .cells r l)) m
 
-module _ (t : Table) (k : Known t) (root : ℕ) (h : root < length (t .sorts)) where
-  pub view-sound : Sound (viewOf t) root
+module _ (t : Table) (k : Known t) (roots : List ℕ) (h : SortsWithin (length (t .sorts)) roots) where
+  pub view-sound : Sound (viewOf t) roots
   unfolding viewOf
   view-sound = record {
-    root-below = h;
+    roots-below = h;
     arguments-below = λ f l a q.
         let p = has-place a (functionOf t f .arguments) q in
         subst (λ (x : ℕ). x < length (t .sorts)) (p .2) (k .argument f (p .0) l (p .1));
@@ -139,14 +146,14 @@ module _ (t : Table) (k : Known t) (root : ℕ) (h : root < length (t .sorts)) w
   output-reached :
       (r : ℕ) →
       r < length (t .rows) →
-      ReachedClass t root (rowAt (tableRows t) r .output) →
-      has (functionOf t (tableRowOf t r .function) .output) (sortsReached (viewOf t) root) ≡ true
+      Reached t roots (rowAt (tableRows t) r .output) →
+      has (functionOf t (tableRowOf t r .function) .output) (sortsReached (viewOf t) roots) ≡ true
   output-reached r l c =
       let f = tableRowOf t r .function in
       let e : c .sort ≡ functionOf t f .output =
       flatClass-sort t (c .sort) (c .value) (functionOf t f .output) (getD (tableRowOf t r .cells) (arityOf t r) 0)
       (c .known) (c .inside) (k .output f (k .function r l)) (k .output-cell r l) (c .flat ∙ output-class t k r l) in
-      subst (λ (s : ℕ). has s (sortsReached (viewOf t) root) ≡ true) e (c .reached)
+      subst (λ (s : ℕ). has s (sortsReached (viewOf t) roots) ≡ true) e (c .reached)
 
   usable-parts :
       (r : ℕ) →
@@ -156,16 +163,16 @@ module _ (t : Table) (k : Known t) (root : ℕ) (h : root < length (t .sorts)) w
   usable-parts r u =
       and-true (usableFunction (functionOf t (tableRowOf t r .function))) (eqb (tableRowOf t r .subsumed) 0) u
 
-  scanned-row : (i : ℕ) → i < length (scanOrder t root)
-      → Scanned (viewOf t) root view-sound (getD (scanOrder t root) i 0)
+  scanned-row : (i : ℕ) → i < length (scanOrder t roots)
+      → Scanned (viewOf t) roots view-sound (getD (scanOrder t roots) i 0)
   unfolding scanOrder
-  scanned-row i l = rowsInOrder-get (viewOf t) root view-sound i l
+  scanned-row i l = rowsInOrder-get (viewOf t) roots view-sound i l
 
-  pub scanned-below : (i : ℕ) → i < length (scanOrder t root) → getD (scanOrder t root) i 0 < length (t .rows)
+  pub scanned-below : (i : ℕ) → i < length (scanOrder t roots) → getD (scanOrder t roots) i 0 < length (t .rows)
   unfolding viewOf
   scanned-below i l = scanned-row i l .below
 
-  scanned-usable : (i : ℕ) → i < length (scanOrder t root) → usable t (getD (scanOrder t root) i 0) ≡ true
+  scanned-usable : (i : ℕ) → i < length (scanOrder t roots) → usable t (getD (scanOrder t roots) i 0) ≡ true
   unfolding viewOf usable
   scanned-usable i l = let w = scanned-row i l in rw (w .usable, w .unsubsumed)
 
@@ -173,38 +180,38 @@ module _ (t : Table) (k : Known t) (root : ℕ) (h : root < length (t .sorts)) w
       (r : ℕ) →
       r < length (t .rows) →
       usable t r ≡ true →
-      ReachedClass t root (rowAt (tableRows t) r .output) →
-      has r (scanOrder t root) ≡ true
+      Reached t roots (rowAt (tableRows t) r .output) →
+      has r (scanOrder t roots) ≡ true
   unfolding viewOf scanOrder
   finds r l u c =
       let p = usable-parts r u in
-      rowsInOrder-finds (viewOf t) root view-sound r l (p .1) (k .function r l) (p .0) (output-reached r l c)
+      rowsInOrder-finds (viewOf t) roots view-sound r l (p .1) (k .function r l) (p .0) (output-reached r l c)
 
   -- the argument sorts of a usable row of a reached class are reached
   argument-reached :
       (r : ℕ) →
       r < length (t .rows) →
       usable t r ≡ true →
-      ReachedClass t root (rowAt (tableRows t) r .output) →
+      Reached t roots (rowAt (tableRows t) r .output) →
       (j : ℕ) →
       j < arityOf t r →
-      has (getD (functionOf t (tableRowOf t r .function) .arguments) j 0) (sortsReached (viewOf t) root) ≡ true
+      has (getD (functionOf t (tableRowOf t r .function) .arguments) j 0) (sortsReached (viewOf t) roots) ≡ true
   unfolding viewOf
   argument-reached r l u c j m =
       let f = tableRowOf t r .function in
-      arguments-reached (viewOf t) root view-sound f (getD (functionOf t f .arguments) j 0) (k .function r l)
+      arguments-reached (viewOf t) roots view-sound f (getD (functionOf t f .arguments) j 0) (k .function r l)
       (usable-parts r u .0) (output-reached r l c) (has-get (functionOf t f .arguments) j m)
 
   closed :
       (r : ℕ) →
       r < length (t .rows) →
       usable t r ≡ true →
-      ReachedClass t root (rowAt (tableRows t) r .output) →
+      Reached t roots (rowAt (tableRows t) r .output) →
       (j : ℕ) →
       j < length (rowAt (tableRows t) r .children) →
       (d : ℕ) →
       childAt (rowAt (tableRows t) r) j ≡ class d →
-      ReachedClass t root d
+      Reached t roots d
   closed r l u c j m d e =
       let f = tableRowOf t r .function in
       let a : j < arityOf t r = omega (arith, children-length t k r l) in
@@ -221,39 +228,49 @@ module _ (t : Table) (k : Known t) (root : ℕ) (h : root < length (t .sorts)) w
       }
 
   -- the scan order covers the classes of reached sorts
-  pub scanOrder-covers : Covers (tableRows t) (usable t) (scanOrder t root) (ReachedClass t root)
+  pub scanOrder-covers : Covers (tableRows t) (usable t) (scanOrder t roots) (Reached t roots)
   scanOrder-covers = record {
     known = λ i l. omega (arith, scanned-below i l, tableRows-length t);
     usable-ones = scanned-usable;
     found = λ r l u c.
-        let p = has-place r (scanOrder t root) (finds r (omega (arith, l, tableRows-length t)) u c) in
+        let p = has-place r (scanOrder t roots) (finds r (omega (arith, l, tableRows-length t)) u c) in
         (p .0, (p .1, p .2));
     closed = λ r l. closed r (omega (arith, l, tableRows-length t));
   }
 
-  -- every class of the root's sort is among them
-  pub root-class : (v : ℕ) → v < sortOf t root .classes → ReachedClass t root (flatClass t root v)
-  root-class v l = record {
+  -- the scanned rows' outputs are classes of the table
+  pub scanned-within : Within (classCount t) (scanned t roots)
+  unfolding scanned
+  scanned-within i l =
+      let m : i < length (scanOrder t roots) =
+      subst (λ (n : ℕ). i < n) (inOrder-length (tableRows t) (scanOrder t roots)) l in
+      let r : ℕ = getD (scanOrder t roots) i 0 in
+      let b : r < length (t .rows) = scanned-below i m in
+      let f = tableRowOf t r .function in
+      let e : rowAt (inOrder (tableRows t) (scanOrder t roots)) i .output
+      ≡ flatClass t (functionOf t f .output) (getD (tableRowOf t r .cells) (arityOf t r) 0) =
+      ap (λ (x : Row). x .output) (inOrder-get (tableRows t) (scanOrder t roots) i m) ∙ output-class t k r b in
+      rw e
+      (flatClass-below t (functionOf t f .output) (getD (tableRowOf t r .cells) (arityOf t r) 0)
+      (k .output f (k .function r b)) (k .output-cell r b))
+
+  -- every class of a root's sort is among them
+  pub class-of-root :
+      (root v : ℕ) → has root roots ≡ true → v < sortOf t root .classes → Reached t roots (flatClass t root v)
+  class-of-root root v r l = record {
     sort = root;
     value = v;
-    reached = root-reached (viewOf t) root view-sound;
-    known = h;
+    reached = root-reached (viewOf t) roots view-sound root r;
+    known = h root r;
     inside = l;
     flat = refl;
   }
 
-  -- the scanned rows' outputs are classes of the table
-  pub scanned-within : Within (classCount t) (scanned t root)
-  unfolding scanned
-  scanned-within i l =
-      let m : i < length (scanOrder t root) =
-      subst (λ (n : ℕ). i < n) (inOrder-length (tableRows t) (scanOrder t root)) l in
-      let r : ℕ = getD (scanOrder t root) i 0 in
-      let b : r < length (t .rows) = scanned-below i m in
-      let f = tableRowOf t r .function in
-      let e : rowAt (inOrder (tableRows t) (scanOrder t root)) i .output
-      ≡ flatClass t (functionOf t f .output) (getD (tableRowOf t r .cells) (arityOf t r) 0) =
-      ap (λ (x : Row). x .output) (inOrder-get (tableRows t) (scanOrder t root) i m) ∙ output-class t k r b in
-      rw e
-      (flatClass-below t (functionOf t f .output) (getD (tableRowOf t r .cells) (arityOf t r) 0)
-      (k .output f (k .function r b)) (k .output-cell r b))
+pub root-class :
+    (t : Table) (k : Known t) (root : ℕ) →
+    root < length (t .sorts) →
+    (v : ℕ) →
+    v < sortOf t root .classes →
+    ReachedClass t root (flatClass t root v)
+root-class t k root h v l =
+    class-of-root t k (root ∷ []) (one-below (length (t .sorts)) root h) root v (has-first root root [] refl) l

@@ -1,5 +1,5 @@
--- The costs and the choice of terms for a root sort of a table. Assumes nothing: definitions.
-use mathlib.Core.List.{List}
+-- The costs and the choice of terms for root sorts of a table. Assumes nothing: definitions.
+use mathlib.Core.List.{List, [], _∷_}
 use Prim.Native.Nat.{ℕ, _-_, _^_}
 use lib.ListN.{getD}
 use Rattle.choice_rules.specs.Run.{Run, run}
@@ -26,22 +26,30 @@ pub record Prices : Type 0 where
 unfoldable pub answerFor : Prices → ℕ → Answer
 answerFor p c = answerOf limit (p .costs) (p .orders) c
 
--- "Passes repeat until one changes nothing", over the rows that the root sort reaches, in scan order.
-unfoldable pub runOf : Table → ℕ → Run
-runOf t root = run limit (scanned t root) (classCount t)
+-- "Passes repeat until one changes nothing", over the rows that the root sorts reach, in scan order.
+unfoldable pub runOver : Table → List ℕ → Run
+runOver t roots = run limit (scanned t roots) (classCount t)
 
 -- A class's edge, as a place in the scan order and as a row of the file.
-unfoldable pub edgeFor : Table → ℕ → ℕ → ℕ
-edgeFor t root c = edgeOf limit (runOf t root .state .costs) (runOf t root .state .ranks) (scanned t root) c
+unfoldable pub edgeFor : Table → List ℕ → ℕ → ℕ
+edgeFor t roots c = edgeOf limit (runOver t roots .state .costs) (runOver t roots .state .ranks) (scanned t roots) c
 
-unfoldable pub edgeRow : Table → ℕ → ℕ → ℕ
-edgeRow t root c = getD (scanOrder t root) (edgeFor t root c) 0
+unfoldable pub edgeRow : Table → List ℕ → ℕ → ℕ
+edgeRow t roots c = getD (scanOrder t roots) (edgeFor t roots c) 0
 
 -- The run's prices: its costs, its ranks for order numbers, and each class's edge.
-abbrev pub pricesFor : Table → ℕ → Prices
-pricesFor t root = record {
-  order = scanOrder t root;
-  costs = runOf t root .state .costs;
-  orders = runOf t root .state .ranks;
-  row = edgeRow t root;
+abbrev pub pricesOver : Table → List ℕ → Prices
+pricesOver t roots = record {
+  order = scanOrder t roots;
+  costs = runOver t roots .state .costs;
+  orders = runOver t roots .state .ranks;
+  row = edgeRow t roots;
 }
+
+-- The run and its prices for one root sort, which is all that best and variants ask for. A request for several root
+-- sorts (document 02) goes by the two above.
+abbrev pub runOf : Table → ℕ → Run
+runOf t root = runOver t (root ∷ [])
+
+abbrev pub pricesFor : Table → ℕ → Prices
+pricesFor t root = pricesOver t (root ∷ [])

@@ -23,10 +23,10 @@ viewOf t = record {
   unsubsumed = λ (r : ℕ). eqb (tableRowOf t r .subsumed) 0;
 }
 
--- The numbers of the usable rows that a root sort reaches, in scan order.
-unfoldable pub scanOrder : Table → ℕ → List ℕ
-scanOrder t root = rowsInOrder (viewOf t) root
+-- The numbers of the usable rows that the root sorts reach, in scan order.
+unfoldable pub scanOrder : Table → List ℕ → List ℕ
+scanOrder t roots = rowsInOrder (viewOf t) roots
 
 -- These rows.
-unfoldable pub scanned : Table → ℕ → List Row
-scanned t root = inOrder (tableRows t) (scanOrder t root)
+unfoldable pub scanned : Table → List ℕ → List Row
+scanned t roots = inOrder (tableRows t) (scanOrder t roots)

@@ -51,13 +51,13 @@ module _
   below i h =
       order-below t root outputs heads starts children order functions labels values f i (omega (arith, h, rows-many))
 
-  scanned-many : length (scanned t root) ≡ length outputs
+  scanned-many : length (scanned t (root ∷ [])) ≡ length outputs
   scanned-many = sym (ap (λ (x : List Row). length x) (f .rows-are)) ∙ rows-length outputs heads starts children
 
   row-is :
       (i : ℕ) →
       i < length outputs →
-      rowAt (scanned t root) i ≡ rowOf (getD outputs i 0) (getD heads i 0) (partOf starts children i)
+      rowAt (scanned t (root ∷ [])) i ≡ rowOf (getD outputs i 0) (getD heads i 0) (partOf starts children i)
   row-is i h = sym (ap (λ (x : List Row). rowAt x i) (f .rows-are)) ∙ rows-get outputs heads starts children i h
 
   pub file-row : (i : ℕ) → getD order i 0 ≡ fileRow (pricesFor t root) i

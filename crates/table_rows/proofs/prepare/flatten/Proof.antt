@@ -23,7 +23,7 @@ slice-aggregate-number-sorts c = search needs
 number-sorts-requires : tie.Need-number-sorts-requires
 number-sorts-requires c κs =
     let g = c .before .before .before .before .before .before .before .before .before .before .before .before
-    .before .before .before .before .before .before in
+    .before .before .before .before .before .before .before in
     let a = g .args in
     let few = sorts-few (a .sorts) (a .functions) (a .rows) (a .kinds .now) (a .classes .now) (a .declared .now)
     (a .costs .now) (a .unextractable .now) (a .hidden .now) (a .outputs .now) (a .arities .now) (a .arguments .now)
@@ -43,12 +43,12 @@ number-sorts-requires c κs =
 scan-rows-requires : tie.Need-scan-rows-requires
 scan-rows-requires c κs =
     let g = c .before .before .before .before .before .before .before .before .before .before .before .before
-    .before .before .before .before .before .before .before .before .before in
+    .before .before .before .before .before .before .before .before .before .before in
     let a = g .args in
     scan-ready (a .sorts) (a .functions) (a .rows) (a .kinds .now) (a .classes .now) (a .declared .now) (a .costs .now)
     (a .unextractable .now) (a .hidden .now) (a .outputs .now) (a .arities .now) (a .arguments .now)
     (a .rowfunctions .now) (a .subsumed .now) (a .cells .now) (g .pre .0 .table) (g .pre .0 .is)
-    (a .root) (g .pre .1 .0) (a .order .now) (g .pre .1 .1 .order-room)
+    (a .roots .now) (g .pre .1 .0) (a .order .now) (g .pre .1 .1 .order-room)
 
 slice-reshare-prefix-lay : tie.Need-slice-reshare-prefix-lay
 slice-reshare-prefix-lay c = search needs
@@ -65,7 +65,7 @@ lay-requires : tie.Need-lay-requires
 lay-requires c κs =
     let g = c .before .before .before .before .before .before .before .before .before .before .before .before
     .before .before .before .before .before .before .before .before .before .before .before .before
-    .before .before .before .before .before .before in
+    .before .before .before .before .before .before .before in
     let a = g .args in
     let w = c .before .before .before .before .before .before .before .before .scan-rows in
     let u = c .before .before .before .before .before .before .before .before .before .before .before .number-sorts in
@@ -76,12 +76,12 @@ lay-requires c κs =
       lay-ready (a .sorts) (a .functions) (a .rows) (a .kinds .now) (a .classes .now) (a .declared .now) (a .costs .now)
           (a .unextractable .now) (a .hidden .now) (a .outputs .now) (a .arities .now) (a .arguments .now)
           (a .rowfunctions .now) (a .subsumed .now) (a .cells .now) (g .pre .0 .table) (g .pre .0 .is)
-          (a .root) (g .pre .1 .0) (w .result) (w .last .1 .1 .1 .1 .1 .1 .1 .1 .1 .1 .1 .0) (w .ensures)
+          (a .roots .now) (g .pre .1 .0) (w .result) (w .last .1 .1 .1 .1 .1 .1 .1 .1 .1 .1 .1 .0) (w .ensures)
           (u .last .1 .1 .0) (u .ensures .1) long,
       lay-room (a .sorts) (a .functions) (a .rows) (a .kinds .now) (a .classes .now) (a .declared .now) (a .costs .now)
           (a .unextractable .now) (a .hidden .now) (a .outputs .now) (a .arities .now) (a .arguments .now)
           (a .rowfunctions .now) (a .subsumed .now) (a .cells .now) (g .pre .0 .table) (g .pre .0 .is)
-          (a .root) (g .pre .1 .0) (w .result) (w .last .1 .1 .1 .1 .1 .1 .1 .1 .1 .1 .1 .0) (w .ensures)
+          (a .roots .now) (g .pre .1 .0) (w .result) (w .last .1 .1 .1 .1 .1 .1 .1 .1 .1 .1 .1 .0) (w .ensures)
           (u .last .1 .1 .0) (u .ensures .1) long
           (a .flat .now) (a .heads .now) (a .starts .now) (a .children .now) (g .pre .1 .1 .flat-room)
           (g .pre .1 .1 .heads-room) (g .pre .1 .1 .starts-room) (g .pre .1 .1 .children-room),
@@ -107,7 +107,7 @@ returns c t h =
     let g = c .before .before .before .before .before .before .before .before .before .before .before .before
     .before .before .before .before .before .before .before .before .before .before .before .before
     .before .before .before .before .before .before .before .before .before .before .before .before
-    .before .before .before in
+    .before .before .before .before in
     let a = g .args in
     let w = c .before .before .before .before .before .before .before .before .before .before .before .before
     .before .before .before .before .before .scan-rows in
@@ -121,7 +121,7 @@ returns c t h =
     flattened (a .sorts) (a .functions) (a .rows) (a .kinds .now) (a .classes .now) (a .declared .now) (a .costs .now)
     (a .unextractable .now) (a .hidden .now) (a .outputs .now) (a .arities .now) (a .arguments .now)
     (a .rowfunctions .now) (a .subsumed .now) (a .cells .now) t h
-    (a .root) (g .pre .1 .0) (w .result) (w .last .1 .1 .1 .1 .1 .1 .1 .1 .1 .1 .1 .0) (w .ensures)
+    (a .roots .now) (g .pre .1 .0) (w .result) (w .last .1 .1 .1 .1 .1 .1 .1 .1 .1 .1 .1 .0) (w .ensures)
     (u .last .1 .1 .0) (u .ensures .1) long
     (v .result) _ (v .last .1 .1 .1 .1 .1 .1 .1 .1 .1 .1 .0) (v .last .1 .1 .1 .1 .1 .1 .1 .1 .1 .1 .1 .0)
     (v .last .1 .1 .1 .1 .1 .1 .1 .1 .1 .1 .1 .1 .0) (v .last .1 .1 .1 .1 .1 .1 .1 .1 .1 .1 .1 .1 .1 .0) (u .ensures .0)

@@ -2,6 +2,7 @@
 use Prim.{tt}
 use mathlib.Core.Path.{sym, _∙_}
 use native.Mathlib.Omega.{arith}
+use Rattle.table_rules.proofs.Rules.CoverLaws.{one-below}
 use Rattle.table_rows.proofs.prepare.RootLaws.{root-sort}
 use borrow.Author.Needs.{needs}
 use Rattle.table_rows.proofs.prepare.open.Statement.{statement}
@@ -19,18 +20,17 @@ enum-known-root c = search needs
 enum-known-root-2 : tie.Need-enum-known-root-2
 enum-known-root-2 c = search needs
 
+slice-aggregate-flatten : tie.Need-slice-aggregate-flatten
+slice-aggregate-flatten c = search needs
+
 flatten-requires : tie.Need-flatten-requires
 flatten-requires c κs =
-    let g = c .before .before .before .before .before .before .before .before .before .before .before .before
-    .before .before .before .before .before .before .before .before .before .before .before .before
-    .before .before in
+    let g = c .before .before .before .before .before .before .before .before .before .before .before .before .before .before .before .before .before .before .before .before .before .before .before .before .before .before .before in
     let p = g .pre .0 in
-    let e = sym (c .before .before .before .before .before .before .root2 .given .1)
-    ∙ c .before .before .before .before .before .before .before .before .root-of .ensures (p .table)
-    (p .is .sorts-stand) in
+    let e = sym (c .before .before .before .before .before .before .before .root2 .given .1) ∙ c .before .before .before .before .before .before .before .before .before .root-of .ensures (p .table) (p .is .sorts-stand) in
     let l = root-sort (p .table) (g .args .sort) (g .args .value) _ e in (
       record { table = p .table; is = p .is .stands },
-      (omega (arith, l, p .is .sorts-stand .sorts-are), g .pre .1),
+      (one-below (g .args .sorts) (g .args .sort) (omega (arith, l, p .is .sorts-stand .sorts-are)), g .pre .1),
     )
 
 returns : tie.Need-returns
@@ -65,12 +65,8 @@ same-length-5 c = search needs
 returns-3 : tie.Need-returns-3
 returns-3 c t h =
     record {
-      root-is = sym (c .before .before .before .before .before .before .before .before .before .before .before .before
-          .before .before .before .before .before .root2 .given .1)
-          ∙ c .before .before .before .before .before .before .before .before .before .before .before .before
-          .before .before .before .before .before .before .before .root-of .ensures t (h .sorts-stand);
-      reached = c .before .before .before .before .before .before .before .before .before .before .flatten .ensures t
-          (h .stands);
+      root-is = sym (c .before .before .before .before .before .before .before .before .before .before .before .before .before .before .before .before .before .before .root2 .given .1) ∙ c .before .before .before .before .before .before .before .before .before .before .before .before .before .before .before .before .before .before .before .before .root-of .ensures t (h .sorts-stand);
+      reached = c .before .before .before .before .before .before .before .before .before .before .flatten .ensures t (h .stands);
     }
 
 pub open-spec : {M : Type 1} → statement M
@@ -81,6 +77,7 @@ open-spec =
     enum-told
     enum-known-root
     enum-known-root-2
+    slice-aggregate-flatten
     flatten-requires
     returns
     returns-2
