@@ -5,6 +5,7 @@ use Prim.Native.Nat.{ℕ, _<_, _≤_}
 use native.Mathlib.Omega.{arith}
 use lib.IntN.{ℤ, pos}
 use lib.ListN.{length, getD}
+use Rattle.name.specs.Entries.{tableLength}
 use Rattle.refusal.specs.declared.Refusal.{Refusal}
 use Rattle.term_rules.specs.Lent.{Store}
 use Rattle.bits.specs.Got.{Got, got}
@@ -95,7 +96,7 @@ module _
         functions-length (root-class .table) known-class s r values labels arities functions cells order flat heads
         starts children stands-class
 
-    pub class-labels : 4096 ≡ length labels
+    pub class-labels : tableLength ≡ length labels
     class-labels =
         labels-length (root-class .table) known-class s r values labels arities functions cells order flat heads
         starts children stands-class

@@ -7,7 +7,7 @@ use native.Mathlib.Decide.{decLt}
 use native.Mathlib.Omega.{arith}
 use lib.IntN.{ℤ}
 use lib.ListN.{length, getD, take, drop, length-map, List·getD-eq-default}
-use Rattle.name.specs.Entries.{lengthAt, entry}
+use Rattle.name.specs.Entries.{entryWidth, entriesLength, tableLength, lengthAt, entry}
 use Rattle.name.proofs.EntryLaws.{entry-length}
 use Rattle.term_rules.proofs.Adding.NamingLaws.{valid-short}
 use Rattle.file_rules.specs.Table.{Function, Row, Table}
@@ -89,13 +89,13 @@ module _
           )
       go (no l) =
           let w =
-          every-of-get (λ (x : Function). length (entry (x .name)) ≡ 32) (t .functions) noFunction
+          every-of-get (λ (x : Function). length (entry (x .name)) ≡ entryWidth) (t .functions) noFunction
           (λ i m. entry-length (functionOf t i .name) (valid-short (functionOf t i .name) (known .name i m))) in
-          let b = blocks-length (λ (x : Function). entry (x .name)) 32 w in
+          let b = blocks-length (λ (x : Function). entry (x .name)) entryWidth w in
           let e : lengthAt labels f ≡ 0 =
-          ap (λ (x : List ℕ). getD x (f * 32) 0) (h .names-are)
-          ∙ pad-get 4096 (entries t) (f * 32)
-          ∙ List·getD-eq-default (entries t) 0 {n = f * 32} (omega (arith, l, b)) in
+          ap (λ (x : List ℕ). lengthAt x f) (h .names-are)
+          ∙ pad-get tableLength (entries t) (entriesLength f)
+          ∙ List·getD-eq-default (entries t) 0 {n = entriesLength f} (omega (arith, l, b)) in
           omega (arith, e)
 
   row-cells :

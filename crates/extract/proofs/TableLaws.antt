@@ -1,14 +1,13 @@
 -- The lists that a loaded table leaves are a flat table. Assumes nothing.
 use mathlib.Core.Path.{_≡_, refl, ap, sym, _∙_, subst}
-use mathlib.Core.List.{List, [], _∷_, _++_, append-assoc, map}
-use Prim.Native.Nat.{ℕ, suc, _+_, _*_, _-_, _<_, _≤_}
-use native.Mathlib.Nat.{add-zero}
+use mathlib.Core.List.{List, [], _∷_, _++_, map}
+use Prim.Native.Nat.{ℕ, suc, _+_, _-_, _<_, _≤_}
 use native.Mathlib.Omega.{arith}
 use lib.IntN.{ℤ, pos}
 use lib.ListN.{length, getD, take, drop, replicate, length-map}
-use lib.Seq.{length-take-le, getD-drop, drop-drop, take-append-seam}
-use Rattle.name.specs.Entries.{lengthAt, nameAt, entry}
-use Rattle.name.proofs.EntryLaws.{entry-length}
+use lib.Seq.{length-take-le}
+use Rattle.name.specs.Entries.{entryWidth, entriesLength, tableLength, lengthAt, nameAt, entry}
+use Rattle.name.proofs.EntryLaws.{entry-length, lengthAt-of-entry, nameAt-of-entry}
 use Rattle.term_rules.proofs.Adding.NamingLaws.{valid-short}
 use Rattle.file_rules.specs.Table.{Function, Row, Table}
 use Rattle.file_rules.specs.Every.{Every}
@@ -28,7 +27,7 @@ use Rattle.table_rows.specs.declared.Loaded.the-variants.{Class}
 use Rattle.best_class.specs.Flat.{FlatTable}
 use Rattle.best_root.specs.Single.{FlatClass}
 
--- The functions' names in an array of n bytes, 32 for each.
+-- The functions' names in an array of n bytes, an entry for each.
 module _
     (n : ℕ) (fs : List Function) (short : Every (λ (f : Function). length (f .name) ≤ 31) fs) (d : Function) (k : ℕ)
     (h : k < length fs) where
@@ -38,33 +37,21 @@ module _
   abbrev name : List ℕ
   name = getD fs k d .name
 
-  label-drop : (rest : List ℕ) × (drop (k * 32) labelled ≡ length name ∷ (name ++ rest))
-  unfolding padWith entry
+  label-drop : (rest : List ℕ) × (drop (entriesLength k) labelled ≡ entry name ++ rest)
+  unfolding padWith
   label-drop =
       let b : List ℕ = blocks (λ (f : Function). entry (f .name)) fs in
       let z : List ℕ = replicate (n - length b) 0 in
-      let w = every-map (λ (f : Function) (l : length (f .name) ≤ 31). entry-length (f .name) l) short in
-      let e = blocks-drop (λ (f : Function). entry (f .name)) 32 w k d z h in (
-        replicate (31 - length name) 0 ++ (blocks (λ (f : Function). entry (f .name)) (drop (suc k) fs) ++ z),
-        e
-            ∙ ap (λ (x : List ℕ). length name ∷ x)
-            (append-assoc name (replicate (31 - length name) 0)
-            (blocks (λ (f : Function). entry (f .name)) (drop (suc k) fs) ++ z)),
+      let w = every-map (λ (f : Function) (l : length (f .name) ≤ 31). entry-length (f .name) l) short in (
+        blocks (λ (f : Function). entry (f .name)) (drop (suc k) fs) ++ z,
+        blocks-drop (λ (f : Function). entry (f .name)) entryWidth w k d z h,
       )
 
   pub label-length : lengthAt labelled k ≡ length name
-  label-length =
-      ap (λ (i : ℕ). getD labelled i 0) (sym (add-zero (k * 32)))
-      ∙ sym (getD-drop (k * 32) labelled 0 0)
-      ∙ ap (λ (x : List ℕ). getD x 0 0) (label-drop .1)
+  label-length = lengthAt-of-entry labelled name (label-drop .0) k (label-drop .1)
 
   pub label-name : nameAt labelled k ≡ name
-  unfolding nameAt
-  label-name =
-      let e : k * 32 + 1 + lengthAt labelled k - (k * 32 + 1) ≡ length name = omega (arith, label-length) in
-      ap (λ (j : ℕ). take j (drop (k * 32 + 1) labelled)) e
-      ∙ ap (take (length name)) (sym (drop-drop 1 (k * 32) labelled) ∙ ap (drop 1) (label-drop .1))
-      ∙ take-append-seam name (label-drop .0)
+  label-name = nameAt-of-entry labelled name (label-drop .0) k (label-drop .1)
 
 module _
     (t : Table) (known : Known t) (root : ℕ) (r : Loaded) (values : List ℤ)
@@ -81,12 +68,12 @@ module _
       (sym (padWith-length 0 1024 (map (λ (x : Row). x .function) (t .rows))
       (omega (arith, length-map (t .rows) (λ (x : Row). x .function), known .few-rows))))
 
-  pub labels-length : 4096 ≡ length labels
+  pub labels-length : tableLength ≡ length labels
   labels-length =
       let w = every-map (λ (f : Function) (l : length (f .name) ≤ 31). entry-length (f .name) l) short-names in
-      let b = blocks-length (λ (f : Function). entry (f .name)) 32 w in
+      let b = blocks-length (λ (f : Function). entry (f .name)) entryWidth w in
       rw (h .names-are)
-      (sym (padWith-length 0 4096 (blocks (λ (f : Function). entry (f .name)) (t .functions))
+      (sym (padWith-length 0 tableLength (blocks (λ (f : Function). entry (f .name)) (t .functions))
       (omega (arith, b, known .few-functions))))
 
   pub values-length : 512 ≡ length values
@@ -102,10 +89,10 @@ module _
       rw (h .row-functions-are) (pad-map-get (λ (x : Row). x .function) noTableRow refl 1024 (t .rows) i)
 
   name-is : (f : ℕ) → f < length (t .functions) → nameAt labels f ≡ functionOf t f .name
-  name-is f l = rw (h .names-are) (label-name 4096 (t .functions) short-names noFunction f l)
+  name-is f l = rw (h .names-are) (label-name tableLength (t .functions) short-names noFunction f l)
 
   pub length-is : (f : ℕ) → f < length (t .functions) → lengthAt labels f ≡ length (functionOf t f .name)
-  length-is f l = rw (h .names-are) (label-length 4096 (t .functions) short-names noFunction f l)
+  length-is f l = rw (h .names-are) (label-length tableLength (t .functions) short-names noFunction f l)
 
   -- A row's function, and its name among the labels.
   row-function : (i : ℕ) → i < length (t .rows) → getD functions i 0 < length (t .functions)

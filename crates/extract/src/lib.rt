@@ -31,7 +31,7 @@ pub fn best(
         ⌝ }
 {
     let mut values: [i64; 512] = [0; 512];
-    let mut labels: [u8; 4096] = [0; 4096];
+    let mut labels: [u8; name::TABLE] = [0; name::TABLE];
     let mut arities: [u64; 128] = [0; 128];
     let mut functions: [u64; 1024] = [0; 1024];
     let mut cells: [u64; 9216] = [0; 9216];
@@ -113,7 +113,7 @@ pub fn variants(
         ⌝ }
 {
     let mut values: [i64; 512] = [0; 512];
-    let mut labels: [u8; 4096] = [0; 4096];
+    let mut labels: [u8; name::TABLE] = [0; name::TABLE];
     let mut arities: [u64; 128] = [0; 128];
     let mut functions: [u64; 1024] = [0; 1024];
     let mut cells: [u64; 9216] = [0; 9216];

@@ -4,7 +4,7 @@ use mathlib.Core.List.{List, map}
 use lib.IntN.{ℤ, pos}
 use lib.ListN.{length}
 use Rattle.refusal.specs.Answer.{Answer, value, refuse}
-use Rattle.name.specs.Entries.{entry}
+use Rattle.name.specs.Entries.{tableLength, entry}
 use Rattle.bits.specs.Got.{Got, got, refused}
 use Rattle.file_rules.specs.Table.{Sort, Function, Row, Table}
 use Rattle.file_rules.specs.Sorts.{kindsOf}
@@ -57,7 +57,7 @@ arraysOf t =
       kinds = pad 32 (kindsOf (t .sorts));
       classes = pad 32 (map (λ (x : Sort). x .classes) (t .sorts));
       literals = padWith (pos 0) 512 (t .literals);
-      names = pad 4096 (blocks (λ (f : Function). entry (f .name)) (t .functions));
+      names = pad tableLength (blocks (λ (f : Function). entry (f .name)) (t .functions));
       declared = pad 128 (map (λ (f : Function). f .hasCost) (t .functions));
       costs = pad 128 (map (λ (f : Function). f .cost) (t .functions));
       unextractable = pad 128 (map (λ (f : Function). f .unextractable) (t .functions));

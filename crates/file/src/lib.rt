@@ -11,7 +11,7 @@ pub fn read(
     kinds: &mut [u64; 32],
     classes: &mut [u64; 32],
     literals: &mut [i64; 512],
-    names: &mut [u8; 4096],
+    names: &mut [u8; name::TABLE],
     declared: &mut [u64; 128],
     costs: &mut [u64; 128],
     unextractable: &mut [u64; 128],
@@ -35,7 +35,7 @@ pub fn read(
     let mut own_kinds = [0u64; 32];
     let mut own_classes = [0u64; 32];
     let mut own_literals = [0i64; 512];
-    let mut own_names = [0u8; 4096];
+    let mut own_names = [0u8; name::TABLE];
     let mut own_declared = [0u64; 128];
     let mut own_costs = [0u64; 128];
     let mut own_unextractable = [0u64; 128];

@@ -1,20 +1,30 @@
 -- Laws of the table of names so far. Assumes nothing.
-use Prim.Native.Nat.{ℕ, zero, suc, _+_, _-_, _*_, _≤_, _<_}
+use Prim.Native.Nat.{ℕ, zero, suc, _+_, _-_, _≤_, _<_}
 use mathlib.Core.Bool.{Bool, true, false, not, _||_}
-use mathlib.Core.List.{List, [], _∷_, _++_, append-assoc}
+use mathlib.Core.List.{List, [], _∷_, _++_}
 use mathlib.Core.Path.{_≡_, refl, sym, ap, _∙_, fun-ext}
 use native.Mathlib.Omega.{arith}
 use native.Mathlib.Numerals.{add-one}
 use native.Mathlib.Nat.{add-zero}
-use lib.ListN.{length, take, drop, getD, replicate, drop-of-length-le}
-use lib.Seq.{drop-cons, getD-drop, drop-drop, take-append-seam, take-at}
+use lib.ListN.{length, take, drop, replicate, drop-of-length-le}
+use lib.Seq.{drop-cons, take-append-seam}
 use Rattle.refusal.specs.declared.Refusal.{Refusal}
 use Rattle.refusal.specs.declared.Refusal.the-variants.{DupName}
 use Rattle.name.specs.Name.{same}
-use Rattle.name.specs.Entries.{Entries, lengthAt, nameAt as nameIn, entry, findFrom, findName}
+use Rattle.name.specs.Entries.{
+  entryWidth,
+  entriesLength,
+  tableLength,
+  Entries,
+  lengthAt,
+  nameAt as nameHeld,
+  entry,
+  findFrom,
+  findName,
+}
 use Rattle.name.specs.declared.Found.{Found}
 use Rattle.name.specs.declared.Found.the-variants.{At, Missing}
-use Rattle.name.proofs.EntryLaws.{entry-length}
+use Rattle.name.proofs.EntryLaws.{entry-length, lengthAt-of-entry, nameAt-of-entry}
 use Rattle.bits.specs.Got.{Got, got, refused, then, must}
 use Rattle.bits.proofs.GotLaws.{All, all-got, all-at, all-then, all-must}
 use Rattle.file_rules.specs.Table.{Function}
@@ -45,42 +55,37 @@ entryOf f = entry (f .name)
 
 -- The entries from entry k on.
 from-entry : {table : List ℕ} {i : ℕ} {fs : List Function} → HoldsNames table i fs → (k : ℕ) → k < i
-    → (z : List ℕ) × (drop (k * 32) table ≡ entry (functionNo fs k .name) ++ z)
+    → (z : List ℕ) × (drop (entriesLength k) table ≡ entry (functionNo fs k .name) ++ z)
 unfolding padWith
 from-entry {table} {i} {fs} h k l =
     let o : k < length fs = omega (arith, h .count) in
     let long = every-map (λ (f : Function) (s : length (f .name) ≤ 31). entry-length (f .name) s) (h .short) in (
-      blocks entryOf (drop (suc k) fs) ++ replicate (4096 - length (blocks entryOf fs)) 0,
-      rw (h .are) (blocks-drop entryOf 32 long k _ _ o),
+      blocks entryOf (drop (suc k) fs) ++ replicate (tableLength - length (blocks entryOf fs)) 0,
+      rw (h .are) (blocks-drop entryOf entryWidth long k _ _ o),
     )
 
 -- The length and the name that stand at entry k.
 module _ {table : List ℕ} {i : ℕ} {fs : List Function} (h : HoldsNames table i fs) (k : ℕ) (l : k < i) where
   pub length-at : lengthAt table k ≡ length (functionNo fs k .name)
-  unfolding entry
   length-at =
-      let e : k * 32 + 0 ≡ k * 32 = omega arith in
-      let d : getD (drop (k * 32) table) 0 0 ≡ getD table (k * 32) 0 = rw e at (getD-drop (k * 32) table 0 0) in
-      rw (← d, from-entry h k l .1)
+      let e = from-entry h k l in
+      lengthAt-of-entry table (functionNo fs k .name) (e .0) k (e .1)
 
-  pub name-at : nameIn table k ≡ functionNo fs k .name
-  unfolding nameIn entry
+  pub name-at : nameHeld table k ≡ functionNo fs k .name
   name-at =
-      let n : ℕ = length (functionNo fs k .name) in
-      let e : k * 32 + 1 + n - (k * 32 + 1) ≡ n = omega arith in
-      let d : drop (k * 32 + 1) table ≡ drop 1 (drop (k * 32) table) = sym (drop-drop 1 (k * 32) table) in
-      rw (length-at, e, d, from-entry h k l .1, append-assoc) (take-at (functionNo fs k .name) _ n refl)
+      let e = from-entry h k l in
+      nameAt-of-entry table (functionNo fs k .name) (e .0) k (e .1)
 
--- The table of at most 128 names is 4096 bytes long, and each entry in it is one.
+-- The table of at most 128 names has room for 128, and each entry in it is one.
 module _ {table : List ℕ} {i : ℕ} {fs : List Function} (h : HoldsNames table i fs) (few : i ≤ 128) where
-  pub names-length : length (blocks entryOf fs) ≡ i * 32
+  pub names-length : length (blocks entryOf fs) ≡ entriesLength i
   names-length =
       rw (← h .count)
-      (blocks-length entryOf 32
+      (blocks-length entryOf entryWidth
       (every-map (λ (f : Function) (s : length (f .name) ≤ 31). entry-length (f .name) s) (h .short)))
 
-  pub held-length : length table ≡ 4096
-  held-length = rw (h .are) (padWith-length 0 4096 (blocks entryOf fs) (omega (arith, names-length)))
+  pub held-length : length table ≡ tableLength
+  held-length = rw (h .are) (padWith-length 0 tableLength (blocks entryOf fs) (omega (arith, names-length)))
 
   pub held-entries : Entries table i
   held-entries =
@@ -107,7 +112,7 @@ missing-from {table} {i} {fs} h name (suc n) k e =
     let l : k < i = omega arith in
     let t : Bool = taken (drop (suc k) fs) name in
     rw (drop-cons fs k (functionNo [] 0) o)
-    (missing-by (same (nameIn table k) name) k (findFrom table name (k + 1) n) t
+    (missing-by (same (nameHeld table k) name) k (findFrom table name (k + 1) n) t
     (rw add-one (missing-from h name n (suc k) (omega arith)))
     ∙ ap (λ (x : List ℕ). not (same x name || t)) (name-at h k l))
 

@@ -4,7 +4,7 @@ use mathlib.Core.Path.{_≡_}
 use mathlib.Core.Bool.{Bool, true, false}
 use mathlib.Core.List.{List}
 use lib.ListN.{length, take}
-use Rattle.name.specs.Entries.{entry, findName, putName}
+use Rattle.name.specs.Entries.{tableLength, entry, findName, putName}
 use Rattle.name.specs.declared.Found.{Found}
 use Rattle.name.specs.declared.Found.the-variants.{At, Missing}
 use Rattle.refusal.specs.declared.Refusal.the-variants.{DupName}
@@ -46,7 +46,7 @@ freeNameAt s table i at = then (nameAt s at) (λ name p. must (isFree table i na
 pub record HoldsNames (table : List ℕ) (i : ℕ) (fs : List Function) : Type 0 where
   pub count : length fs ≡ i
   pub short : Every (λ (f : Function). length (f .name) ≤ 31) fs
-  pub are : table ≡ pad 4096 (blocks (λ (f : Function). entry (f .name)) fs)
+  pub are : table ≡ pad tableLength (blocks (λ (f : Function). entry (f .name)) fs)
 
 pub record PutName (i : ℕ) (table₀ table : List ℕ) (name : List ℕ) : Type 0 where
   pub put : table ≡ putName table₀ i name

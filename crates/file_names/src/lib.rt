@@ -3,7 +3,7 @@ ghost use mathlib.Core.Path.{_≡_};
 ghost use Prim.Native.Nat.{_+_, _*_, _^_, _<_, _≤_};
 ghost use lib.ListN.{length, take};
 ghost use Rattle.bits.specs.Got.{pick};
-ghost use Rattle.name.specs.Entries.{Entries, putName};
+ghost use Rattle.name.specs.Entries.{tableLength, HasEntry, Entries, putName};
 ghost use Rattle.file_rules.specs.Functions.{bytesAt, nameAt};
 ghost use Rattle.file_rules.specs.Reading.{Reads};
 ghost use Rattle.file_names.specs.Name.{NameIs, isFree, freeNameAt, PutName};
@@ -59,7 +59,7 @@ fn read_text(s: &[u8], at: usize, buffer: &mut [u8]) -> NameRead
 // Puts the name at entry `i`, unless one of the `i` entries before has it.
 fn put_new(entries: &mut [u8], i: usize, name: &[u8]) -> bool
     requires { ⌜ Entries (now entries) i ⌝ }
-    requires { ⌜ i * 32 + 32 ≤ length (now entries) ⌝ }
+    requires { ⌜ HasEntry (now entries) i ⌝ }
     requires { ⌜ length (now name) ≤ 31 ⌝ }
     ensures { λ r. ⌜ r ≡ isFree (now (entries .entry)) i (now (name .entry)) ⌝ }
     ensures { λ r.
@@ -80,11 +80,11 @@ pub fn read_name(s: &[u8], at: usize, i: usize, entries: &mut [u8]) -> Step
     requires { ⌜ at < 2 ^ 40 ⌝ }
     requires { ⌜ i < 128 ⌝ }
     requires { ⌜ Entries (now entries) i ⌝ }
-    requires { ⌜ length (now entries) ≡ 4096 ⌝ }
+    requires { ⌜ length (now entries) ≡ tableLength ⌝ }
     ensures { λ r. ⌜ Reads (freeNameAt (now (s .entry)) (now (entries .entry)) i at) r
         (PutName i (now (entries .entry)) (now (entries .exit))) ⌝ }
 {
-    let mut buffer = [0u8; 32];
+    let mut buffer = [0u8; name::WIDTH];
     let x = read_text(s, at, &mut buffer);
     match x {
         NameRead::Refused(r) => Step::Refused(r),

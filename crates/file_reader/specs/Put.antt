@@ -5,7 +5,7 @@ use mathlib.Core.Path.{_≡_}
 use mathlib.Core.List.{List}
 use lib.ListN.{length, set, replicate}
 use lib.Seq.{sets}
-use Rattle.name.specs.Entries.{putName}
+use Rattle.name.specs.Entries.{tableLength, putName}
 use Rattle.file_rules.specs.Table.{Function}
 
 pub record PutFunction (i : ℕ)
@@ -22,7 +22,7 @@ pub record PutFunction (i : ℕ)
 
 -- The arrays of functions before the first is read.
 pub record Zeros (names declared costs unextractable hidden outputs arities arguments : List ℕ) : Type 0 where
-  pub names-zero : names ≡ replicate 4096 0
+  pub names-zero : names ≡ replicate tableLength 0
   pub declared-zero : declared ≡ replicate 128 0
   pub costs-zero : costs ≡ replicate 128 0
   pub unextractable-zero : unextractable ≡ replicate 128 0

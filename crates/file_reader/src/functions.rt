@@ -3,7 +3,7 @@ ghost use mathlib.Core.Path.{_≡_};
 ghost use mathlib.Core.List.{List};
 ghost use Prim.Native.Nat.{_+_, _*_, _^_, _<_, _≤_};
 ghost use lib.ListN.{length, take, replicate};
-ghost use Rattle.name.specs.Entries.{Entries};
+ghost use Rattle.name.specs.Entries.{tableLength, Entries};
 ghost use Rattle.file_rules.specs.Table.{Function};
 ghost use Rattle.file_rules.specs.Functions.{functionAt, functionsAt};
 ghost use Rattle.file_rules.specs.Reading.{Reads};
@@ -20,7 +20,7 @@ fn read_function(
     n: usize,
     kinds: &[u64; 32],
     i: usize,
-    names: &mut [u8; 4096],
+    names: &mut [u8; name::TABLE],
     declared: &mut [u64; 128],
     costs: &mut [u64; 128],
     unextractable: &mut [u64; 128],
@@ -33,7 +33,7 @@ fn read_function(
     requires { ⌜ (n < 32) × (length (now kinds) ≡ 32) ⌝ }
     requires { ⌜ i < 128 ⌝ }
     requires { ⌜ Entries (now names) i ⌝ }
-    requires { ⌜ length (now names) ≡ 4096 ⌝ }
+    requires { ⌜ length (now names) ≡ tableLength ⌝ }
     ensures { λ r. ⌜ ((fs : List Function) → HoldsNames (now (names .entry)) i fs
         → Reads (functionAt (now (s .entry)) (take n (now (kinds .entry))) fs at) r
         (PutFunction i
@@ -68,7 +68,7 @@ pub fn read_functions(
     count: usize,
     n: usize,
     kinds: &[u64; 32],
-    names: &mut [u8; 4096],
+    names: &mut [u8; name::TABLE],
     declared: &mut [u64; 128],
     costs: &mut [u64; 128],
     unextractable: &mut [u64; 128],

@@ -87,7 +87,7 @@ pub fn read_into(
     kinds: &mut [u64; 32],
     classes: &mut [u64; 32],
     literals: &mut [i64; 512],
-    names: &mut [u8; 4096],
+    names: &mut [u8; name::TABLE],
     declared: &mut [u64; 128],
     costs: &mut [u64; 128],
     unextractable: &mut [u64; 128],

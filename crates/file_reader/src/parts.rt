@@ -76,7 +76,7 @@ pub fn read_functions(
     at: usize,
     n: usize,
     kinds: &[u64; 32],
-    names: &mut [u8; 4096],
+    names: &mut [u8; name::TABLE],
     declared: &mut [u64; 128],
     costs: &mut [u64; 128],
     unextractable: &mut [u64; 128],

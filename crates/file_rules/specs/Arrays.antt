@@ -4,7 +4,7 @@ use mathlib.Core.Path.{_≡_}
 use mathlib.Core.List.{List, [], _∷_, _++_, map}
 use lib.IntN.{ℤ, pos}
 use lib.ListN.{length, replicate}
-use Rattle.name.specs.Entries.{entry}
+use Rattle.name.specs.Entries.{tableLength, entry}
 use Rattle.file_rules.specs.Table.{Sort, Function, Row, Table}
 use Rattle.file_rules.specs.Sorts.{kindsOf}
 
@@ -30,10 +30,10 @@ unfoldable pub blocks : {A : Type 0} → (A → List ℕ) → List A → List �
 blocks f [] = []
 blocks f (x ∷ xs) = f x ++ blocks f xs
 
--- The functions in their eight arrays: 32 bytes for a name, 8 places for the argument sorts.
+-- The functions in their eight arrays: an entry for a name, 8 places for the argument sorts.
 pub record HoldsFunctions (names declared costs unextractable hidden outputs arities arguments : List ℕ)
     (fs : List Function) : Type 0 where
-  pub names-are : names ≡ pad 4096 (blocks (λ (f : Function). entry (f .name)) fs)
+  pub names-are : names ≡ pad tableLength (blocks (λ (f : Function). entry (f .name)) fs)
   pub declared-are : declared ≡ pad 128 (map (λ (f : Function). f .hasCost) fs)
   pub costs-are : costs ≡ pad 128 (map (λ (f : Function). f .cost) fs)
   pub unextractable-are : unextractable ≡ pad 128 (map (λ (f : Function). f .unextractable) fs)

@@ -1,15 +1,16 @@
 -- The lent lists and the flat lists mean the same store. Assumes nothing.
-use Prim.Native.Nat.{ℕ, zero, suc, _+_, _*_, _/_, _≤_, _<_, min}
+use Prim.Native.Nat.{ℕ, zero, suc, _+_, _≤_, _<_, min}
 use mathlib.Core.Path.{_≡_, refl, ap, sym, _∙_, subst}
 use mathlib.Core.Bool.{Bool, true, false, not}
 use mathlib.Core.List.{List, [], _∷_, _++_, append-nil}
-use native.Mathlib.Nat.{mul-div-left}
 use native.Mathlib.Omega.{arith}
 use lib.Dec.{T as Holds, leb, leb→le, nleb→lt}
 use lib.ListN.{length, getD, take, drop, length-take, take-append-drop, drop-of-length-le}
 use lib.Seq.{getD-take, take-at, take-take, take-length, take-all, take-nil}
 use lib.IntN.{ℤ, pos}
-use Rattle.lent_entries.specs.Entries.{entriesOf, entriesIn, nameOf, AllWide, entriesAfter}
+use Rattle.name.specs.Entries.{entriesLength, entryRoom, lengthIn, nameIn}
+use Rattle.name.proofs.EntryLaws.{entryRoom-whole}
+use Rattle.lent_entries.specs.Entries.{entriesOf, entriesIn, AllWide, entriesAfter}
 use Rattle.lent_entries.proofs.EntriesLaws.{
   entriesIn-entriesOf,
   entriesOf-entriesIn,
@@ -65,11 +66,11 @@ lentStore-record ts ns n m i all h =
 -- the names of the store are those that the lent entries hold
 pub lentStore-symbol :
     (ts : List Term) (ns : List (List ℕ)) (n m k : ℕ) → AllWide (take 128 ns) → k < length (take 128 ns) →
-    getD (getD ns k []) 0 0 ≤ 31 → symbolAt (lentStore ts ns n m) k ≡ nameOf (getD ns k [])
+    lengthIn (getD ns k []) ≤ 31 → symbolAt (lentStore ts ns n m) k ≡ nameIn (getD ns k [])
 unfolding lentStore
 lentStore-symbol ts ns n m k all h short =
     let same : getD (take 128 ns) k [] ≡ getD ns k [] = getD-take 128 ns k [] (omega (arith, length-take 128 ns)) in
-    nameAt-entriesOf (take 128 ns) k all h (subst (λ (e : List ℕ). getD e 0 0 ≤ 31) (sym same) short) ∙ ap nameOf same
+    nameAt-entriesOf (take 128 ns) k all h (subst (λ (e : List ℕ). lengthIn e ≤ 31) (sym same) short) ∙ ap nameIn same
 
 -- a store that is as it was leaves the records as they were
 pub recordsAfter-same :
@@ -110,7 +111,7 @@ take-front {X = X} a l p e = cases (leb a (length l)) refl
 -- the lent lists after a call are the store after it, where its lists are as long as those of the lent store
 pub lentStore-after :
     (ts : List Term) (ns : List (List ℕ)) (s : Store) (n m : ℕ) → length (s .records) ≡ recordsLength (min 1024 (length ts)) →
-    length (s .literals) ≡ min 1024 (length ts) → length (s .names) ≡ min 128 (length ns) * 32 →
+    length (s .literals) ≡ min 1024 (length ts) → length (s .names) ≡ entriesLength (min 128 (length ns)) →
     lentStore (recordsAfter ts s) (entriesAfter ns (s .names)) n m ≡ store (s .records) (s .literals) (s .names) n m
 unfolding lentStore recordsAfter entriesAfter
 lentStore-after ts ns s n m long wide named =
@@ -131,7 +132,7 @@ lentStore-after ts ns s n m long wide named =
     let names : entriesOf (take 128 (es ++ drop 128 ns)) ≡ s .names =
     ap entriesOf entries
     ∙ entriesOf-entriesIn (s .names) (min 128 (length ns))
-    ∙ take-all (min 128 (length ns) * 32) (s .names) (omega arith) in
+    ∙ take-all (entriesLength (min 128 (length ns))) (s .names) (omega arith) in
     λ i. store (numbers i) (literals i) (names i) n m
 
 -- the first k records need no more than their numbers and literals
@@ -163,9 +164,6 @@ unfolding recordsAfter storeIn
 recordsAfter-lists ts f ns n m s p q = λ i. recordsIn (p i) (q i) (min 1024 (length ts)) ++ drop 1024 ts
 
 -- "the store's room (its lent lengths, at most 1,024 and 128)"
-times-over : (k n : ℕ) → 0 < n → k * n / n ≡ k
-times-over k n h = mul-div-left k h
-
 pub lentStore-room :
     (ts : List Term) (ns : List (List ℕ)) (n m : ℕ) → AllEight (take 1024 ts) →
     termRoom (lentStore ts ns n m) ≡ min 1024 (length ts)
@@ -181,9 +179,8 @@ pub lentStore-nameRoom :
     symbolRoom (lentStore ts ns n m) ≡ min 128 (length ns)
 unfolding symbolRoom lentStore
 lentStore-nameRoom ts ns n m all =
-    let bytes : length (entriesOf (take 128 ns)) / 32 ≡ length (take 128 ns) =
-    ap (λ (l : ℕ). l / 32) (entriesOf-length (take 128 ns) all) ∙ times-over (length (take 128 ns)) 32
-    (omega arith) in
+    let bytes : entryRoom (length (entriesOf (take 128 ns))) ≡ length (take 128 ns) =
+    ap entryRoom (entriesOf-length (take 128 ns) all) ∙ entryRoom-whole (length (take 128 ns)) in
     rw bytes (omega (arith, length-take 128 ns))
 
 -- the records of a store are one list
@@ -195,7 +192,7 @@ unfolding lentStore
 lentStore-once ts ts′ ns ns′ n m all all′ wide wide′ e = (
   records-of ts all ∙ ap (λ (s : Store). recordsIn (s .records) (s .literals) (length (s .literals))) e ∙ sym
       (records-of ts′ all′),
-  entries-of ns wide ∙ ap (λ (s : Store). entriesIn (s .names) (length (s .names) / 32)) e ∙ sym
+  entries-of ns wide ∙ ap (λ (s : Store). entriesIn (s .names) (entryRoom (length (s .names)))) e ∙ sym
       (entries-of ns′ wide′),
 )
   where
@@ -210,10 +207,9 @@ lentStore-once ts ts′ ns ns′ n m all all′ wide wide′ e = (
 
     entries-of :
         (us : List (List ℕ)) → AllWide (take 128 us) →
-        take 128 us ≡ entriesIn (entriesOf (take 128 us)) (length (entriesOf (take 128 us)) / 32)
+        take 128 us ≡ entriesIn (entriesOf (take 128 us)) (entryRoom (length (entriesOf (take 128 us))))
     entries-of us a =
         sym (take-length (take 128 us))
         ∙ sym (entriesIn-entriesOf (take 128 us) (length (take 128 us)) a (omega arith))
         ∙ ap (entriesIn (entriesOf (take 128 us)))
-        (sym (ap (λ (l : ℕ). l / 32) (entriesOf-length (take 128 us) a) ∙ times-over (length (take 128 us)) 32
-        (omega arith)))
+        (sym (ap entryRoom (entriesOf-length (take 128 us) a) ∙ entryRoom-whole (length (take 128 us))))

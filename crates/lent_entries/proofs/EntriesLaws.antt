@@ -1,25 +1,22 @@
 -- Laws on the list of name entries and its flat form: the two mean the same symbol table. Assumes nothing.
-use Prim.Native.Nat.{ℕ, zero, suc, _+_, _*_, _-_, _≤_, _<_, min}
+use Prim.Native.Nat.{ℕ, zero, suc, _+_, _-_, _≤_, _<_, min}
 use mathlib.Core.Path.{_≡_, refl, ap, sym, _∙_, subst}
 use mathlib.Core.Logic.{inl, inr}
 use mathlib.Core.List.{List, [], _∷_, _++_, append-assoc, append-nil}
-use native.Mathlib.Nat.{add-zero, eq-or-lt-of-le}
+use native.Mathlib.Nat.{eq-or-lt-of-le}
 use native.Mathlib.Numerals.{add-one}
 use native.Mathlib.Omega.{arith}
 use lib.ListN.{length, getD, take, drop, set, length-append, length-take, length-drop}
 use lib.Seq.{
-  paste,
   take-all,
   take-suc,
   take-add,
   take-at,
   take-nil,
-  take-take,
   take-paste,
   take-suc-set,
   take-append-le,
   drop-cons,
-  drop-drop,
   drop-nil,
   drop-append-add,
   drop-append-le,
@@ -27,8 +24,19 @@ use lib.Seq.{
   getD-take,
   set-at,
 }
-use Rattle.name.specs.Entries.{nameAt, lengthAt}
-use Rattle.lent_entries.specs.Entries.{entriesOf, entriesIn, nameOf, AllWide, LoadedNames, entriesAfter}
+use Rattle.name.specs.Entries.{
+  entryWidth,
+  entriesLength,
+  HasEntry,
+  entryAt,
+  putEntry,
+  lengthIn,
+  nameIn,
+  nameAt,
+  lengthAt,
+}
+use Rattle.name.proofs.EntryLaws.{nameAt-entry}
+use Rattle.lent_entries.specs.Entries.{entriesOf, entriesIn, AllWide, LoadedNames, entriesAfter}
 
 pub entriesOf-append : (es fs : List (List ℕ)) → entriesOf (es ++ fs) ≡ entriesOf es ++ entriesOf fs
 unfolding entriesOf
@@ -36,7 +44,7 @@ entriesOf-append [] fs = refl
 entriesOf-append (e ∷ es) fs =
     ap (λ (l : List ℕ). e ++ l) (entriesOf-append es fs) ∙ sym (append-assoc e (entriesOf es) (entriesOf fs))
 
-pub allWide-head : (e : List ℕ) (es : List (List ℕ)) → AllWide (e ∷ es) → length e ≡ 32
+pub allWide-head : (e : List ℕ) (es : List (List ℕ)) → AllWide (e ∷ es) → length e ≡ entryWidth
 unfolding AllWide
 allWide-head e es all = all 0 (omega arith)
 
@@ -44,23 +52,23 @@ pub allWide-tail : (e : List ℕ) (es : List (List ℕ)) → AllWide (e ∷ es) 
 unfolding AllWide
 allWide-tail e es all k h = all (suc k) (omega arith)
 
-pub entriesOf-length : (es : List (List ℕ)) → AllWide es → length (entriesOf es) ≡ length es * 32
+pub entriesOf-length : (es : List (List ℕ)) → AllWide es → length (entriesOf es) ≡ entriesLength (length es)
 unfolding entriesOf
 entriesOf-length [] all = refl
 entriesOf-length (e ∷ es) all =
     length-append e (entriesOf es)
     ∙ omega (arith, allWide-head e es all, entriesOf-length es (allWide-tail e es all))
 
--- the 32 bytes of entry k stand at k * 32
+-- the bytes of entry k stand where entry k begins
 pub entry-get :
-    (es : List (List ℕ)) (k : ℕ) → AllWide es → k < length es → take 32 (drop (k * 32) (entriesOf es)) ≡ getD es k []
+    (es : List (List ℕ)) (k : ℕ) → AllWide es → k < length es → entryAt (entriesOf es) k ≡ getD es k []
 unfolding entriesOf
 entry-get [] k all h = absurd (omega arith)
-entry-get (e ∷ es) zero all h = take-at e (entriesOf es) 32 (allWide-head e es all)
+entry-get (e ∷ es) zero all h = take-at e (entriesOf es) entryWidth (allWide-head e es all)
 entry-get (e ∷ es) (suc k) all h =
-    let m : suc k * 32 ≡ length e + k * 32 = omega (arith, allWide-head e es all) in
-    ap (λ (n : ℕ). take 32 (drop n (e ++ entriesOf es))) m
-    ∙ ap (take 32) (drop-append-add e (entriesOf es) (k * 32))
+    let m : entriesLength (suc k) ≡ length e + entriesLength k = omega (arith, allWide-head e es all) in
+    ap (λ (n : ℕ). take entryWidth (drop n (e ++ entriesOf es))) m
+    ∙ ap (take entryWidth) (drop-append-add e (entriesOf es) (entriesLength k))
     ∙ entry-get es k (allWide-tail e es all) (omega arith)
 
 -- the first n entries of the flat table are the first n entries
@@ -76,51 +84,30 @@ pub entriesIn-length : (bs : List ℕ) (n : ℕ) → length (entriesIn bs n) ≡
 unfolding entriesIn
 entriesIn-length bs zero = refl
 entriesIn-length bs (suc n) =
-    length-append (entriesIn bs n) (take 32 (drop (n * 32) bs) ∷ []) ∙ omega (arith, entriesIn-length bs n)
+    length-append (entriesIn bs n) (entryAt bs n ∷ []) ∙ omega (arith, entriesIn-length bs n)
 
 -- the first n entries of a flat table, flattened again, are the bytes that stand there
-pub entriesOf-entriesIn : (bs : List ℕ) (n : ℕ) → entriesOf (entriesIn bs n) ≡ take (n * 32) bs
+pub entriesOf-entriesIn : (bs : List ℕ) (n : ℕ) → entriesOf (entriesIn bs n) ≡ take (entriesLength n) bs
 unfolding entriesOf entriesIn
 entriesOf-entriesIn bs zero = refl
 entriesOf-entriesIn bs (suc n) =
-    let e : n * 32 + 32 ≡ suc n * 32 = omega arith in
-    entriesOf-append (entriesIn bs n) (take 32 (drop (n * 32) bs) ∷ [])
-    ∙ rw (entriesOf-entriesIn bs n, append-nil (take 32 (drop (n * 32) bs))) refl
-    ∙ sym (take-add (n * 32) 32 bs)
+    let e : entriesLength n + entryWidth ≡ entriesLength (suc n) = omega arith in
+    entriesOf-append (entriesIn bs n) (entryAt bs n ∷ [])
+    ∙ rw (entriesOf-entriesIn bs n, append-nil (entryAt bs n)) refl
+    ∙ sym (take-add (entriesLength n) entryWidth bs)
     ∙ ap (λ (k : ℕ). take k bs) e
-
--- a list cut to 32, by its start
-cut-get : (l : List ℕ) (j : ℕ) → j < 32 → getD (take 32 l) j 0 ≡ getD l j 0
-cut-get l j h = getD-take 32 l j 0 h
-
-cut-drop : (l : List ℕ) (m : ℕ) → m ≤ 31 → take m (drop 1 (take 32 l)) ≡ take m (drop 1 l)
-cut-drop [] m h = refl
-cut-drop (x ∷ l) m h = take-take-le l m h
-  where
-    take-take-le : (l : List ℕ) (m : ℕ) → m ≤ 31 → take m (take 31 l) ≡ take m l
-    take-take-le l m h = take-take m 31 l h
 
 -- the name of symbol k is the name that entry k holds, where its length is one of an entry
 pub nameAt-entriesOf :
-    (es : List (List ℕ)) (k : ℕ) → AllWide es → k < length es → getD (getD es k []) 0 0 ≤ 31 →
-    nameAt (entriesOf es) k ≡ nameOf (getD es k [])
-unfolding nameAt nameOf
+    (es : List (List ℕ)) (k : ℕ) → AllWide es → k < length es → lengthIn (getD es k []) ≤ 31 →
+    nameAt (entriesOf es) k ≡ nameIn (getD es k [])
 nameAt-entriesOf es k all h short =
-    let bs : List ℕ = entriesOf es in
-    let at : drop 1 (drop (k * 32) bs) ≡ drop (k * 32 + 1) bs = drop-drop 1 (k * 32) bs in
-    let first : getD (getD es k []) 0 0 ≡ getD bs (k * 32) 0 =
-    ap (λ (l : List ℕ). getD l 0 0) (sym (entry-get es k all h)) ∙ cut-get (drop (k * 32) bs) 0 (omega arith)
-    ∙ getD-drop (k * 32) bs 0 0 ∙ ap (λ (i : ℕ). getD bs i 0) (add-zero (k * 32)) in
-    let n : k * 32 + 1 + getD bs (k * 32) 0 - (k * 32 + 1) ≡ getD bs (k * 32) 0 = omega arith in
-    ap (λ (m : ℕ). take m (drop (k * 32 + 1) bs)) n
-    ∙ ap (λ (l : List ℕ). take (getD bs (k * 32) 0) l) (sym at)
-    ∙ sym (cut-drop (drop (k * 32) bs) (getD bs (k * 32) 0) (omega (arith, first, short)))
-    ∙ ap (λ (m : ℕ). take m (drop 1 (take 32 (drop (k * 32) bs)))) (sym first)
-    ∙ ap (λ (l : List ℕ). take (getD (getD es k []) 0 0) (drop 1 l)) (entry-get es k all h)
+    let e : entryAt (entriesOf es) k ≡ getD es k [] = entry-get es k all h in
+    nameAt-entry (entriesOf es) k (rw e short) ∙ ap nameIn e
 
 -- ---- copying, entry by entry
 pub record CopiedNames (ns : List (List ℕ)) (k : ℕ) (bs : List ℕ) : Type 0 where
-  pub bytes : take (k * 32) bs ≡ entriesOf (take k ns)
+  pub bytes : take (entriesLength k) bs ≡ entriesOf (take k ns)
   pub wide : AllWide (take k ns)
 
 pub copied-none : (ns : List (List ℕ)) (bs : List ℕ) → CopiedNames ns 0 bs
@@ -128,7 +115,7 @@ unfolding entriesOf AllWide
 copied-none ns bs = record { bytes = refl; wide = λ k h. absurd (omega arith) }
 
 wide-more :
-    (ns : List (List ℕ)) (i : ℕ) → i < length ns → AllWide (take i ns) → length (getD ns i []) ≡ 32 → AllWide (take
+    (ns : List (List ℕ)) (i : ℕ) → i < length ns → AllWide (take i ns) → length (getD ns i []) ≡ entryWidth → AllWide (take
     (suc i) ns)
 unfolding AllWide
 wide-more ns i l all e j h = elim (eq-or-lt-of-le before) [ inl s ↦ new s | inr s ↦ old s ]
@@ -136,29 +123,29 @@ wide-more ns i l all e j h = elim (eq-or-lt-of-le before) [ inl s ↦ new s | in
     before : j ≤ i
     before = omega (arith, h, length-take (suc i) ns)
 
-    old : j < i → length (getD (take (suc i) ns) j []) ≡ 32
+    old : j < i → length (getD (take (suc i) ns) j []) ≡ entryWidth
     old s =
-        subst (λ (e : List ℕ). length e ≡ 32) (getD-take i ns j [] s ∙ sym (getD-take (suc i) ns j [] (omega arith)))
+        subst (λ (e : List ℕ). length e ≡ entryWidth) (getD-take i ns j [] s ∙ sym (getD-take (suc i) ns j [] (omega arith)))
         (all j (omega (arith, s, l, length-take i ns)))
 
-    new : j ≡ i → length (getD (take (suc i) ns) j []) ≡ 32
+    new : j ≡ i → length (getD (take (suc i) ns) j []) ≡ entryWidth
     new s =
-        subst (λ (e : List ℕ). length e ≡ 32)
+        subst (λ (e : List ℕ). length e ≡ entryWidth)
         (sym (getD-take (suc i) ns j [] (omega arith) ∙ ap (λ (k : ℕ). getD ns k []) s)) e
 
 pub copied-more :
     (ns : List (List ℕ)) (k : ℕ) (bs e : List ℕ) →
-    k < length ns → e ≡ getD ns k [] → length e ≡ 32 → k * 32 + 32 ≤ length bs → CopiedNames ns k bs →
-    CopiedNames ns (k + 1) (paste bs (k * 32) e 32)
+    k < length ns → e ≡ getD ns k [] → length e ≡ entryWidth → HasEntry bs k → CopiedNames ns k bs →
+    CopiedNames ns (k + 1) (putEntry bs k e)
 unfolding entriesOf
 copied-more ns k bs e l is w long c =
-    let m : (k + 1) * 32 ≡ k * 32 + 32 = omega arith in
+    let m : entriesLength (k + 1) ≡ entriesLength k + entryWidth = omega arith in
     let n : k + 1 ≡ suc k = add-one k in
     record {
       bytes =
-          ap (λ (i : ℕ). take i (paste bs (k * 32) e 32)) m
-          ∙ take-paste bs (k * 32) e 32 (omega arith) (omega arith)
-          ∙ ap (λ (s : List ℕ). take (k * 32) bs ++ s) (take-all 32 e (omega arith))
+          ap (λ (i : ℕ). take i (putEntry bs k e)) m
+          ∙ take-paste bs (entriesLength k) e entryWidth (omega arith) (omega arith)
+          ∙ ap (λ (s : List ℕ). take (entriesLength k) bs ++ s) (take-all entryWidth e (omega arith))
           ∙ ap (λ (s : List ℕ). s ++ e) (c .bytes)
           ∙ ap (λ (s : List ℕ). entriesOf (take k ns) ++ s) (is ∙ sym (append-nil (getD ns k [])))
           ∙ sym (entriesOf-append (take k ns) (getD ns k [] ∷ []))
@@ -166,7 +153,7 @@ copied-more ns k bs e l is w long c =
           ∙ ap (λ (i : ℕ). entriesOf (take i ns)) (sym n);
       wide =
           subst (λ (i : ℕ). AllWide (take i ns)) (sym n)
-          (wide-more ns k l (c .wide) (subst (λ (s : List ℕ). length s ≡ 32) is w));
+          (wide-more ns k l (c .wide) (subst (λ (s : List ℕ). length s ≡ entryWidth) is w));
     }
 
 -- what is past the end of a list takes nothing more
@@ -206,14 +193,14 @@ unfolding entriesIn
 putTo-none ns bs = refl
 
 pub putTo-more :
-    (ns : List (List ℕ)) (bs e : List ℕ) (k : ℕ) → k < length ns → e ≡ take 32 (drop (k * 32) bs) →
+    (ns : List (List ℕ)) (bs e : List ℕ) (k : ℕ) → k < length ns → e ≡ entryAt bs k →
     set (putTo ns bs k) k e ≡ putTo ns bs (k + 1)
 unfolding entriesIn
 putTo-more ns bs e k l is =
     ap (λ (v : List ℕ). set (putTo ns bs k) k v) is
-    ∙ ap (λ (t : List (List ℕ)). set (entriesIn bs k ++ t) k (take 32 (drop (k * 32) bs))) (drop-cons ns k [] l)
-    ∙ set-at (entriesIn bs k) (getD ns k []) (drop (suc k) ns) (take 32 (drop (k * 32) bs)) k (entriesIn-length bs k)
-    ∙ sym (append-assoc (entriesIn bs k) (take 32 (drop (k * 32) bs) ∷ []) (drop (suc k) ns))
+    ∙ ap (λ (t : List (List ℕ)). set (entriesIn bs k ++ t) k (entryAt bs k)) (drop-cons ns k [] l)
+    ∙ set-at (entriesIn bs k) (getD ns k []) (drop (suc k) ns) (entryAt bs k) k (entriesIn-length bs k)
+    ∙ sym (append-assoc (entriesIn bs k) (entryAt bs k ∷ []) (drop (suc k) ns))
     ∙ ap (λ (i : ℕ). entriesIn bs i ++ drop i ns) (sym (add-one k))
 
 pub putTo-length : (ns : List (List ℕ)) (bs : List ℕ) (k : ℕ) → k ≤ length ns → length (putTo ns bs k) ≡ length ns
@@ -232,7 +219,7 @@ putTo-whole ns bs n e =
 
 -- an entry that is copied byte by byte
 pub entry-more :
-    (l e : List ℕ) (a j : ℕ) → j < length e → a + 32 ≤ length l → j < 32 → take j e ≡ take j (drop a l) →
+    (l e : List ℕ) (a j : ℕ) → j < length e → a + entryWidth ≤ length l → j < entryWidth → take j e ≡ take j (drop a l) →
     take (j + 1) (set e j (getD l (a + j) 0)) ≡ take (j + 1) (drop a l)
 entry-more l e a j he hl h same =
     ap (λ (n : ℕ). take n (set e j (getD l (a + j) 0))) (add-one j)
@@ -243,18 +230,18 @@ entry-more l e a j he hl h same =
     ∙ ap (λ (n : ℕ). take n (drop a l)) (sym (add-one j))
 
 -- the first k entries need no more than their bytes
-entriesIn-front : (a b : List ℕ) (k : ℕ) → k * 32 ≤ length a → entriesIn (a ++ b) k ≡ entriesIn a k
+entriesIn-front : (a b : List ℕ) (k : ℕ) → entriesLength k ≤ length a → entriesIn (a ++ b) k ≡ entriesIn a k
 unfolding entriesIn
 entriesIn-front a b zero h = refl
 entriesIn-front a b (suc k) h =
-    let at : k * 32 ≤ length a = omega arith in
-    let part : take 32 (drop (k * 32) (a ++ b)) ≡ take 32 (drop (k * 32) a) =
-    ap (take 32) (drop-append-le (k * 32) a b at)
-    ∙ take-append-le 32 (drop (k * 32) a) b (omega (arith, length-drop (k * 32) a)) in
+    let at : entriesLength k ≤ length a = omega arith in
+    let part : entryAt (a ++ b) k ≡ entryAt a k =
+    ap (take entryWidth) (drop-append-le (entriesLength k) a b at)
+    ∙ take-append-le entryWidth (drop (entriesLength k) a) b (omega (arith, length-drop (entriesLength k) a)) in
     rw (entriesIn-front a b k at, part)
 
 pub entriesAfter-front :
-    (ns : List (List ℕ)) (a b : List ℕ) → length a ≡ min 128 (length ns) * 32 → entriesAfter ns (a ++ b) ≡
+    (ns : List (List ℕ)) (a b : List ℕ) → length a ≡ entriesLength (min 128 (length ns)) → entriesAfter ns (a ++ b) ≡
     entriesAfter ns a
 unfolding entriesAfter
 entriesAfter-front ns a b e =

@@ -1,10 +1,11 @@
 -- From the flat call's answer to the answer on lent lists. Assumes nothing.
-use Prim.Native.Nat.{ℕ, _+_, _*_, min}
+use Prim.Native.Nat.{ℕ, _+_, min}
 use mathlib.Core.Path.{_≡_, refl, ap, sym, _∙_, subst}
 use mathlib.Core.List.{List, _++_}
 use lib.ListN.{length, take, drop}
 use lib.Seq.{take-at}
 use lib.IntN.{ℤ}
+use Rattle.name.specs.Entries.{entriesLength}
 use Rattle.lent_entries.specs.Entries.{entriesOf, entriesAfter, AllWide}
 use Rattle.lent_entries.proofs.EntriesLaws.{entriesAfter-front}
 use Rattle.term_rules.specs.declared.Term.{Term}
@@ -62,7 +63,7 @@ module _ (A : Type 0) (storeOf : A → Store) (seen : Seen A) (faith : Faithful 
   -- the work answers as the flat call does, whose lists rs, ls and bs stand in front of the rest of the arrays
   worked-in :
       (f : Flat) (ns ns′ : List (List ℕ)) (wanted : A) (rs bs : List ℕ) (ls : List ℤ) →
-      length rs ≡ recordsLength (f .room) → length ls ≡ f .room → length bs ≡ min 128 (length ns) * 32 → AllWide (take 128 ns) →
+      length rs ≡ recordsLength (f .room) → length ls ≡ f .room → length bs ≡ entriesLength (min 128 (length ns)) → AllWide (take 128 ns) →
       ns′ ≡ entriesAfter ns bs →
       seen rs ls bs ≡ wanted →
       Worked A storeOf f ns wanted seen record {
@@ -96,7 +97,7 @@ module _ (A : Type 0) (storeOf : A → Store) (seen : Seen A) (faith : Faithful 
   pub worked :
       (f : Flat) (ns : List (List ℕ)) (n m : ℕ) (model : Store → A) (rs bs : List ℕ) (ls : List ℤ) →
       length rs ≡ recordsLength (f .room) → length ls ≡ f .room → bs ≡ entriesOf (take 128 ns) → AllWide (take 128 ns) →
-      (bs′ rest : List ℕ) (ns′ : List (List ℕ)) → length bs′ ≡ min 128 (length ns) * 32 →
+      (bs′ rest : List ℕ) (ns′ : List (List ℕ)) → length bs′ ≡ entriesLength (min 128 (length ns)) →
       ns′ ≡ entriesAfter ns (bs′ ++ rest) → seen rs ls bs′ ≡ model (Given f bs n m) →
       Worked A storeOf f ns (model (storeIn f ns n m)) seen record {
         records = rs ++ drop (recordsLength (f .room)) (f .records);

@@ -1,9 +1,10 @@
 -- What a call on lent lists leaves: document 01, 'Terms' and 'Costs and choice'. Assumes nothing: definitions.
-use Prim.Native.Nat.{ℕ, _*_, min}
+use Prim.Native.Nat.{ℕ, min}
 use mathlib.Core.Path.{_≡_}
 use mathlib.Core.List.{List}
 use lib.ListN.{length, take}
 use lib.IntN.{ℤ}
+use Rattle.name.specs.Entries.{entriesLength}
 use Rattle.lent_entries.specs.Entries.{entriesOf, entriesAfter}
 use Rattle.term_rules.specs.declared.Term.{Term}
 use Rattle.term_rules.specs.Lent.{Store, recordsLength}
@@ -46,7 +47,7 @@ pub record Worked (A : Type 0) (storeOf : A → Store) (f : Flat) (ns : List (Li
   pub kept : storeOf wanted .names ≡ entriesOf (take 128 ns) → ns′ ≡ ns
   pub long : length (storeOf wanted .records) ≡ recordsLength (f .room)
   pub wide : length (storeOf wanted .literals) ≡ f .room
-  pub named : length (storeOf wanted .names) ≡ min 128 (length ns) * 32
+  pub named : length (storeOf wanted .names) ≡ entriesLength (min 128 (length ns))
 
 -- of the best term
 abbrev pub LentBest :

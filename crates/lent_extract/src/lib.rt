@@ -45,9 +45,9 @@ fn best_in(
     let mut literals = f.literals;
     let room = f.room;
     let e = room * term_layout::WIDTH;
-    let mut names = [0u8; 4096];
+    let mut names = [0u8; name::TABLE];
     let k = lent_entries::load_names(ns, &mut names);
-    let b = k * 32;
+    let b = k * name::WIDTH;
     let answer = extract::best(
         file,
         sort,
@@ -113,9 +113,9 @@ fn variants_in(
     let mut literals = f.literals;
     let room = f.room;
     let e = room * term_layout::WIDTH;
-    let mut names = [0u8; 4096];
+    let mut names = [0u8; name::TABLE];
     let k = lent_entries::load_names(ns, &mut names);
-    let b = k * 32;
+    let b = k * name::WIDTH;
     let answer = extract::variants(
         file,
         sort,

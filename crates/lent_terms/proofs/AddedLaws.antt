@@ -1,10 +1,11 @@
 -- From the flat call's answer to the answer on lent lists. Assumes nothing.
-use Prim.Native.Nat.{ℕ, _+_, _*_, min}
+use Prim.Native.Nat.{ℕ, _+_, min}
 use mathlib.Core.Path.{_≡_, refl, ap, sym, _∙_, subst}
 use mathlib.Core.List.{List, _++_}
 use lib.ListN.{length, take, drop, length-take}
 use lib.Seq.{take-at}
 use lib.IntN.{ℤ}
+use Rattle.name.specs.Entries.{entriesLength}
 use Rattle.lent_entries.specs.Entries.{entriesOf, entriesAfter, AllWide}
 use Rattle.lent_entries.proofs.EntriesLaws.{entriesOf-length, entriesAfter-front}
 use Rattle.term_rules.specs.declared.Term.{Term}
@@ -49,7 +50,7 @@ Given f bs n m = store (take (recordsLength (f .room)) (f .records)) (take (f .r
 added-in :
     (f : Flat) (ns ns′ : List (List ℕ)) (n m : ℕ) (wanted : Answer ℕ × Store) (r : Added) (rs bs : List ℕ) (ls : List
     ℤ) →
-    length rs ≡ recordsLength (f .room) → length ls ≡ f .room → length bs ≡ min 128 (length ns) * 32 → AllWide (take 128 ns) →
+    length rs ≡ recordsLength (f .room) → length ls ≡ f .room → length bs ≡ entriesLength (min 128 (length ns)) → AllWide (take 128 ns) →
     ns′ ≡ entriesAfter ns bs →
     seenAdded r rs ls bs n m ≡ wanted →
     AddedIn f ns n m wanted record {
@@ -101,13 +102,13 @@ module _ (f : Flat) (ns : List (List ℕ)) (n m : ℕ) (model : Store → Answer
       m)) Left ns
   added-same-names e =
       added-in f ns ns n m (model (storeIn f ns n m)) r rs bs ls long wide
-      (ap length copied ∙ entriesOf-length (take 128 ns) all ∙ ap (λ (k : ℕ). k * 32) (length-take 128 ns)) all
+      (ap length copied ∙ entriesOf-length (take 128 ns) all ∙ ap (λ (k : ℕ). entriesLength k) (length-take 128 ns)) all
       (sym (entriesAfter-same ns all) ∙ ap (entriesAfter ns) (sym copied)) (e ∙ ap model (storeIn-is f ns n m bs
       copied))
 
   -- a call that leaves the bytes bs′ in front of the rest of its own
   pub added-names :
-      (bs′ rest : List ℕ) (ns′ : List (List ℕ)) → length bs′ ≡ min 128 (length ns) * 32 → ns′ ≡ entriesAfter ns (bs′
+      (bs′ rest : List ℕ) (ns′ : List (List ℕ)) → length bs′ ≡ entriesLength (min 128 (length ns)) → ns′ ≡ entriesAfter ns (bs′
       ++ rest) →
       seenAdded r rs ls bs′ n m ≡ model (Given f bs n m) → AddedIn f ns n m (model (storeIn f ns n m)) Left ns′
   added-names bs′ rest ns′ size after e =

@@ -1,8 +1,9 @@
 -- What a call on lent lists leaves: document 01, 'Terms'. Assumes nothing: these are definitions.
-use Prim.Native.Nat.{ℕ, _*_, min}
+use Prim.Native.Nat.{ℕ, min}
 use mathlib.Core.Path.{_≡_}
 use mathlib.Core.List.{List}
 use lib.ListN.{length, take}
+use Rattle.name.specs.Entries.{entriesLength}
 use Rattle.lent_entries.specs.Entries.{entriesOf, entriesAfter}
 use Rattle.term_rules.specs.declared.Term.{Term}
 use Rattle.term_rules.specs.Lent.{Store, recordsLength}
@@ -34,4 +35,4 @@ pub record AddedIn (f : Flat) (ns : List (List ℕ)) (n m : ℕ) (wanted : Answe
   pub kept : wanted .1 .names ≡ entriesOf (take 128 ns) → ns′ ≡ ns
   pub long : length (wanted .1 .records) ≡ recordsLength (f .room)
   pub wide : length (wanted .1 .literals) ≡ f .room
-  pub named : length (wanted .1 .names) ≡ min 128 (length ns) * 32
+  pub named : length (wanted .1 .names) ≡ entriesLength (min 128 (length ns))

@@ -42,9 +42,9 @@ fn size_in(f: Flat, ns: &[Name], terms: usize, symbols: usize) -> Counted
     let literals = f.literals;
     let room = f.room;
     let e = room * term_layout::WIDTH;
-    let mut names = [0u8; 4096];
+    let mut names = [0u8; name::TABLE];
     let k = lent_entries::load_names(ns, &mut names);
-    let b = k * 32;
+    let b = k * name::WIDTH;
     term::size(
         &records[..e],
         &literals[..room],
@@ -73,9 +73,9 @@ fn add_literal_in(f: Flat, ns: &[Name], terms: usize, symbols: usize, literal: i
     let mut literals = f.literals;
     let room = f.room;
     let e = room * term_layout::WIDTH;
-    let mut names = [0u8; 4096];
+    let mut names = [0u8; name::TABLE];
     let k = lent_entries::load_names(ns, &mut names);
-    let b = k * 32;
+    let b = k * name::WIDTH;
     let added = term::add_literal(
         &mut records[..e],
         &mut literals[..room],
@@ -123,9 +123,9 @@ fn add_variable_in(f: Flat, ns: &mut [Name], terms: usize, symbols: usize, name:
     let mut literals = f.literals;
     let room = f.room;
     let e = room * term_layout::WIDTH;
-    let mut names = [0u8; 4096];
+    let mut names = [0u8; name::TABLE];
     let k = lent_entries::load_names(ns, &mut names);
-    let b = k * 32;
+    let b = k * name::WIDTH;
     let added = term::add_variable(
         &mut records[..e],
         &mut literals[..room],
@@ -182,9 +182,9 @@ fn add_application_in(
     let mut literals = f.literals;
     let room = f.room;
     let e = room * term_layout::WIDTH;
-    let mut names = [0u8; 4096];
+    let mut names = [0u8; name::TABLE];
     let k = lent_entries::load_names(ns, &mut names);
-    let b = k * 32;
+    let b = k * name::WIDTH;
     let added = term::add_application(
         &mut records[..e],
         &mut literals[..room],
@@ -233,9 +233,9 @@ fn find_literal_in(f: Flat, ns: &[Name], terms: usize, symbols: usize, literal: 
     let literals = f.literals;
     let room = f.room;
     let e = room * term_layout::WIDTH;
-    let mut names = [0u8; 4096];
+    let mut names = [0u8; name::TABLE];
     let k = lent_entries::load_names(ns, &mut names);
-    let b = k * 32;
+    let b = k * name::WIDTH;
     term::find_literal(
         &records[..e],
         &literals[..room],
@@ -265,9 +265,9 @@ fn find_variable_in(f: Flat, ns: &[Name], terms: usize, symbols: usize, name: &[
     let literals = f.literals;
     let room = f.room;
     let e = room * term_layout::WIDTH;
-    let mut names = [0u8; 4096];
+    let mut names = [0u8; name::TABLE];
     let k = lent_entries::load_names(ns, &mut names);
-    let b = k * 32;
+    let b = k * name::WIDTH;
     term::find_variable(
         &records[..e],
         &literals[..room],
@@ -305,9 +305,9 @@ fn find_application_in(
     let literals = f.literals;
     let room = f.room;
     let e = room * term_layout::WIDTH;
-    let mut names = [0u8; 4096];
+    let mut names = [0u8; name::TABLE];
     let k = lent_entries::load_names(ns, &mut names);
-    let b = k * 32;
+    let b = k * name::WIDTH;
     term::find_application(
         &records[..e],
         &literals[..room],
@@ -346,9 +346,9 @@ fn get_in(f: Flat, ns: &[Name], terms: usize, symbols: usize, i: usize) -> Got
     let literals = f.literals;
     let room = f.room;
     let e = room * term_layout::WIDTH;
-    let mut names = [0u8; 4096];
+    let mut names = [0u8; name::TABLE];
     let k = lent_entries::load_names(ns, &mut names);
-    let b = k * 32;
+    let b = k * name::WIDTH;
     term::get(
         &records[..e],
         &literals[..room],
@@ -375,9 +375,9 @@ fn compare_in(f: Flat, ns: &[Name], terms: usize, symbols: usize, i: usize, j: u
     let literals = f.literals;
     let room = f.room;
     let e = room * term_layout::WIDTH;
-    let mut names = [0u8; 4096];
+    let mut names = [0u8; name::TABLE];
     let k = lent_entries::load_names(ns, &mut names);
-    let b = k * 32;
+    let b = k * name::WIDTH;
     term::compare(
         &records[..e],
         &literals[..room],
@@ -418,9 +418,9 @@ fn sort_in(f: Flat, ns: &[Name], terms: usize, symbols: usize, list: &mut [u64])
     let literals = f.literals;
     let room = f.room;
     let e = room * term_layout::WIDTH;
-    let mut names = [0u8; 4096];
+    let mut names = [0u8; name::TABLE];
     let k = lent_entries::load_names(ns, &mut names);
-    let b = k * 32;
+    let b = k * name::WIDTH;
     term::sort(
         &records[..e],
         &literals[..room],

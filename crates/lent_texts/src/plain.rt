@@ -28,9 +28,9 @@ fn plain_text_in(
     let literals = f.literals;
     let room = f.room;
     let e = room * term_layout::WIDTH;
-    let mut names = [0u8; 4096];
+    let mut names = [0u8; name::TABLE];
     let k = lent_entries::load_names(ns, &mut names);
-    let b = k * 32;
+    let b = k * name::WIDTH;
     text::plain_text(
         &records[..e],
         &literals[..room],

@@ -1,18 +1,31 @@
--- Laws on a name's entry and on the search for a name. Assumes nothing.
+-- Laws on a name's entry, on the bytes of an entry in a table, and on the search for a name. Assumes nothing.
 use Prim.Native.Nat.{ℕ, zero, suc, _+_, _*_, _-_, _≤_, _<_}
 use mathlib.Core.Path.{_≡_, refl, ap, sym, _∙_}
 use mathlib.Core.Bool.{Bool, true, false}
-use mathlib.Core.List.{List, [], _∷_, _++_}
+use mathlib.Core.List.{List, [], _∷_, _++_, append-assoc}
+use native.Mathlib.Nat.{add-zero, mul-div-left}
 use native.Mathlib.Numerals.{add-one}
 use native.Mathlib.Omega.{arith}
-use lib.ListN.{length, getD, replicate, length-append, length-replicate, getD-replicate, List·getD-append}
-use lib.Seq.{getD-append-add}
+use lib.ListN.{length, getD, take, drop, replicate, length-append, length-replicate, getD-replicate, List·getD-append}
+use lib.Seq.{getD-append-add, getD-take, getD-drop, take-take, take-append-seam, drop-drop}
 use Rattle.name.specs.Name.{same}
-use Rattle.name.specs.Entries.{entry, nameAt, findFrom, findName}
+use Rattle.name.specs.Entries.{
+  entryWidth,
+  entriesLength,
+  entryRoom,
+  entryAt,
+  lengthIn,
+  nameIn,
+  lengthAt,
+  nameAt,
+  entry,
+  findFrom,
+  findName,
+}
 use Rattle.name.specs.declared.Found.{Found}
 use Rattle.name.specs.declared.Found.the-variants.{At, Missing}
 
-pub entry-length : (name : List ℕ) → length name ≤ 31 → length (entry name) ≡ 32
+pub entry-length : (name : List ℕ) → length name ≤ 31 → length (entry name) ≡ entryWidth
 unfolding entry
 entry-length name h = simp (length-append, length-replicate) (omega arith)
 
@@ -42,6 +55,54 @@ entry-past-get name (suc j) n h =
     getD-zeros zero i = refl
     getD-zeros (suc n) zero = refl
     getD-zeros (suc n) (suc i) = getD-zeros n i
+
+-- an entry's bytes tell the length and the name that stand in the table
+pub lengthAt-entry : (table : List ℕ) (k : ℕ) → lengthAt table k ≡ lengthIn (entryAt table k)
+lengthAt-entry table k =
+    sym
+    (getD-take entryWidth (drop (entriesLength k) table) 0 0 (omega arith)
+    ∙ getD-drop (entriesLength k) table 0 0
+    ∙ ap (λ (i : ℕ). getD table i 0) (add-zero (entriesLength k)))
+
+cut-drop : (l : List ℕ) (m : ℕ) → m ≤ 31 → take m (drop 1 (take entryWidth l)) ≡ take m (drop 1 l)
+cut-drop [] m h = refl
+cut-drop (x ∷ l) m h = take-take m 31 l h
+
+pub nameAt-entry :
+    (table : List ℕ) (k : ℕ) → lengthIn (entryAt table k) ≤ 31 → nameAt table k ≡ nameIn (entryAt table k)
+unfolding nameAt nameIn
+nameAt-entry table k short =
+    let n : ℕ = lengthAt table k in
+    let a : ℕ = entriesLength k in
+    let first : n ≡ lengthIn (entryAt table k) = lengthAt-entry table k in
+    let e : a + 1 + n - (a + 1) ≡ n = omega arith in
+    ap (λ (m : ℕ). take m (drop (a + 1) table)) e
+    ∙ ap (take n) (sym (drop-drop 1 a table))
+    ∙ sym (cut-drop (drop a table) n (omega (arith, first, short)))
+    ∙ ap (λ (m : ℕ). take m (drop 1 (entryAt table k))) first
+
+-- the length and the name of an entry that stands in the table
+module _ (table name rest : List ℕ) (k : ℕ) (stands : drop (entriesLength k) table ≡ entry name ++ rest) where
+  pub lengthAt-of-entry : lengthAt table k ≡ length name
+  unfolding entry
+  lengthAt-of-entry =
+      ap (λ (i : ℕ). getD table i 0) (sym (add-zero (entriesLength k)))
+      ∙ sym (getD-drop (entriesLength k) table 0 0)
+      ∙ ap (λ (x : List ℕ). getD x 0 0) stands
+
+  pub nameAt-of-entry : nameAt table k ≡ name
+  unfolding nameAt entry
+  nameAt-of-entry =
+      let a : ℕ = entriesLength k in
+      let z : List ℕ = replicate (31 - length name) 0 in
+      let e : a + 1 + lengthAt table k - (a + 1) ≡ length name = omega (arith, lengthAt-of-entry) in
+      ap (λ (j : ℕ). take j (drop (a + 1) table)) e
+      ∙ ap (take (length name)) (sym (drop-drop 1 a table) ∙ ap (drop 1) stands ∙ append-assoc name z rest)
+      ∙ take-append-seam name (z ++ rest)
+
+-- entries fill the bytes that they take
+pub entryRoom-whole : (n : ℕ) → entryRoom (entriesLength n) ≡ n
+entryRoom-whole n = mul-div-left n (omega arith)
 
 module _ (table name : List ℕ) where
   pub findFrom-here : (k n : ℕ) → k < n → same (nameAt table k) name ≡ true → findFrom table name k (n - k) ≡ At k

@@ -1,5 +1,6 @@
--- A symbol table in a list of bytes: 32 for each name, its length, its bytes, and zeros. Whoever stands above this
--- crate says where entries lie by these names alone. Assumes nothing: these are definitions.
+-- A symbol table in a list of bytes: an entry for each name, its length, its bytes, and zeros. Here, and in the laws and
+-- the code of this crate, stands how many bytes an entry has and where its parts are; whoever stands above says where
+-- entries lie by these names alone. Assumes nothing: these are definitions.
 use Prim.Native.Nat.{ℕ, zero, suc, _+_, _*_, _-_, _/_, _≤_, _<_}
 use mathlib.Core.Path.{_≡_}
 use mathlib.Core.Bool.{Bool, true, false}
@@ -10,16 +11,38 @@ use Rattle.name.specs.Name.{same}
 use Rattle.name.specs.declared.Found.{Found}
 use Rattle.name.specs.declared.Found.the-variants.{At, Missing}
 
--- how many bytes n entries take, and how many entries fit n bytes
+-- the bytes of an entry: a name's length and at most 31 bytes
+abbrev pub entryWidth : ℕ
+entryWidth = 32
+
+-- how many bytes n entries take, which is where entry n begins; how many entries fit n bytes; and the bytes of 128
+-- entries, the most that a table has
 abbrev pub entriesLength : ℕ → ℕ
-entriesLength n = n * 32
+entriesLength n = n * entryWidth
 
 abbrev pub entryRoom : ℕ → ℕ
-entryRoom n = n / 32
+entryRoom n = n / entryWidth
+
+abbrev pub tableLength : ℕ
+tableLength = entriesLength 128
 
 -- entry k stands in the table
 abbrev pub HasEntry : List ℕ → ℕ → Type 0
-HasEntry table k = k * 32 + 32 ≤ length table
+HasEntry table k = entriesLength k + entryWidth ≤ length table
+
+-- the bytes of entry k, and the table with an entry's bytes put at k
+abbrev pub entryAt : List ℕ → ℕ → List ℕ
+entryAt table k = take entryWidth (drop (entriesLength k) table)
+
+abbrev pub putEntry : List ℕ → ℕ → List ℕ → List ℕ
+putEntry table k bytes = paste table (entriesLength k) bytes entryWidth
+
+-- the length that an entry's bytes tell, and the name that they hold
+abbrev pub lengthIn : List ℕ → ℕ
+lengthIn bytes = getD bytes 0 0
+
+unfoldable pub nameIn : List ℕ → List ℕ
+nameIn bytes = take (lengthIn bytes) (drop 1 bytes)
 
 -- the length that stands at entry k
 abbrev pub lengthAt : List ℕ → ℕ → ℕ
@@ -37,13 +60,13 @@ paddingAt table k = take (31 - lengthAt table k) (drop (k * 32 + 1 + lengthAt ta
 abbrev pub byteAt : List ℕ → ℕ → ℕ → ℕ
 byteAt table k j = getD table (k * 32 + 1 + j) 0
 
--- the 32 bytes of a name's entry
+-- the bytes of a name's entry
 unfoldable pub entry : List ℕ → List ℕ
 entry name = length name ∷ (name ++ replicate (31 - length name) 0)
 
 -- the table with a name put at entry k
 unfoldable pub putName : List ℕ → ℕ → List ℕ → List ℕ
-putName table k name = paste table (k * 32) (entry name) 32
+putName table k name = putEntry table k (entry name)
 
 -- the first of n entries, from entry k on, that has the name
 unfoldable pub findFrom : List ℕ → List ℕ → ℕ → ℕ → Found
@@ -62,5 +85,5 @@ pub record InEntries (table : List ℕ) (k : ℕ) : Type 0 where
 
 -- the first n entries stand in the table, none longer than 31 bytes
 pub record Entries (table : List ℕ) (n : ℕ) : Type 0 where
-  pub long : n * 32 ≤ length table
+  pub long : entriesLength n ≤ length table
   pub short : (k : ℕ) → k < n → lengthAt table k ≤ 31

@@ -1,7 +1,7 @@
 // Names and symbol tables: which names are valid, where a name stands, and how one is put there.
 ghost use mathlib.Core.Path.{_≡_};
 ghost use mathlib.Core.Bool.{true, false};
-ghost use Prim.Native.Nat.{ℕ, _*_, _≤_};
+ghost use Prim.Native.Nat.{ℕ, _≤_};
 ghost use lib.ListN.{length, getD};
 ghost use Rattle.name.specs.Name.{allowed, allAllowed, valid, same};
 ghost use Rattle.name.specs.Entries.{
@@ -17,6 +17,9 @@ ghost use Rattle.name.specs.Entries.{
   InEntries,
   Entries,
 };
+
+// The bytes of an entry: a name's length and at most 31 bytes.
+pub const WIDTH: usize = 32;
 
 // The bytes of 128 entries, the most that a table has.
 pub const TABLE: usize = 4096;
@@ -100,14 +103,14 @@ pub fn entries_length(n: usize) -> usize
     requires { ⌜ n ≤ 128 ⌝ }
     ensures { λ r. ⌜ r ≡ entriesLength n ⌝ }
 {
-    n * 32
+    n * WIDTH
 }
 
 // How many entries fit `n` bytes.
 pub fn entry_room(n: usize) -> usize
     ensures { λ r. ⌜ r ≡ entryRoom n ⌝ }
 {
-    n / 32
+    n / WIDTH
 }
 
 // The length that stands at entry `k`.
@@ -115,7 +118,7 @@ pub fn length_of(table: &[u8], k: usize) -> usize
     requires { ⌜ HasEntry (now table) k ⌝ }
     ensures { λ r. ⌜ r ≡ lengthAt (now (table .entry)) k ⌝ }
 {
-    table[k * 32] as usize
+    table[k * WIDTH] as usize
 }
 
 // The name at entry `k`.
@@ -123,8 +126,8 @@ pub fn name_of(table: &[u8], k: usize) -> &[u8]
     requires { ⌜ InEntries (now table) k ⌝ }
     ensures { λ r. ⌜ now r ≡ nameAt (now (table .entry)) k ⌝ }
 {
-    let a = k * 32 + 1;
-    let e = a + table[k * 32] as usize;
+    let a = k * WIDTH + 1;
+    let e = a + table[k * WIDTH] as usize;
     &table[a..e]
 }
 
@@ -133,8 +136,8 @@ pub fn padding_of(table: &[u8], k: usize) -> &[u8]
     requires { ⌜ InEntries (now table) k ⌝ }
     ensures { λ r. ⌜ now r ≡ paddingAt (now (table .entry)) k ⌝ }
 {
-    let a = k * 32 + 1 + table[k * 32] as usize;
-    let e = k * 32 + 32;
+    let a = k * WIDTH + 1 + table[k * WIDTH] as usize;
+    let e = k * WIDTH + WIDTH;
     &table[a..e]
 }
 
@@ -174,8 +177,8 @@ pub fn put(table: &mut [u8], k: usize, name: &[u8])
     ensures { λ _. ⌜ now (table .exit) ≡ putName (now (table .entry)) k (now (name .entry)) ⌝ }
 {
     let mut j = 0;
-    while j < 32 {
-        table[k * 32 + j] = entry_byte(name, j);
+    while j < WIDTH {
+        table[k * WIDTH + j] = entry_byte(name, j);
         j += 1;
     }
 }

@@ -5,6 +5,7 @@ use mathlib.Core.List.{List, _++_}
 use Prim.Native.Nat.{ℕ, _<_}
 use lib.IntN.{ℤ, pos}
 use lib.ListN.{length, replicate}
+use Rattle.name.specs.Entries.{tableLength}
 use Rattle.refusal.specs.declared.Refusal.{Refusal}
 use Rattle.refusal.specs.Numbers.{refusalNo}
 use Rattle.term_rules.specs.Lent.{Store, store, recordsLength}
@@ -19,7 +20,7 @@ use Rattle.extract.proofs.WayLaws.{value-returned}
 
 -- the store that the program starts with
 abbrev pub start : Store
-start = store (replicate (recordsLength 1024) 0) (replicate 1024 (pos 0)) (replicate 4096 0) 0 0
+start = store (replicate (recordsLength 1024) 0) (replicate 1024 (pos 0)) (replicate tableLength 0) 0 0
 
 pub refusal-stays :
     (k : ℕ) (out : List ℕ) →

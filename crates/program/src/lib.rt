@@ -27,7 +27,7 @@ fn best_of(plain: bool, file: &[u8], sort: u64, value: u64, out: &mut [u8]) -> A
 {
     let mut records = [0u64; term_layout::RECORDS];
     let mut literals = [0i64; 1024];
-    let mut names = [0u8; 4096];
+    let mut names = [0u8; name::TABLE];
     let best = extract::best(
         file,
         sort,
@@ -65,7 +65,7 @@ fn variants_of(file: &[u8], sort: u64, value: u64, most: u64, out: &mut [u8]) ->
 {
     let mut records = [0u64; term_layout::RECORDS];
     let mut literals = [0i64; 1024];
-    let mut names = [0u8; 4096];
+    let mut names = [0u8; name::TABLE];
     let mut paid = [0u64; 256];
     let mut found = [0u64; 256];
     let variants = extract::variants(

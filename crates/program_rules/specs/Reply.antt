@@ -5,11 +5,12 @@ use Prim.Native.Nat.{ℕ, suc}
 use lib.Dec.{eqb, leb}
 use lib.IntN.{ℤ, pos}
 use lib.ListN.{length, getD, drop, take, replicate}
+use Rattle.name.specs.Entries.{tableLength}
 use Rattle.refusal.specs.Answer.{refuse}
 use Rattle.refusal.specs.declared.Refusal.the-variants.{NoRoom}
 use Rattle.bits.specs.Got.{Got, got, refused as fault}
 use Rattle.program_rules.specs.Lines.{bestLine, variantsLine, variantLine, refusedLine}
-use Rattle.term_rules.specs.Lent.{Store, store}
+use Rattle.term_rules.specs.Lent.{Store, store, recordsLength}
 use Rattle.text_rules.specs.PlainText.{plainText}
 use Rattle.text_rules.specs.LetText.{Naming, letText}
 use Rattle.answer_rules.specs.Answers.{Answer, value, refusal, After}
@@ -19,7 +20,7 @@ use Rattle.program_rules.specs.Query.{Query, queryAt}
 
 -- "the store starts empty": with room for all that document 01 allows.
 unfoldable pub emptyStore : Store
-emptyStore = store (replicate 11264 0) (replicate 1024 (pos 0)) (replicate 4096 0) 0 0
+emptyStore = store (replicate (recordsLength 1024) 0) (replicate 1024 (pos 0)) (replicate tableLength 0) 0 0
 
 -- Room for as many variants as a query can ask for.
 unfoldable pub emptyLending : Lending

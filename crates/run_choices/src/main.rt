@@ -25,7 +25,7 @@ fn bound(h: Held, ns: &[Name], t: usize) {
 fn best(file: &[u8], value: u64) {
     let h = steps::empty();
     let ts = h.ts;
-    let e = [0u8; 32];
+    let e = [0u8; name::WIDTH];
     let mut ns = [e; 128];
     let s = choices::best(file, 0, value, ts, &mut ns, 0, 0);
     let ts = s.ts;
@@ -62,7 +62,7 @@ fn all_kept(h: Held, ns: &[Name], costs: [u64; 9], found: [u64; 9], k: usize) {
 fn variants(file: &[u8]) {
     let h = steps::empty();
     let ts = h.ts;
-    let e = [0u8; 32];
+    let e = [0u8; name::WIDTH];
     let mut ns = [e; 128];
     let mut costs = [0u64; 9];
     let mut found = [0u64; 9];

@@ -210,12 +210,12 @@ fn wide(x: u8) -> usize {
 
 // The name of symbol `k`.
 fn write_name(ns: &[Name], k: u64) {
-    let mut names = [0u8; 4096];
+    let mut names = [0u8; name::TABLE];
     lent_entries::load_names(ns, &mut names);
     if 127 < k {
         return;
     }
-    let at = k as usize * 32;
+    let at = k as usize * name::WIDTH;
     let n = wide(names[at]);
     if 31 < n {
         return;
@@ -332,7 +332,7 @@ fn all_variables(h: Held, ns: &[Name]) {
 }
 
 fn main() {
-    let e = [0u8; 32];
+    let e = [0u8; name::WIDTH];
     let mut ns = [e; 128];
     let h = turns(&mut ns);
     size(h, &ns);

@@ -12,7 +12,7 @@ fn verdict(file: &[u8]) -> u8 {
     let mut kinds = [0u64; 32];
     let mut classes = [0u64; 32];
     let mut literals = [0i64; 512];
-    let mut names = [0u8; 4096];
+    let mut names = [0u8; name::TABLE];
     let mut declared = [0u64; 128];
     let mut costs = [0u64; 128];
     let mut unextractable = [0u64; 128];

@@ -7,7 +7,7 @@ use lib.IntN.{ℤ}
 use lib.ListN.{length, replicate}
 use Rattle.refusal.specs.declared.Refusal.{Refusal}
 use Rattle.refusal.specs.declared.Refusal.the-variants.{BadRoot}
-use Rattle.name.specs.Entries.{entry}
+use Rattle.name.specs.Entries.{tableLength, entry}
 use Rattle.bits.specs.Got.{Got, got, refused}
 use Rattle.file_rules.specs.Table.{Function, Row, Table}
 use Rattle.file_rules.specs.Arrays.{pad, blocks, HoldsLiterals}
@@ -23,7 +23,7 @@ use Rattle.table_rows.specs.declared.Loaded.the-variants.{Refused, Class
 
 -- The arrays before the file is read.
 pub record Blank (names arities rowFunctions cells : List ℕ) : Type 0 where
-  pub names-zero : names ≡ replicate 4096 0
+  pub names-zero : names ≡ replicate tableLength 0
   pub arities-zero : arities ≡ replicate 128 0
   pub row-functions-zero : rowFunctions ≡ replicate 1024 0
   pub cells-zero : cells ≡ replicate 9216 0
@@ -66,7 +66,7 @@ OnClass (Class c n m w) P = P n m w
 pub record Standing (t : Table) (s : ℕ) (r : Loaded) (literals : List ℤ) (names arities rowFunctions cells : List ℕ)
     (order flat heads starts children : List ℕ) : Type 0 where
   pub literals-held : HoldsLiterals literals (t .literals)
-  pub names-are : names ≡ pad 4096 (blocks (λ (f : Function). entry (f .name)) (t .functions))
+  pub names-are : names ≡ pad tableLength (blocks (λ (f : Function). entry (f .name)) (t .functions))
   pub arities-are : arities ≡ pad 128 (map (λ (f : Function). length (f .arguments)) (t .functions))
   pub row-functions-are : rowFunctions ≡ pad 1024 (map (λ (r : Row). r .function) (t .rows))
   pub cells-are : cells ≡ pad 9216 (blocks (λ (r : Row). pad 9 (r .cells)) (t .rows))

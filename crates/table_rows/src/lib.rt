@@ -36,7 +36,7 @@ pub fn load(
     sort: u64,
     value: u64,
     literals: &mut [i64; 512],
-    names: &mut [u8; 4096],
+    names: &mut [u8; name::TABLE],
     arities: &mut [u64; 128],
     rowfunctions: &mut [u64; 1024],
     cells: &mut [u64; 9216],

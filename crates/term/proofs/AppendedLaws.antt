@@ -1,6 +1,6 @@
 -- What adding a term gives and leaves: the old number and the same store, or one record more and its name if that is
 -- new. Assumes nothing.
-use Prim.Native.Nat.{ℕ, _+_, _*_, _/_, _≤_, _<_, min}
+use Prim.Native.Nat.{ℕ, _+_, _≤_, _<_, min}
 use mathlib.Core.Path.{_≡_, refl, sym, ap, subst, _∙_}
 use mathlib.Core.Bool.{true, false, _&&_}
 use mathlib.Core.List.{List}
@@ -11,7 +11,7 @@ use lib.Dec.{ltb}
 use lib.ListN.{length, length-set}
 use lib.Seq.{paste, length-paste, drop-paste, take-set-le, drop-set-lt}
 use Rattle.name.specs.Name.{valid, same}
-use Rattle.name.specs.Entries.{nameAt, entry, putName}
+use Rattle.name.specs.Entries.{entryWidth, entriesLength, entryRoom, HasEntry, nameAt, entry, putName}
 use Rattle.name.specs.declared.Found.the-variants.{At, Missing}
 use Rattle.name.proofs.EntryLaws.{entry-length}
 use Rattle.term_rules.specs.declared.Term.{Term}
@@ -216,19 +216,19 @@ module _ (s : Store) (n : List ℕ) where
       (λ e. absurd (unknown-of-missing s n e t))
 
   module _ (formed : wellFormed s ≡ true) (v : valid n ≡ true) (room : roomForName s n ≡ true) where
-    symbol-fits : findSymbol s n ≡ Missing → s .symbols * 32 + 32 ≤ length (s .names)
+    symbol-fits : findSymbol s n ≡ Missing → HasEntry (s .names) (s .symbols)
     unfolding symbolRoom
     symbol-fits e =
-        let l : s .symbols < min 128 (length (s .names) / 32) =
-        ltb-true (s .symbols) (min 128 (length (s .names) / 32)) (sym (room-new s n e) ∙ room) in
+        let l : s .symbols < min 128 (entryRoom (length (s .names))) =
+        ltb-true (s .symbols) (min 128 (entryRoom (length (s .names)))) (sym (room-new s n e) ∙ room) in
         omega arith
 
     put-within :
         findSymbol s n ≡ Missing →
-        OnlyWithin (s .symbols * 32) (s .symbols * 32 + 32) (s .names) (putName (s .names) (s .symbols) n)
+        OnlyWithin (entriesLength (s .symbols)) (entriesLength (s .symbols) + entryWidth) (s .names) (putName (s .names) (s .symbols) n)
     unfolding putName
     put-within e =
-        within-paste (s .names) (s .symbols * 32) (entry n) 32 (symbol-fits e)
+        within-paste (s .names) (entriesLength (s .symbols)) (entry n) entryWidth (symbol-fits e)
         (omega (arith, entry-length n (valid-short n v)))
 
     new-name : (Knows s n → ⊥) → OneName s n (withName s n)
@@ -241,7 +241,7 @@ module _ (s : Store) (n : List ℕ) where
               ap (symbolAt (withName s n)) (sym (symbol-new s n e))
               ∙ withName-named s n (sound-of-wellFormed s formed) v room .is;
           names =
-              subst (OnlyWithin (s .symbols * 32) (s .symbols * 32 + 32) (s .names))
+              subst (OnlyWithin (entriesLength (s .symbols)) (entriesLength (s .symbols) + entryWidth) (s .names))
               (sym (ap (λ (x : Store). x .names) (with-new s n e))) (put-within e);
         })
 

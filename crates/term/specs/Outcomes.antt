@@ -1,11 +1,12 @@
 -- What the store's calls are promised to give and to leave: document 01, 'Terms'. Assumes nothing: these are
 -- definitions.
-use Prim.Native.Nat.{ℕ, _+_, _*_, _<_, _≤_}
+use Prim.Native.Nat.{ℕ, _+_, _<_, _≤_}
 use mathlib.Core.Path.{_≡_}
 use mathlib.Core.Bool.{true}
 use mathlib.Core.List.{List}
 use mathlib.Core.Logic.{_⊎_}
 use lib.ListN.{length, getD, take, drop}
+use Rattle.name.specs.Entries.{entryWidth, entriesLength}
 use Rattle.name.specs.Name.{valid}
 use Rattle.term_rules.specs.Lent.{Store, width, recordsLength, symbolAt, termRoom, symbolRoom}
 use Rattle.term_rules.specs.WellFormed.{wellFormed}
@@ -53,7 +54,7 @@ pub record SameNames (s t : Store) : Type 0 where
 pub record OneName (s : Store) (n : List ℕ) (t : Store) : Type 0 where
   pub one-more : t .symbols ≡ s .symbols + 1
   pub is : symbolAt t (s .symbols) ≡ n
-  pub names : OnlyWithin (s .symbols * 32) (s .symbols * 32 + 32) (s .names) (t .names)
+  pub names : OnlyWithin (entriesLength (s .symbols)) (entriesLength (s .symbols) + entryWidth) (s .names) (t .names)
 
 abbrev pub NameAfter : Store → List ℕ → Store → Type 0
 NameAfter s n t = (Knows s n → SameNames s t) × ((Knows s n → ⊥) → OneName s n t)

@@ -6,7 +6,7 @@ use native.Mathlib.Omega.{arith}
 use lib.ListN.{length, set}
 use lib.Seq.{sets, sets-eq, take-all}
 use Rattle.refusal.specs.declared.Refusal.{Refusal}
-use Rattle.name.specs.Entries.{Entries, entry, putName}
+use Rattle.name.specs.Entries.{entryWidth, entriesLength, tableLength, Entries, entry, putName}
 use Rattle.name.proofs.EntryLaws.{entry-length}
 use Rattle.bits.specs.Got.{Got, got, refused}
 use Rattle.bits.proofs.GotLaws.{all-at, Loop, loop-start, loop-more, loop-refuses, loop-ends}
@@ -22,15 +22,15 @@ use Rattle.file_names.proofs.EntriesLaws.{entryOf, names-length, held-length, h
 use Rattle.file_reader.specs.Put.{PutFunction, Zeros}
 
 -- The name of one function more.
-names-more : (fs : List Function) (f : Function) (i : ℕ) → HoldsNames (pad 4096 (blocks entryOf fs)) i fs → i < 128
+names-more : (fs : List Function) (f : Function) (i : ℕ) → HoldsNames (pad tableLength (blocks entryOf fs)) i fs → i < 128
     → length (f .name) ≤ 31
-    → putName (pad 4096 (blocks entryOf fs)) i (f .name) ≡ pad 4096 (blocks entryOf (fs ++ (f ∷ [])))
+    → putName (pad tableLength (blocks entryOf fs)) i (f .name) ≡ pad tableLength (blocks entryOf (fs ++ (f ∷ [])))
 unfolding putName
 names-more fs f i h b l =
-    let e : length (entry (f .name)) ≡ 32 = entry-length (f .name) l in
+    let e : length (entry (f .name)) ≡ entryWidth = entry-length (f .name) l in
     let few : i ≤ 128 = omega arith in
-    let t = take-all 32 (entry (f .name)) (omega arith) in
-    rw (t, blocks-snoc) (pad-block 4096 (blocks entryOf fs) (entry (f .name)) (i * 32) (i * 32 + 32) (names-length h
+    let t = take-all entryWidth (entry (f .name)) (omega arith) in
+    rw (t, blocks-snoc) (pad-block tableLength (blocks entryOf fs) (entry (f .name)) (entriesLength i) (entriesLength i + entryWidth) (names-length h
     few) (omega arith) (omega arith))
 
 -- The 8 places of a function's argument sorts.
@@ -79,7 +79,7 @@ module _ {s kinds : List ℕ} {at count : ℕ}
         tight = every-nil;
         held =
             record {
-              names-are = z .names-zero ∙ sym (padWith-nil 0 4096);
+              names-are = z .names-zero ∙ sym (padWith-nil 0 tableLength);
               declared-are = z .declared-zero ∙ sym (padWith-nil 0 128);
               costs-are = z .costs-zero ∙ sym (padWith-nil 0 128);
               unextractable-are = z .unextractable-zero ∙ sym (padWith-nil 0 128);
@@ -98,7 +98,7 @@ module _ {s kinds : List ℕ} {at count : ℕ}
     pub functions-entries : i < 128 → Entries names i
     functions-entries b = held-entries functions-names (omega arith)
 
-    pub functions-room : i < 128 → length names ≡ 4096
+    pub functions-room : i < 128 → length names ≡ tableLength
     functions-room b = held-length functions-names (omega arith)
 
     pub functions-more : {names′ declared′ costs′ unextractable′ hidden′ outputs′ arities′ arguments′ : List ℕ}

@@ -1,8 +1,9 @@
 -- `lent_entries::entry_of` meets its contract. Assumes nothing.
-use Prim.Native.Nat.{_≤_, _<_, _-_, _*_, _+_}
+use Prim.Native.Nat.{_≤_, _<_, _-_, _+_}
 use mathlib.Core.Path.{_≡_, refl, sym, _∙_}
 use lib.ListN.{length, take, drop, length-set}
 use lib.Seq.{take-all}
+use Rattle.name.specs.Entries.{entryWidth, entriesLength}
 use Rattle.lent_entries.proofs.EntriesLaws.{entry-more}
 use borrow.Author.Needs.{needs}
 use native.Mathlib.Omega.{arith}
@@ -11,10 +12,10 @@ use Rattle.lent_entries.proofs.entry_of.Tie as tie
 
 abbrev Inv-loop : tie.InvT-loop
 Inv-loop names k at e₀ j₀ e j =
-    (at ≡ k * 32) × ((j ≤ 32) × ((length e ≡ 32) × (take j e ≡ take j (drop (k * 32) names))))
+    (at ≡ entriesLength k) × ((j ≤ entryWidth) × ((length e ≡ entryWidth) × (take j e ≡ take j (drop (entriesLength k) names))))
 
 abbrev μ-loop : tie.MeasureT-loop
-μ-loop names k at e₀ j₀ e j = 32 - j
+μ-loop names k at e₀ j₀ e j = entryWidth - j
 
 mul-at : tie.Need-mul-at Inv-loop μ-loop
 mul-at c = search needs
@@ -46,7 +47,7 @@ loop-again c =
         omega arith,
         (
           simp length-set (l .inv .1 .1 .0),
-          entry-more (g .names .now) (l .e) (g .k * 32) (l .j) (omega arith) (omega arith) (omega arith) (l .inv .1
+          entry-more (g .names .now) (l .e) (entriesLength (g .k)) (l .j) (omega arith) (omega arith) (omega arith) (l .inv .1
               .1 .1),
         ),
       ),
@@ -55,8 +56,8 @@ loop-again c =
 returns : tie.Need-returns Inv-loop μ-loop
 returns c =
     let l = c .before .loop in
-    let e : l .j ≡ 32 = omega arith in
-    sym (take-all 32 (l .e) (omega arith)) ∙ rw e at (l .inv .1 .1 .1)
+    let e : l .j ≡ entryWidth = omega arith in
+    sym (take-all entryWidth (l .e) (omega arith)) ∙ rw e at (l .inv .1 .1 .1)
 
 pub entry-of-spec : {M : Type 1} → statement M
 entry-of-spec =

@@ -1,9 +1,10 @@
 -- `lent_entries::load_names` meets its contract. Assumes nothing.
-use Prim.Native.Nat.{ℕ, _≤_, _<_, _-_, _*_, _+_, min}
+use Prim.Native.Nat.{ℕ, _≤_, _<_, _-_, _+_, min}
 use mathlib.Core.Path.{_≡_, refl, sym, _∙_, subst}
 use mathlib.Core.List.{[]}
 use lib.ListN.{length, getD}
-use lib.Seq.{paste, length-paste}
+use lib.Seq.{length-paste}
+use Rattle.name.specs.Entries.{entriesLength, entryWidth, HasEntry, putEntry}
 use Rattle.lent_entries.proofs.EntriesLaws.{CopiedNames, copied-none, copied-more, copied-whole}
 use borrow.Author.Needs.{needs}
 use native.Mathlib.Omega.{arith}
@@ -56,13 +57,13 @@ loop-again c =
     let put = c .before .before .put-entry in
     let less : l .k < c .before .before .before .before .before .before .before .before .room-of .result = omega
     arith in
-    let fits : l .k * 32 + 32 ≤ length (l .names) = omega arith in
-    let wide : length (e .result) ≡ 32 = e .ensures .1 in
-    let copied : CopiedNames (g .ns .now) (l .k + 1) (paste (l .names) (l .k * 32) (e .result) 32) =
+    let fits : HasEntry (l .names) (l .k) = omega arith in
+    let wide : length (e .result) ≡ entryWidth = e .ensures .1 in
+    let copied : CopiedNames (g .ns .now) (l .k + 1) (putEntry (l .names) (l .k) (e .result)) =
     copied-more (g .ns .now) (l .k) (l .names) (e .result) (omega arith) (e .ensures .0) wide fits (l .inv .1 .1 .1)
     in
-    let long : length (paste (l .names) (l .k * 32) (e .result) 32) ≡ length (l .names) =
-    length-paste (l .names) (l .k * 32) (e .result) 32 fits (omega arith) in (
+    let long : length (putEntry (l .names) (l .k) (e .result)) ≡ length (l .names) =
+    length-paste (l .names) (entriesLength (l .k)) (e .result) entryWidth fits (omega arith) in (
       l .inv .0,
       (
         omega arith,

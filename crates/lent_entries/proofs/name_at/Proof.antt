@@ -1,7 +1,7 @@
 -- `lent_entries::name_at` meets its contract: a walk of its MIR, by hand. The slice is looked into, record i is taken out
 -- of the row, copied whole, and put back. Assumes nothing.
 use mathlib.Core.Path.{_≡_, refl, sym}
-use Prim.Native.Nat.{ℕ, _<_, _*_, _^_}
+use Prim.Native.Nat.{ℕ, _<_, _^_}
 use native.Mathlib.Omega.{arith}
 use mathlib.Core.List.{List, [], _∷_}
 use lib.ListN.{length, getD}
@@ -93,13 +93,14 @@ use denote.Triple.Walked.{
   walk-meets,
 }
 use denote.Exit.{yes}
+use Rattle.name.specs.Entries.{entryWidth, entriesLength}
 use Rattle.lent_entries.proofs.name_at.Key.{name as #it}
 use Rattle.lent_entries.proofs.name_at as it
 use Rattle.lent_entries.proofs.name_at.Statement as stated
 use Rattle.lent_entries.proofs.name_at.Code as code
 
 abbrev Entry : RattleType
-Entry = Array u8 32
+Entry = Array u8 entryWidth
 
 abbrev stayed : Stays (it.ended .signature .params) (it.ended .kept)
 stayed = (stay-none-slice (0 ∷ []) tt (plain (λ _. Entry)) yes, (stay-none (λ _. usize) yes, tt))
@@ -138,7 +139,7 @@ module _ {M : Type 1} (𝓤 : URA M) (H : Heap 𝓤) (A : Atoms 𝓤) (W : Given
       nothing ! $ move ! (1 ∷ 0 ∷ []) $ join ! $ frame ! $
       nothing ! $ owned ! usize (Is usize) (uint-makes 𝓤 H A W w64) i _ (refl, gi) $ fjoin ! $ move ! (1 ∷ 0 ∷ []) $
       fjoin ! $ frame ! $
-      owned ! Entry (Is Entry) (array-makes 𝓤 H A W u8 (uint-makes 𝓤 H A W w8) 32) elem _ g $ done !
+      owned ! Entry (Is Entry) (array-makes 𝓤 H A W u8 (uint-makes 𝓤 H A W w8) entryWidth) elem _ g $ done !
 
   module _ (C : Calls 𝓤 H) (Λ : Loops 𝓤 H) where
     walk : Room Entry (length ys) → i < 2 ^ 64 → i < length ys → ent 𝓤 (onEntry 𝓤 H A it.signature (κ, tt) (q, tt)
@@ -159,19 +160,19 @@ module _ {M : Type 1} (𝓤 : URA M) (H : Heap 𝓤) (A : Atoms 𝓤) (W : Given
         (stop !)) (init ! 4 refl (tt, record { fits = byte-fits })) $
         assigns ! (bin ! (load ! (from ! (fld ! refl (stop !))) (look-in ! 8 (sub ! 0 refl (whole !)))) (load ! (from
         ! (stop !)) (look ! 4 refl)) tt) (from ! (stop !)) (init ! 2 refl (tt, tt)) $
-        rewrite ! 2 (λ (p : ℕ). ‵ (fat fullShare tyPtr l₄ 0 (vptr b p))) (sym (place-is 32 o i)) refl $
+        rewrite ! 2 (λ (p : ℕ). ‵ (fat fullShare tyPtr l₄ 0 (vptr b p))) (sym (place-is entryWidth o i)) refl $
         move ! (13 ∷ []) $ fsplit ! $ fsplit ! $ move ! (1 ∷ []) $ fsplit ! $ move ! (16 ∷ []) $ split ! $ move ! (3
         ∷ 0 ∷ []) $
-        looks-slice ! tt Entry (Is Entry) (shows 𝓤 H A Entry) vals (array-tells u8 (uint-vals w8) (uint-tells w8) 32)
-        (array-copy 𝓤 H A W u8 (uint-copy 𝓤 H A W w8) 32) ys b o (λ q′.
-        elem-out ! Entry (Is Entry) (shows 𝓤 H A Entry) vals (array-tells u8 (uint-vals w8) (uint-tells w8) 32) q′ ys
+        looks-slice ! tt Entry (Is Entry) (shows 𝓤 H A Entry) vals (array-tells u8 (uint-vals w8) (uint-tells w8) entryWidth)
+        (array-copy 𝓤 H A W u8 (uint-copy 𝓤 H A W w8) entryWidth) ys b o (λ q′.
+        elem-out ! Entry (Is Entry) (shows 𝓤 H A Entry) vals (array-tells u8 (uint-vals w8) (uint-tells w8) entryWidth) q′ ys
         i [] b o l (λ g.
         -- [ns[i]; what it owns; the others; what shuts; the fractured borrow; true; res; ns's fact; i's; _5; …; _4; …;
         -- _3; …; _2; …; _1; …; _0; …]
         assigns ! (of-opd ! (load ! (from ! (hop ! (look ! 11 refl) (stop !))) (look-raw ! 0 refl))) (from ! (stop
-        !)) (init ! 9 refl (array-lawful 𝓤 H A W u8 (uint-lawful 𝓤 H A W w8) 32 .typed elem _ g .0)) $
+        !)) (init ! 9 refl (array-lawful 𝓤 H A W u8 (uint-lawful 𝓤 H A W w8) entryWidth .typed elem _ g .0)) $
         assigns ! (of-opd ! (load ! (from ! (stop !)) (look ! 9 refl))) (from ! (stop !)) (init ! 19 refl
-        (array-lawful 𝓤 H A W u8 (uint-lawful 𝓤 H A W w8) 32 .typed elem _ g .0)) $
+        (array-lawful 𝓤 H A W u8 (uint-lawful 𝓤 H A W w8) entryWidth .typed elem _ g .0)) $
         elem-back ! Entry q′ ys i [] (vals elem) b o l $ shuts-slice ! tt Entry q′ ys b o $
         returns ! (look ! 16 refl) $ forget ! 6 refl $ forget ! 8 refl $ forget ! 10 refl $ forget ! 12 refl $ forget
         ! 14 refl $ forget ! 16 refl $
@@ -181,7 +182,7 @@ module _ {M : Type 1} (𝓤 : URA M) (H : Heap 𝓤) (A : Atoms 𝓤) (W : Given
         move ! (3 ∷ 1 ∷ []) $ fjoin ! $ move ! (3 ∷ 0 ∷ []) $ fjoin ! $ keep ! (1 ∷ 0 ∷ []) $ by ! (exits g
         gi)))))))))
       where
-        byte-fits : i * 32 < 2 ^ 64
+        byte-fits : entriesLength i < 2 ^ 64
         byte-fits = omega (arith, gn .1, l)
 
 module _ {M : Type 1} (𝓤 : URA M) (H : Heap 𝓤) (A : Atoms 𝓤) (W : Given 𝓤 H A) (mem : Memory → SProp 𝓤) (run :

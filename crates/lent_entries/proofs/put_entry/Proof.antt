@@ -1,27 +1,28 @@
 -- `lent_entries::put_entry` meets its contract. Assumes nothing.
-use Prim.Native.Nat.{_≤_, _<_, _-_, _*_, _+_}
+use Prim.Native.Nat.{_≤_, _<_, _-_, _+_}
 use mathlib.Core.Path.{_≡_, refl}
 use native.Mathlib.Numerals.{add-one}
 use lib.ListN.{length, set, length-set}
 use lib.Seq.{paste, paste-zero, paste-suc}
 use borrow.Author.Needs.{needs}
 use native.Mathlib.Omega.{arith}
+use Rattle.name.specs.Entries.{entryWidth, entriesLength}
 use Rattle.lent_entries.proofs.put_entry.Statement.{statement}
 use Rattle.lent_entries.proofs.put_entry.Tie as tie
 
 abbrev Inv-loop : tie.InvT-loop
 Inv-loop names₀ k e at j₀ names j =
-    (at ≡ k * 32) × ((j ≤ 32) × ((names ≡ paste names₀ (k * 32) e j) × (length names ≡ length names₀)))
+    (at ≡ entriesLength k) × ((j ≤ entryWidth) × ((names ≡ paste names₀ (entriesLength k) e j) × (length names ≡ length names₀)))
 
 abbrev μ-loop : tie.MeasureT-loop
-μ-loop names₀ k e at j₀ names j = 32 - j
+μ-loop names₀ k e at j₀ names j = entryWidth - j
 
 mul-at : tie.Need-mul-at Inv-loop μ-loop
 mul-at c = search needs
 
 loop-holds : tie.Need-loop-holds Inv-loop μ-loop
 loop-holds c =
-    (refl, (omega arith, (paste-zero (c .args .names .now) (c .args .k * 32) (c .args .e .now), refl)))
+    (refl, (omega arith, (paste-zero (c .args .names .now) (entriesLength (c .args .k)) (c .args .e .now), refl)))
 
 shared-slice-read-names : tie.Need-shared-slice-read-names Inv-loop μ-loop
 shared-slice-read-names c = search needs
@@ -46,7 +47,7 @@ loop-again c =
       (
         omega arith,
         (
-          rw (l .inv .1 .1 .0) (rw add-one (paste-suc (g .names .now) (g .k * 32) (g .e .now) (l .j) 0 (omega arith)
+          rw (l .inv .1 .1 .0) (rw add-one (paste-suc (g .names .now) (entriesLength (g .k)) (g .e .now) (l .j) 0 (omega arith)
               (omega arith))),
           simp length-set (l .inv .1 .1 .1),
         ),
@@ -59,7 +60,7 @@ same-length c = search needs
 returns : tie.Need-returns Inv-loop μ-loop
 returns c =
     let l = c .before .loop in
-    let e : l .j ≡ 32 = omega arith in
+    let e : l .j ≡ entryWidth = omega arith in
     rw e at (l .inv .1 .1 .0)
 
 pub put-entry-spec : {M : Type 1} → statement M

@@ -1,9 +1,10 @@
 -- `lent_extract::best_in` meets its contract. Assumes nothing.
 use native.Mathlib.Omega.{arith}
-use Prim.Native.Nat.{ℕ, _*_}
+use Prim.Native.Nat.{ℕ}
 use mathlib.Core.Path.{_≡_, sym, ap, _∙_}
 use lib.ListN.{length, length-replicate}
 use lib.Seq.{length-take-le, length-front}
+use Rattle.name.specs.Entries.{entriesLength, tableLength}
 use Rattle.term_rules.specs.Lent.{Store, recordsLength}
 use Rattle.answer_rules.specs.Answers.{After}
 use Rattle.answer_rules.specs.Best.{BestTerm, bestAt}
@@ -47,7 +48,7 @@ array-borrow-prefix-names c = search needs
 slice-aggregate-best-3 : tie.Need-slice-aggregate-best-3
 slice-aggregate-best-3 c =
     let names = c .before .before .before .before .load-names in
-    sym (length-take-le (names .result * 32) (names .last .1 .0) (omega (
+    sym (length-take-le (entriesLength (names .result)) (names .last .1 .0) (omega (
       arith,
       names .ensures .room,
       names .ensures .long,
@@ -60,8 +61,8 @@ slice-aggregate-unload-names : tie.Need-slice-aggregate-unload-names
 slice-aggregate-unload-names c =
     let names = c .before .before .before .before .before .before .before .before .before .before .load-names in
     let bytes = c .before .before .before .before .before .best .last .1 .1 .1 .1 .1 .0 in
-    sym (length-front (names .last .1 .0) bytes (names .result * 32) (c .before .before .names4 .given)
-    ∙ (names .ensures .long ∙ length-replicate {A = ℕ} 4096 0))
+    sym (length-front (names .last .1 .0) bytes (entriesLength (names .result)) (c .before .before .names4 .given)
+    ∙ (names .ensures .long ∙ length-replicate {A = ℕ} tableLength 0))
 
 unload-names-requires : tie.Need-unload-names-requires
 unload-names-requires c κs =
@@ -69,8 +70,8 @@ unload-names-requires c κs =
     let bytes = c .before .before .before .before .before .best .last .1 .1 .1 .1 .1 .0 in
     omega (
       arith,
-      length-front (names .last .1 .0) bytes (names .result * 32) (c .before .before .names4 .given)
-          ∙ (names .ensures .long ∙ length-replicate {A = ℕ} 4096 0),
+      length-front (names .last .1 .0) bytes (entriesLength (names .result)) (c .before .before .names4 .given)
+          ∙ (names .ensures .long ∙ length-replicate {A = ℕ} tableLength 0),
     )
 
 same-length : tie.Need-same-length
@@ -92,16 +93,16 @@ returns c =
     let wide : length (call .last .1 .1 .1 .1 .0) ≡ f .room =
     c .before .before .before .before .before .literals3 .given
     ∙ length-take-le (f .room) (f .literals) (omega (arith, whole .wide, whole .within)) in
-    let bytes : length (names .last .1 .0) ≡ 4096 = names .ensures .long ∙ length-replicate {A = ℕ} 4096 0 in
-    let size : length (call .last .1 .1 .1 .1 .1 .0) ≡ names .result * 32 =
+    let bytes : length (names .last .1 .0) ≡ tableLength = names .ensures .long ∙ length-replicate {A = ℕ} tableLength 0 in
+    let size : length (call .last .1 .1 .1 .1 .1 .0) ≡ entriesLength (names .result) =
     c .before .before .before .before .names4 .given
-    ∙ length-take-le (names .result * 32) (names .last .1 .0) (omega (arith, names .ensures .room)) in
+    ∙ length-take-le (entriesLength (names .result)) (names .last .1 .0) (omega (arith, names .ensures .room)) in
     worked (After BestTerm) (λ a. a .store) (λ rs ls bs. seenBest (call .result) rs ls bs (g .terms) (g .symbols))
     (best-faithful (call .result) (g .terms) (g .symbols)) f (g .ns .now) (g .terms) (g .symbols)
     (λ (s : Store). bestAt (g .file .now) (g .sort) (g .value) s) (call .last .1 .1 .1 .0) _
     (call .last .1 .1 .1 .1 .0) long wide
     (names .ensures .bytes) (names .ensures .wide) (call .last .1 .1 .1 .1 .1 .0) _ (c .before .unload-names .last .0)
-    (size ∙ ap (λ (k : ℕ). k * 32) (names .ensures .room)) (c .before .unload-names .ensures) (call .ensures)
+    (size ∙ ap (λ (k : ℕ). entriesLength k) (names .ensures .room)) (c .before .unload-names .ensures) (call .ensures)
 
 pub best-in-spec : {M : Type 1} → statement M
 best-in-spec =

@@ -1,9 +1,10 @@
 -- `lent_extract::variants_in` meets its contract. Assumes nothing.
 use native.Mathlib.Omega.{arith}
-use Prim.Native.Nat.{ℕ, _*_}
+use Prim.Native.Nat.{ℕ}
 use mathlib.Core.Path.{_≡_, sym, ap, _∙_}
 use lib.ListN.{length, length-replicate}
 use lib.Seq.{length-take-le, length-front}
+use Rattle.name.specs.Entries.{entriesLength, tableLength}
 use Rattle.term_rules.specs.Lent.{Store, recordsLength}
 use Rattle.answer_rules.specs.Variants.{VariantsAfter, variantsAt}
 use Rattle.variant_answers.specs.Kept.{lending}
@@ -47,7 +48,7 @@ array-borrow-prefix-names c = search needs
 slice-aggregate-variants-3 : tie.Need-slice-aggregate-variants-3
 slice-aggregate-variants-3 c =
     let names = c .before .before .before .before .load-names in
-    sym (length-take-le (names .result * 32) (names .last .1 .0) (omega (
+    sym (length-take-le (entriesLength (names .result)) (names .last .1 .0) (omega (
       arith,
       names .ensures .room,
       names .ensures .long,
@@ -63,8 +64,8 @@ slice-aggregate-unload-names c =
     let bytes = c .before .before .before .before .before .before .before .before .before
     .variants .last .1 .1 .1 .1 .1 .1 .0 in
     let same = c .before .before .before .before .before .before .names4 .given in
-    sym (length-front (names .last .1 .0) bytes (names .result * 32) same
-    ∙ (names .ensures .long ∙ length-replicate {A = ℕ} 4096 0))
+    sym (length-front (names .last .1 .0) bytes (entriesLength (names .result)) same
+    ∙ (names .ensures .long ∙ length-replicate {A = ℕ} tableLength 0))
 
 unload-names-requires : tie.Need-unload-names-requires
 unload-names-requires c κs =
@@ -75,8 +76,8 @@ unload-names-requires c κs =
     let same = c .before .before .before .before .before .before .names4 .given in
     omega (
       arith,
-      length-front (names .last .1 .0) bytes (names .result * 32) same
-          ∙ (names .ensures .long ∙ length-replicate {A = ℕ} 4096 0),
+      length-front (names .last .1 .0) bytes (entriesLength (names .result)) same
+          ∙ (names .ensures .long ∙ length-replicate {A = ℕ} tableLength 0),
     )
 
 same-length : tie.Need-same-length
@@ -105,10 +106,10 @@ returns c =
     let wide : length (call .last .1 .1 .1 .1 .1 .0) ≡ f .room =
     c .before .before .before .before .before .before .before .before .before .literals3 .given
     ∙ length-take-le (f .room) (f .literals) (omega (arith, whole .wide, whole .within)) in
-    let bytes : length (names .last .1 .0) ≡ 4096 = names .ensures .long ∙ length-replicate {A = ℕ} 4096 0 in
-    let size : length (call .last .1 .1 .1 .1 .1 .1 .0) ≡ names .result * 32 =
+    let bytes : length (names .last .1 .0) ≡ tableLength = names .ensures .long ∙ length-replicate {A = ℕ} tableLength 0 in
+    let size : length (call .last .1 .1 .1 .1 .1 .1 .0) ≡ entriesLength (names .result) =
     c .before .before .before .before .before .before .before .before .names4 .given
-    ∙ length-take-le (names .result * 32) (names .last .1 .0) (omega (arith, names .ensures .room)) in
+    ∙ length-take-le (entriesLength (names .result)) (names .last .1 .0) (omega (arith, names .ensures .room)) in
     let ws = call .last .1 .1 .1 .1 .1 .1 .1 .1 .1 .0 in
     let us = call .last .1 .1 .1 .1 .1 .1 .1 .1 .1 .1 .0 in
     worked VariantsAfter (λ a. a .store)
@@ -120,7 +121,7 @@ returns c =
     (call .last .1 .1 .1 .1 .1 .0) long wide
     (names .ensures .bytes) (names .ensures .wide) (call .last .1 .1 .1 .1 .1 .1 .0) _
     (c .before .unload-names .last .0)
-    (size ∙ ap (λ (k : ℕ). k * 32) (names .ensures .room)) (c .before .unload-names .ensures) (call .ensures)
+    (size ∙ ap (λ (k : ℕ). entriesLength k) (names .ensures .room)) (c .before .unload-names .ensures) (call .ensures)
 
 pub variants-in-spec : {M : Type 1} → statement M
 variants-in-spec =

@@ -1,12 +1,12 @@
 -- `lent_terms::add_literal_in` meets its contract: the entries are copied, and `term::add_literal` does the work.
 -- Assumes nothing.
 use native.Mathlib.Omega.{arith}
-use Prim.Native.Nat.{_*_}
 use mathlib.Core.Path.{_≡_, sym, _∙_}
 use mir.Syntax.{w64}
 use mir.Val.{toZ, ofZ}
 use lib.Seq.{length-take-le}
 use lib.ListN.{length}
+use Rattle.name.specs.Entries.{entriesLength}
 use Rattle.lent_terms.proofs.AddedLaws.{added-same-names}
 use Rattle.term_rules.specs.Lent.{Store, recordsLength}
 use Rattle.term.specs.Calls.{addLiteral}
@@ -48,7 +48,7 @@ array-share-prefix-names c = search needs
 slice-aggregate-add-literal-3 : tie.Need-slice-aggregate-add-literal-3
 slice-aggregate-add-literal-3 c =
     let names = c .before .before .before .before .load-names in
-    sym (length-take-le (names .result * 32) (names .last .1 .0) (omega (
+    sym (length-take-le (entriesLength (names .result)) (names .last .1 .0) (omega (
       arith,
       names .ensures .room,
       names .ensures

@@ -1,10 +1,11 @@
 -- `lent_terms::add_variable_in` meets its contract: the entries are copied, `term::add_variable` does the work, and
 -- the entries are put back. Assumes nothing.
 use native.Mathlib.Omega.{arith}
-use Prim.Native.Nat.{ℕ, _*_}
+use Prim.Native.Nat.{ℕ}
 use mathlib.Core.Path.{_≡_, sym, ap, _∙_}
 use lib.ListN.{length, length-replicate}
 use lib.Seq.{length-take-le, length-front}
+use Rattle.name.specs.Entries.{entriesLength, tableLength}
 use Rattle.term_rules.specs.Lent.{Store, recordsLength}
 use Rattle.term.specs.Calls.{addVariable}
 use Rattle.lent_terms.proofs.AddedLaws.{added-names}
@@ -46,7 +47,7 @@ array-borrow-prefix-names c = search needs
 slice-aggregate-add-variable-3 : tie.Need-slice-aggregate-add-variable-3
 slice-aggregate-add-variable-3 c =
     let names = c .before .before .before .before .load-names in
-    sym (length-take-le (names .result * 32) (names .last .1 .0) (omega (
+    sym (length-take-le (entriesLength (names .result)) (names .last .1 .0) (omega (
       arith,
       names .ensures .room,
       names .ensures
@@ -60,8 +61,8 @@ slice-aggregate-unload-names : tie.Need-slice-aggregate-unload-names
 slice-aggregate-unload-names c =
     let names = c .before .before .before .before .before .before .before .before .before .before .load-names in
     sym (length-front (names .last .1 .0) (c .before .before .before .before .before .add-variable .last .1 .1 .0)
-    (names .result * 32) (c .before .before .names4 .given)
-    ∙ (names .ensures .long ∙ length-replicate {A = ℕ} 4096 0))
+    (entriesLength (names .result)) (c .before .before .names4 .given)
+    ∙ (names .ensures .long ∙ length-replicate {A = ℕ} tableLength 0))
 
 unload-names-requires : tie.Need-unload-names-requires
 unload-names-requires c κs =
@@ -69,8 +70,8 @@ unload-names-requires c κs =
     omega (
       arith,
       length-front (names .last .1 .0) (c .before .before .before .before .before .add-variable .last .1
-          .1 .0) (names .result * 32) (c .before .before .names4 .given)
-          ∙ (names .ensures .long ∙ length-replicate {A = ℕ} 4096 0),
+          .1 .0) (entriesLength (names .result)) (c .before .before .names4 .given)
+          ∙ (names .ensures .long ∙ length-replicate {A = ℕ} tableLength 0),
     )
 
 same-length : tie.Need-same-length
@@ -92,15 +93,15 @@ returns c =
     let wide : length (call .last .1 .0) ≡ f .room =
     c .before .before .before .before .before .literals3 .given ∙ length-take-le (f .room) (f .literals) (omega
     (arith, whole .wide, whole .within)) in
-    let bytes : length (names .last .1 .0) ≡ 4096 = names .ensures .long ∙ length-replicate {A = ℕ} 4096 0 in
-    let size : length (call .last .1 .1 .0) ≡ names .result * 32 =
-    c .before .before .before .before .names4 .given ∙ length-take-le (names .result * 32) (names .last .1 .0)
+    let bytes : length (names .last .1 .0) ≡ tableLength = names .ensures .long ∙ length-replicate {A = ℕ} tableLength 0 in
+    let size : length (call .last .1 .1 .0) ≡ entriesLength (names .result) =
+    c .before .before .before .before .names4 .given ∙ length-take-le (entriesLength (names .result)) (names .last .1 .0)
     (omega (arith, names .ensures .room)) in
     added-names f (g .ns .now) (g .terms) (g .symbols) (λ (s : Store). addVariable s (g .name .now)) (call .result)
     (call .last .0) _
     (call .last .1 .0) long wide (names .ensures .bytes) (names .ensures .wide) (call .last .1 .1 .0) _ (c .before
     .unload-names .last .0)
-    (size ∙ ap (λ (k : ℕ). k * 32) (names .ensures .room)) (c .before .unload-names .ensures) (call .ensures)
+    (size ∙ ap (λ (k : ℕ). entriesLength k) (names .ensures .room)) (c .before .unload-names .ensures) (call .ensures)
 
 pub add-variable-in-spec : {M : Type 1} → statement M
 add-variable-in-spec =

@@ -1,9 +1,9 @@
 -- `lent_terms::compare_in` meets its contract: the entries are copied, and `term::compare` does the work. Assumes
 -- nothing.
 use native.Mathlib.Omega.{arith}
-use Prim.Native.Nat.{_*_}
 use mathlib.Core.Path.{sym, ap, _∙_}
 use lib.Seq.{length-take-le}
+use Rattle.name.specs.Entries.{entriesLength}
 use Rattle.term_rules.specs.Lent.{Store, recordsLength}
 use Rattle.term.specs.Calls.{compareTerms}
 use Rattle.lent.proofs.StoreLaws.{storeIn-is}
@@ -46,7 +46,7 @@ slice-aggregate-compare-3 : tie.Need-slice-aggregate-compare-3
 slice-aggregate-compare-3 c =
     let names = c .before .before .before .before .load-names in
     sym
-    (length-take-le (names .result * 32) (names .last .1 .0)
+    (length-take-le (entriesLength (names .result)) (names .last .1 .0)
     (omega (arith, names .ensures .room, names .ensures .long)))
 
 compare-requires : tie.Need-compare-requires

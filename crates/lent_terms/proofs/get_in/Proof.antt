@@ -1,8 +1,8 @@
 -- `lent_terms::get_in` meets its contract: the entries are copied, and `term::get` does the work. Assumes nothing.
 use native.Mathlib.Omega.{arith}
-use Prim.Native.Nat.{_*_}
 use mathlib.Core.Path.{sym, ap, _∙_}
 use lib.Seq.{length-take-le}
+use Rattle.name.specs.Entries.{entriesLength}
 use Rattle.term_rules.specs.Lent.{Store, recordsLength}
 use Rattle.term.specs.Calls.{getTerm}
 use Rattle.lent.proofs.StoreLaws.{storeIn-is}
@@ -44,7 +44,7 @@ array-share-prefix-names c = search needs
 slice-aggregate-get-3 : tie.Need-slice-aggregate-get-3
 slice-aggregate-get-3 c =
     let names = c .before .before .before .before .load-names in
-    sym (length-take-le (names .result * 32) (names .last .1 .0) (omega (
+    sym (length-take-le (entriesLength (names .result)) (names .last .1 .0) (omega (
       arith,
       names .ensures .room,
       names .ensures

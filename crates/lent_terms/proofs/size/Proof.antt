@@ -38,6 +38,7 @@ use denote.Triple.Table.{entered, cited}
 use denote.Triple.Walked.{says, Stays, stay-dropped, walkOf, goes-dropped, Walks, ends-at, walked, walk-meets}
 use denote.Exit.{yes}
 use denote.Struct.Laws as LL
+use Rattle.name.specs.Entries.{entryWidth}
 use Rattle.term_rules.specs.declared.Term.{Term}
 use Rattle.term_rules.proofs.Term as T
 use Rattle.lent.specs.declared.Flat.{Flat}
@@ -68,7 +69,7 @@ use Rattle.lent_terms.proofs.size.Statement as stated
 use Rattle.lent_terms.proofs.size.Code as code
 
 abbrev Entry : RattleType
-Entry = Array u8 32
+Entry = Array u8 entryWidth
 
 abbrev stayed : Stays (it.ended .signature .params) (it.ended .kept)
 stayed = (

@@ -1,8 +1,8 @@
 -- `lent_terms::sort_in` meets its contract: the entries are copied, and `term::sort` does the work. Assumes nothing.
 use native.Mathlib.Omega.{arith}
-use Prim.Native.Nat.{_*_}
 use mathlib.Core.Path.{sym, ap, _∙_}
 use lib.Seq.{length-take-le}
+use Rattle.name.specs.Entries.{entriesLength}
 use Rattle.term_rules.specs.Lent.{Store, recordsLength}
 use Rattle.term.specs.Calls.{sortTerms}
 use Rattle.lent.proofs.StoreLaws.{storeIn-is}
@@ -45,7 +45,7 @@ slice-aggregate-sort-3 : tie.Need-slice-aggregate-sort-3
 slice-aggregate-sort-3 c =
     let names = c .before .before .before .before .load-names in
     sym
-    (length-take-le (names .result * 32) (names .last .1 .0)
+    (length-take-le (entriesLength (names .result)) (names .last .1 .0)
     (omega (arith, names .ensures .room, names .ensures .long)))
 
 sort-requires : tie.Need-sort-requires

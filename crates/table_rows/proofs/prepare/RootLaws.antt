@@ -7,7 +7,7 @@ use native.Mathlib.Omega.{arith}
 use native.Mathlib.Decide.{decLt}
 use borrow.Author.Tests.{eq-eqb, ne-eqb, lt-ltb, le-ltb}
 use lib.ListN.{length, getD}
-use Rattle.name.specs.Entries.{entry}
+use Rattle.name.specs.Entries.{tableLength, entry}
 use Rattle.file_rules.specs.Table.{Sort, Function, Row, Table}
 use Rattle.file_rules.specs.Arrays.{pad, blocks}
 use Rattle.table_flat.specs.Classes.{firstClass, Bases}
@@ -36,7 +36,7 @@ module _ (sorts literals : ℕ) (kinds classes : List ℕ) (t : Table) (h : Sort
   -- With the functions and rows in arrays of their own, the whole table is held.
   held :
       Holds t kinds classes
-      (pad 4096 (blocks (λ (f : Function). entry (f .name)) (t .functions)))
+      (pad tableLength (blocks (λ (f : Function). entry (f .name)) (t .functions)))
       (numbers (λ (f : Function). f .hasCost) t)
       (numbers (λ (f : Function). f .cost) t)
       (numbers (λ (f : Function). f .unextractable) t)

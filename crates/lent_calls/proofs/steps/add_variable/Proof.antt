@@ -42,6 +42,7 @@ use denote.Triple.Walked.{ends-at, walked, walk-meets}
 use denote.Exit.{yes}
 use denote.Struct.Laws as LL
 use denote.Enum.Laws as EL
+use Rattle.name.specs.Entries.{entryWidth}
 use Rattle.term_rules.specs.declared.Term.{Term}
 use Rattle.term_rules.proofs.Term as T
 use Rattle.term_rules.proofs.Term.Laws as T′
@@ -71,7 +72,7 @@ use Rattle.lent_calls.proofs.steps.add_variable.Statement as stated
 use Rattle.lent_calls.proofs.steps.add_variable.Code as code
 
 abbrev Entry : RattleType
-Entry = Array u8 32
+Entry = Array u8 entryWidth
 
 abbrev Records : RattleType
 Records = Array T.the-row 1024

@@ -41,6 +41,7 @@ use denote.Triple.Walked.{Stays, stay-dropped, walkOf, goes-dropped, Walks}
 use denote.Triple.Walked.{ends-at, walked, walk-meets}
 use denote.Exit.{yes}
 use denote.Enum.Laws as EL
+use Rattle.name.specs.Entries.{entryWidth}
 use Rattle.term_rules.specs.declared.Term.{Term}
 use Rattle.term_rules.proofs.Term as T
 use Rattle.term_rules.proofs.Term.Laws as T′
@@ -60,7 +61,7 @@ use Rattle.lent_calls.proofs.steps.compare.Statement as stated
 use Rattle.lent_calls.proofs.steps.compare.Code as code
 
 abbrev Entry : RattleType
-Entry = Array u8 32
+Entry = Array u8 entryWidth
 
 abbrev Records : RattleType
 Records = Array T.the-row 1024

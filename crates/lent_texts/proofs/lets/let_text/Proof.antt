@@ -41,6 +41,7 @@ use denote.Triple.Walked.{says, Stays, stay-dropped, walkOf, goes-dropped, gave-
 use denote.Triple.Walked.{ends-at, walked, walk-meets}
 use denote.Exit.{yes}
 use denote.Struct.Laws as LL
+use Rattle.name.specs.Entries.{entryWidth}
 use Rattle.term_rules.specs.declared.Term.{Term}
 use Rattle.term_rules.proofs.Term as T
 use Rattle.term_rules.proofs.Term.Laws as T′
@@ -73,7 +74,7 @@ use Rattle.lent_texts.proofs.lets.let_text.Statement as stated
 use Rattle.lent_texts.proofs.lets.let_text.Code as code
 
 abbrev Entry : RattleType
-Entry = Array u8 32
+Entry = Array u8 entryWidth
 
 abbrev stayed : Stays (it.ended .signature .params) (it.ended .kept)
 stayed = (

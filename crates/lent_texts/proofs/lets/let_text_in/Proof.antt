@@ -1,8 +1,8 @@
 -- `lets::let_text_in` meets its contract. Assumes nothing.
 use native.Mathlib.Omega.{arith}
-use Prim.Native.Nat.{_*_}
 use mathlib.Core.Path.{_≡_, sym, ap, _∙_}
 use lib.Seq.{length-take-le}
+use Rattle.name.specs.Entries.{entriesLength}
 use Rattle.term_rules.specs.Lent.{Store, recordsLength}
 use Rattle.text_whole.specs.LetPlaced.{naming}
 use Rattle.text.specs.LetTold.{letTold}
@@ -45,7 +45,7 @@ array-share-prefix-names c = search needs
 slice-aggregate-let-text-3 : tie.Need-slice-aggregate-let-text-3
 slice-aggregate-let-text-3 c =
     let names = c .before .before .before .before .load-names in
-    sym (length-take-le (names .result * 32) (names .last .1 .0) (omega (
+    sym (length-take-le (entriesLength (names .result)) (names .last .1 .0) (omega (
       arith,
       names .ensures .room,
       names .ensures .long,

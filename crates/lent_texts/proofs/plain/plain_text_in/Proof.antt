@@ -1,9 +1,9 @@
 -- `plain::plain_text_in` meets its contract: the entries are copied, and `text::plain_text` does the work.
 -- Assumes nothing.
 use native.Mathlib.Omega.{arith}
-use Prim.Native.Nat.{_*_}
 use mathlib.Core.Path.{_≡_, sym, ap, _∙_}
 use lib.Seq.{length-take-le}
+use Rattle.name.specs.Entries.{entriesLength}
 use Rattle.term_rules.specs.Lent.{Store, recordsLength}
 use Rattle.text.specs.Told.{plainTold}
 use Rattle.lent.proofs.StoreLaws.{storeIn-is}
@@ -46,7 +46,7 @@ slice-aggregate-plain-text-3 : tie.Need-slice-aggregate-plain-text-3
 slice-aggregate-plain-text-3 c =
     let names = c .before .before .before .before .load-names in
     sym
-    (length-take-le (names .result * 32) (names .last .1 .0)
+    (length-take-le (entriesLength (names .result)) (names .last .1 .0)
     (omega (arith, names .ensures .room, names .ensures .long)))
 
 plain-text-requires : tie.Need-plain-text-requires
