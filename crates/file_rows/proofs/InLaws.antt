@@ -21,6 +21,7 @@ use Rattle.file_rules.specs.Rows.{sortNo, functionNo, columns, range, cellAt, c
 use Rattle.file_rules.specs.Arrays.{padWith, pad, blocks, HoldsSorts, HoldsFunctions}
 use Rattle.file_rules.proofs.ArraysLaws.{padWith-get, padWith-length}
 use Rattle.file_rules.proofs.BlockLaws.{every-map, every-get, blocks-drop}
+use Rattle.file_rules.proofs.CellLaws.{cellAfter, cells-many}
 use Rattle.file_rows.specs.In.{rangeIn, columnIn, cellIn, cellsIn, rowIn, rowsIn}
 use Rattle.file_rows.proofs.CellLaws.{column-when-argument, column-when-output}
 
@@ -114,16 +115,19 @@ module _ {names declared costs unextractable hidden outputs arities arguments : 
 
   cells-are : (s : List ℕ) {kinds classes : List ℕ} {sorts : List Sort} → HoldsSorts kinds classes sorts → (l at : ℕ)
       → cellsIn s kinds classes l outputs arities arguments f at ≡ cellsAt s sorts l (columns (functionNo fs f)) at
-  unfolding cellsIn cellsAt
+  unfolding cellsIn
   cells-are s {kinds} {classes} {sorts} o l at =
       let n : length (columns (functionNo fs f)) ≡ length (functionNo fs f .arguments) + 1 =
       length-append (functionNo fs f .arguments) _ in
+      let by-many : many (cellIn s kinds classes l outputs arities arguments f) (getD arities f 0 + 1) at []
+      ≡ many (cellAfter s sorts l (columns (functionNo fs f))) (length (columns (functionNo fs f))) at [] =
       rw (arity-is, n)
       (many-same _ _ (length (functionNo fs f .arguments) + 1)
       (λ xs p m.
       ap (λ (b : ℕ). cellAt s b p)
       (range-is o l (columnIn outputs arities arguments f (length xs)) ∙ ap (range sorts l) (column-is (length xs) m)))
-      (length (functionNo fs f .arguments) + 1) at [] (omega arith))
+      (length (functionNo fs f .arguments) + 1) at [] (omega arith)) in
+      by-many ∙ sym (cells-many s sorts l (columns (functionNo fs f)) at)
 
 must-same : {A : Type 0} (b : Bool) (r : Refusal) {g h : Got A} → (b ≡ true → g ≡ h) → must b r g ≡ must b r h
 unfolding must

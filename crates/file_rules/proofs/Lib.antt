@@ -7,6 +7,7 @@ pub mod SortLaws
 pub mod LiteralLaws
 pub mod FunctionLaws
 pub mod DifferLaws
+pub mod CellLaws
 pub mod RowLaws
 pub mod TableLaws
 pub mod Coding

@@ -2,7 +2,7 @@
 use Prim.{Dec, yes, no}
 use Prim.Native.Nat.{ℕ, zero, suc, _+_, _*_, _≤_, _<_}
 use mathlib.Core.List.{List, [], _∷_, _++_}
-use mathlib.Core.Path.{_≡_, refl, sym, ap, _∙_}
+use mathlib.Core.Path.{_≡_, refl, sym, ap, _∙_, subst}
 use native.Mathlib.Decide.{decLt}
 use native.Mathlib.Omega.{arith}
 use lib.ListN.{length, getD, length-append, List·getD-append}
@@ -17,6 +17,7 @@ use Rattle.file_rules.specs.Every.{Every, every-nil}
 use Rattle.file_rules.specs.Rows.{functionNo, columns, range, cellAt, cellsAt, rowAt, rowsAt}
 use Rattle.file_rules.specs.Accepted.{FunctionOk, CellsOk, RowOk}
 use Rattle.file_rules.proofs.BlockLaws.{every-snoc, every-get}
+use Rattle.file_rules.proofs.CellLaws.{cells-many}
 
 pub cell-kept : (s : List ℕ) (bound at : ℕ) → All (λ v q. (v < bound) × (q ≡ at + 9)) (cellAt s bound at)
 unfolding cellAt
@@ -53,10 +54,10 @@ module _ (s : List ℕ) (sorts : List Sort) (l : ℕ) where
     pub near : q ≤ at + 9 * length ks
 
   pub cells-kept : (ks : List ℕ) (at : ℕ) → All (CellsKept ks at) (cellsAt s sorts l ks at)
-  unfolding cellsAt
   cells-kept ks at =
       let bounds : ℕ → ℕ = λ j. range sorts l (getD ks j 0) in
-      all-of _ (λ xs q e.
+      subst (All (CellsKept ks at)) (sym (cells-many s sorts l ks at))
+      (all-of _ (λ xs q e.
       let n : length xs ≡ length ks = many-length _ (length ks) at e in
       let c = all-at (rw e at (many-all _ (Cells bounds at)
       (λ xs p h. all-map (λ v q k. cells-more bounds at xs p v q h (k .0) (k .1)) (cell-kept s (bounds (length xs)) p))
@@ -64,7 +65,7 @@ module _ (s : List ℕ) (sorts : List Sort) (l : ℕ) where
       record {
         ok = record { count = n; within = λ j m. c .within j (omega arith) };
         near = omega (arith, c .near);
-      })
+      }))
     where
       none : (j : ℕ) → j < 0 → ⊥
       none j z = omega arith

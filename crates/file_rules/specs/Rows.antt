@@ -41,8 +41,11 @@ cellAt s bound at = then (field s at 9) (λ v p. must (ltb v bound) BadValue (go
 
 -- The cells of a row whose columns have the sorts ks: each in the range of its own sort.
 unfoldable pub cellsAt : List ℕ → List Sort → ℕ → List ℕ → ℕ → Got (List ℕ)
-cellsAt s sorts l ks at =
-    many (λ xs p. cellAt s (range sorts l (getD ks (length xs) 0)) p) (length ks) at []
+cellsAt s sorts l [] at = got [] at
+cellsAt s sorts l (k ∷ ks) at =
+    then (cellAt s (range sorts l k) at) (λ x p.
+    then (cellsAt s sorts l ks p) (λ xs q.
+    got (x ∷ xs) q))
 
 -- "Each: function 7 bits; subsumed 1; one 9-bit cell per argument; one for the output."
 unfoldable pub rowAt : List ℕ → List Sort → ℕ → List Function → ℕ → Got Row

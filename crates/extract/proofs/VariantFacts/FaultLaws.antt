@@ -170,9 +170,10 @@ module _ (s : List ℕ) where
 
   cells-early : (sorts : List Sort) (l : ℕ) (ks : List ℕ) (at : ℕ) → Early (cellsAt s sorts l ks at)
   unfolding cellsAt
-  cells-early sorts l ks at =
-      many-early (λ xs p. cellAt s (range sorts l (getD ks (length xs) 0)) p)
-      (λ xs p. cell-early (range sorts l (getD ks (length xs) 0)) p) (length ks) at []
+  cells-early sorts l [] at = got-early
+  cells-early sorts l (k ∷ ks) at =
+      then-early (cell-early (range sorts l k) at)
+      (λ x p. then-early (cells-early sorts l ks p) (λ xs q. got-early))
 
   row-early : (sorts : List Sort) (l : ℕ) (functions : List Function) (at : ℕ) → Early (rowAt s sorts l functions at)
   unfolding rowAt

@@ -198,8 +198,10 @@ module _ (s r : List ℕ) where
   ext-cells : (sorts : List Sort) (l : ℕ) (ks : List ℕ) (at : ℕ)
       → Ext (cellsAt s sorts l ks at) (cellsAt (s ++ r) sorts l ks at)
   unfolding cellsAt cellAt
-  ext-cells sorts l ks at =
-      ext-many _ _ (λ xs p. ext-then _ _ (ext-field p 9) (λ v q _. ext-must _ _ (λ _. ext-got v q))) (length ks) at []
+  ext-cells sorts l [] at = ext-got [] at
+  ext-cells sorts l (k ∷ ks) at =
+      ext-then _ _ (ext-then _ _ (ext-field at 9) (λ v q _. ext-must _ _ (λ _. ext-got v q)))
+      (λ x p _. ext-then _ _ (ext-cells sorts l ks p) (λ xs q _. ext-got (x ∷ xs) q))
 
   pub ext-rows : (sorts : List Sort) (l : ℕ) (fs : List Function) (n at : ℕ)
       → Ext (rowsAt s sorts l fs n at) (rowsAt (s ++ r) sorts l fs n at)

@@ -3,7 +3,7 @@ use Prim.{Dec, yes, no}
 use Prim.Native.Nat.{ℕ, zero, suc, _+_, _-_, _*_, _^_, _≤_, _<_}
 use mathlib.Core.Bool.{Bool, true, false}
 use mathlib.Core.List.{List, [], _∷_, _++_, append-nil}
-use mathlib.Core.Path.{_≡_, refl, sym, ap, _∙_}
+use mathlib.Core.Path.{_≡_, refl, sym, ap, _∙_, subst}
 use native.Mathlib.Decide.{decLt}
 use native.Mathlib.Omega.{arith}
 use lib.Dec.{eqb}
@@ -45,6 +45,7 @@ use Rattle.file_rules.specs.Functions.{
   functionsAt,
 }
 use Rattle.file_rules.specs.Rows.{cellAt, cellsAt, rowAt, rowsAt, columns, functionNo, range}
+use Rattle.file_rules.proofs.CellLaws.{cells-many}
 use Rattle.file_rules.specs.Arrays.{blocks}
 use Rattle.file_rules.proofs.BlockLaws.{blocks-snoc}
 use Rattle.file_rules.proofs.FunctionLaws.{bytesAt-length}
@@ -208,9 +209,9 @@ cell-spells s bound at = all-then (field s at 9) _ (λ v p e. all-must _ _ _ (λ
 
 cells-spell : (s : List ℕ) (sorts : List Sort) (l : ℕ) (ks : List ℕ) (at : ℕ) → at ≤ length (bitsOf s)
     → All (λ xs q. Spells s at q (blocks (code 9) xs)) (cellsAt s sorts l ks at)
-unfolding cellsAt
 cells-spell s sorts l ks at h =
-    many-spells s (code 9) _ (length ks) at h (λ xs p. cell-spells s (range sorts l (getD ks (length xs) 0)) p)
+    subst (All (λ xs q. Spells s at q (blocks (code 9) xs))) (sym (cells-many s sorts l ks at))
+    (many-spells s (code 9) _ (length ks) at h (λ xs p. cell-spells s (range sorts l (getD ks (length xs) 0)) p))
 
 pub row-spells : (s : List ℕ) (sorts : List Sort) (l : ℕ) (fs : List Function) (at : ℕ)
     → All (λ r q. Spells s at q (codeRow r)) (rowAt s sorts l fs at)

@@ -2,7 +2,7 @@
 use Prim.Native.Nat.{ℕ, zero, suc, _+_, _≤_, _<_}
 use mathlib.Core.Bool.{Bool, true, false}
 use mathlib.Core.List.{List, [], _∷_}
-use mathlib.Core.Path.{_≡_}
+use mathlib.Core.Path.{_≡_, _∙_}
 use native.Mathlib.Omega.{arith}
 use lib.Dec.{eqb}
 use lib.ListN.{length, getD, length-append}
@@ -17,6 +17,7 @@ use Rattle.file_rules.specs.Rows.{sortNo, functionNo, columns, range, ce
 use Rattle.file_rules.specs.Accepted.{CellsOk, RowOk}
 use Rattle.file_rules.specs.Code.{code, codeRow}
 use Rattle.file_rules.proofs.Coding.SpellLaws.{Spells}
+use Rattle.file_rules.proofs.CellLaws.{cells-many}
 use Rattle.file_rules.proofs.Encoding.BackLaws.{spells-left, spells-right, field-back, every-mid, many-back}
 
 -- A sort has no more classes than all together.
@@ -46,8 +47,7 @@ cell-back bound v h l p = rw (field-back 9 v p (omega arith), lt-ltb v bound l)
 module _ (sorts : List Sort) (l : ℕ) (few : classesOf sorts ≤ 512) (short : l ≤ 511) where
   cells-back : {s : List ℕ} {at q : ℕ} (ks xs : List ℕ) → CellsOk sorts l ks xs → Spells s at q (blocks (code 9) xs)
       → cellsAt s sorts l ks at ≡ got xs q
-  unfolding cellsAt
-  cells-back {s} ks xs o p =
+  cells-back {s} {at} ks xs o p =
       let bound : ℕ → ℕ = λ j. range sorts l (getD ks j 0) in
       let m = many-back (code 9) (λ xs p. cellAt s (bound (length xs)) p) xs
       (λ before v after a b e.
@@ -57,7 +57,7 @@ module _ (sorts : List Sort) (l : ℕ) (few : classesOf sorts ≤ 512) (short : 
       o .within (length before) (omega (arith, o .count)) in
       cell-back (bound (length before)) v (range-le sorts l _ few short) (rw g at h))
       p in
-      rw (← o .count) m
+      cells-many s sorts l ks at ∙ rw (← o .count) m
 
   row-back : {s : List ℕ} {at q : ℕ} (fs : List Function) (r : Row) → length fs ≤ 127 → RowOk sorts l fs r
       → Spells s at q (codeRow r) → rowAt s sorts l fs at ≡ got r q

@@ -2,6 +2,7 @@
 -- in it, and the part ends within them. Assumes nothing.
 use Prim.Native.Nat.{ℕ, _+_, _*_, _≤_, _<_}
 use mathlib.Core.List.{List, [], _∷_}
+use mathlib.Core.Path.{sym, subst}
 use native.Mathlib.Omega.{arith}
 use lib.ListN.{length, length-append}
 use borrow.Author.Tests.{leb-true, ltb-true}
@@ -23,6 +24,7 @@ use Rattle.file_rules.specs.Functions.{
 use Rattle.file_rules.specs.Rows.{functionNo, columns, cellAt, cellsAt, rowAt, rowsAt}
 use Rattle.file_rules.specs.File.{versionAt, sortsPart, literalsPart, functionsPart, rowsPart, padBits, endAt}
 use Rattle.file_rules.proofs.BlockLaws.{every-get}
+use Rattle.file_rules.proofs.CellLaws.{cells-many}
 use Rattle.program_rules.proofs.Front.WithinLaws.{
   Within,
   within-got,
@@ -148,10 +150,10 @@ module _ (s : List ℕ) where
   -- 9 cells.
   cells-within : (sorts : List Sort) (l : ℕ) (ks : List ℕ) (at : ℕ) → length ks ≤ 9 → at + 81 ≤ 8 * length s
       → Within (at + 81) (cellsAt s sorts l ks at)
-  unfolding cellsAt
   cells-within sorts l ks at few h =
-      within-mono (omega arith)
-      (within-many 9 (8 * length s) (λ xs p b. cell-within _ p b) (length ks) at [] (omega arith))
+      subst (Within (at + 81)) (sym (cells-many s sorts l ks at))
+      (within-mono (omega arith)
+      (within-many 9 (8 * length s) (λ xs p b. cell-within _ p b) (length ks) at [] (omega arith)))
 
   module _ (sorts : List Sort) (l : ℕ) (fs : List Function)
       (tight : Every (λ (f : Function). length (f .arguments) ≤ 8) fs) where
