@@ -1,0 +1,2 @@
+-- The definitions of the crate `table_layout`.
+pub mod Rows
