@@ -13,6 +13,8 @@ ghost use Rattle.table_layout.specs.Rows.{
   putRow,
 };
 
+pub mod pack; // pack.rt: rows packed out of flat lists
+
 // A row's numbers: the row of the file, its function, the class of its output, the count of its children, eight child
 // places.
 pub const WIDTH: usize = 12;
