@@ -39,8 +39,7 @@ loop-again c =
     let g = s .args in
     let l = c .before .before .before .before .before .loop in
     let u = c .before .before .put-one in
-    let h = c .before .before .before .before .loop-test .taken in
-    (
+    let h = c .before .before .before .before .loop-test .taken in (
       omega (arith, h),
       (
         u .kept .0 ∙ l .inv .1 .0,

@@ -123,49 +123,56 @@ narrow-requires c κs =
 
 cast-put-row : tie.Need-cast-put-row
 cast-put-row c =
-    let s = c .before .before .before .before .before .before .before .before .before .before .before .before .before .before .before in
+    let s = c .before .before .before .before .before .before .before .before .before .before .before .before .before
+    .before .before in
     let v = s .pre .0 in
     let h = s .pre .1 .0 in
     omega (arith, v .row (s .args .i) h, v .few-functions)
 
 cast-put-row-2 : tie.Need-cast-put-row-2
 cast-put-row-2 c =
-    let s = c .before .before .before .before .before .before .before .before .before .before .before .before .before .before .before in
+    let s = c .before .before .before .before .before .before .before .before .before .before .before .before .before
+    .before .before in
     let v = s .pre .0 in
     let h = s .pre .1 .0 in
     omega (arith, v .function (s .args .i) h)
 
 mul-put-row : tie.Need-mul-put-row
 mul-put-row c =
-    let s = c .before .before .before .before .before .before .before .before .before .before .before .before .before .before .before in
+    let s = c .before .before .before .before .before .before .before .before .before .before .before .before .before
+    .before .before in
     let v = s .pre .0 in
     let h = s .pre .1 .0 in
     omega (arith, v .few-rows, h)
 
 shared-slice-read-put-row : tie.Need-shared-slice-read-put-row
 shared-slice-read-put-row c =
-    let s = c .before .before .before .before .before .before .before .before .before .before .before .before .before .before .before .before in
+    let s = c .before .before .before .before .before .before .before .before .before .before .before .before .before
+    .before .before .before in
     let v = s .pre .0 in
     let h = s .pre .1 .0 in
     h
 
 cast-put-row-3 : tie.Need-cast-put-row-3
 cast-put-row-3 c =
-    let s = c .before .before .before .before .before .before .before .before .before .before .before .before .before .before .before .before in
+    let s = c .before .before .before .before .before .before .before .before .before .before .before .before .before
+    .before .before .before in
     let v = s .pre .0 in
     let h = s .pre .1 .0 in
     omega (arith, v .output (s .args .i) h)
 
 array-share-prefix-kids : tie.Need-array-share-prefix-kids
 array-share-prefix-kids c =
-    let s = c .before .before .before .before .before .before .before .before .before .before .before .before .before .before .before .before in
+    let s = c .before .before .before .before .before .before .before .before .before .before .before .before .before
+    .before .before .before in
     let v = s .pre .0 in
     let h = s .pre .1 .0 in
     omega (arith, v .few (s .args .i) h, v .rise (s .args .i) h)
 
 slice-aggregate-put-row : tie.Need-slice-aggregate-put-row
 slice-aggregate-put-row c =
-    let s = c .before .before .before .before .before .before .before .before .before .before .before .before .before .before .before .before .before in
+    let s = c .before .before .before .before .before .before .before .before .before .before .before .before .before
+    .before .before .before .before in
     let v = s .pre .0 in
     let h = s .pre .1 .0 in
     let u = c .before .before .before .before .narrow in
@@ -174,7 +181,8 @@ slice-aggregate-put-row c =
 
 put-row-requires : tie.Need-put-row-requires
 put-row-requires c κs =
-    let s = c .before .before .before .before .before .before .before .before .before .before .before .before .before .before .before .before .before in
+    let s = c .before .before .before .before .before .before .before .before .before .before .before .before .before
+    .before .before .before .before in
     let v = s .pre .0 in
     let h = s .pre .1 .0 in
     let u = c .before .before .before .before .narrow in
@@ -186,13 +194,15 @@ same-length c = search needs
 
 returns : tie.Need-returns
 returns c =
-    let s = c .before .before .before .before .before .before .before .before .before .before .before .before .before .before .before .before .before .before .before .before in
+    let s = c .before .before .before .before .before .before .before .before .before .before .before .before .before
+    .before .before .before .before .before .before .before in
     let v = s .pre .0 in
     let h = s .pre .1 .0 in
     let a = s .args in
     let u = c .before .before .before .before .before .before .before .narrow in
     let e =
-    part-length (a .order .now) (a .functions .now) (a .outputs .now) (a .starts .now) (a .children .now) v (a .i) h in
+    part-length (a .order .now) (a .functions .now) (a .outputs .now) (a .starts .now) (a .children .now) v (a .i) h
+    in
     c .before .before .put-row .ensures
     ∙ ap
     (putRow (a .rows .now) (a .i) (getD (a .order .now) (a .i) 0)
