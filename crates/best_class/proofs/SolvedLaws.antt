@@ -1,16 +1,15 @@
--- A solved flat table has the plan of the table's own run. Assumes nothing.
+-- The packed rows and the edges of a solved flat table are the plan of the table's own run. Assumes nothing.
 use mathlib.Core.Path.{_≡_, refl, ap, sym, _∙_, subst}
 use mathlib.Core.Bool.{true}
 use mathlib.Core.List.{List, [], _∷_, map}
-use Prim.Native.Nat.{ℕ, zero, suc, _+_, _*_, _-_, _<_, _≤_}
+use Prim.Native.Nat.{ℕ, zero, suc, _+_, _<_, _≤_}
 use native.Mathlib.Omega.{arith}
 use native.Mathlib.Decide.{decLt}
 use borrow.Author.Tests.{lt-ltb, le-ltb}
 use lib.IntN.{ℤ}
-use lib.ListN.{length, getD, take, drop, replicate, length-take, length-drop}
-use lib.Seq.{ext-getD, getD-take, getD-drop}
+use lib.ListN.{length, getD, replicate}
 use Rattle.name.specs.Name.{valid}
-use Rattle.name.specs.Entries.{nameAt, lengthAt}
+use Rattle.name.specs.Entries.{nameAt}
 use Rattle.term_rules.specs.Lent.{Store}
 use Rattle.term_rules.specs.WellFormed.{wellFormed}
 use Rattle.choice_rules.specs.Rows.{Child, literal, Row, rowAt}
@@ -21,13 +20,12 @@ use Rattle.choice_rules.proofs.Demand.OrderLaws.{map-length, map-get, inOrder-l
 use Rattle.price_passes.specs.Flat.{top, rowsOf, partOf, stateOf, ranTo, childOf as flatChild}
 use Rattle.price_passes.proofs.FlatLaws.{rows-length, rows-get}
 use Rattle.price.proofs.edges.EndLaws.{FlatEdge}
-use Rattle.price.specs.Planning.{Priced, PlansClass, edgeChildren}
-use Rattle.price.proofs.plans.PlanLaws.{priced-dec}
-use Rattle.price.specs.Solved.{SolveReady, Solved}
-use Rattle.price.proofs.SolveLaws.{edge-found, plan-ready}
-use Rattle.build.specs.Plan.{planOf, childOf as planNumber, childrenOf as planNumbers}
+use Rattle.price.specs.Solved.{Solved, Priced}
+use Rattle.price.proofs.SolveLaws.{edges-many, edge-found}
+use Rattle.table_layout.specs.Packed.{PackReady, PackedRow, Packed}
+use Rattle.build.specs.Plan.{planOf, childOf as planNumber}
 use Rattle.build.specs.Building.{state, buildIn}
-use Rattle.build.specs.Ready.{Planned}
+use Rattle.build.specs.Ready.{Label, ChildBelow, Planned}
 use Rattle.build.specs.Whole.{left, whole, Ready}
 use Rattle.file_rules.specs.Table.{Table}
 use Rattle.table_rules.specs.Rules.Classes.{classCount}
@@ -39,7 +37,7 @@ use Rattle.table_rules.proofs.Rules.CoverLaws.{ReachedClass, one-below, scanned
 use Rattle.table_rules.proofs.Rules.AnswerLaws.{run-true}
 use Rattle.answer_rules.specs.Plan.{planChild, planChildren, planFor, orderFor, costOf}
 use Rattle.answer_rules.proofs.AgreeLaws.{Agree, buildIn-agrees}
-use Rattle.answer_rules.proofs.PlanLaws.{buildRank, buildRank-below, buildRank-unranked, buildRank-dear, plan-ranked}
+use Rattle.answer_rules.proofs.PlanLaws.{buildRank, buildRank-below, priced-of-buildRank, plan-ranked}
 use Rattle.best_class.specs.Flat.{FlatTable}
 use Rattle.best_class.proofs.ChildLaws.{InTable, row-children-in, number-children}
 
@@ -73,15 +71,6 @@ module _
       (scanned-below t (v .known) (root ∷ []) (one-below (length (t .sorts)) root (v .root-below)) i
       (subst (λ (x : List ℕ). i < length x) (v .order-is) h))
 
-  pub solve-ready : SolveReady (classCount t) outputs heads starts children order functions
-  solve-ready = record {
-    flat = v .flat;
-    order-length = order-length;
-    rows = λ i h. omega (arith, order-below i h, v .functions-long);
-    few-functions = v .functions-few;
-    arity = v .arity;
-  }
-
   -- the children of row i of the scan order
   pub part-children :
       (i : ℕ) → i < length order → map flatChild (partOf starts children i) ≡ rowAt (tableRows t) (getD order i 0)
@@ -112,91 +101,66 @@ module _
       ∙ map-get flatChild (partOf starts children i) j 0 (literal 0) l)
       (row-children-in t (v .known) (getD order i 0) (order-below i h) j m)
 
+  -- the rows can be packed
+  literal-narrow : (x : ℕ) → 512 ≤ x → InTable t (flatChild x) → x < 65536
+  unfolding flatChild
+  literal-narrow x b i =
+      let q = rw (le-ltb x 512 b, flatChild) at i in
+      omega (arith, q, v .known .few-literals)
+
+  child-narrow :
+      (i : ℕ) →
+      i < length order →
+      (j : ℕ) →
+      j < length (partOf starts children i) →
+      getD (partOf starts children i) j 0 < 65536
+  child-narrow i h j l = go (decLt (getD (partOf starts children i) j 0) 512)
+    where
+      go : Dec (getD (partOf starts children i) j 0 < 512) → getD (partOf starts children i) j 0 < 65536
+      go (yes a) = omega (arith, a)
+      go (no a) = literal-narrow (getD (partOf starts children i) j 0) (omega (arith, a)) (part-in i h j l)
+
+  pub pack-ready : PackReady order functions outputs starts children
+  pack-ready = record {
+    few-rows = v .flat .few-rows;
+    order-length = order-length;
+    starts-length = v .flat .starts-length;
+    few-functions = v .functions-few;
+    row = λ i h. omega (arith, order-below i (omega (arith, h, order-length)), v .functions-long);
+    function = λ i h. omega (arith, v .function-few (getD order i 0) (order-below i (omega (arith, h, order-length))));
+    output = λ i h. omega (arith, v .flat .outputs-in i h, v .flat .few-classes);
+    rise = v .flat .starts-rise;
+    few = λ i h. v .arity i (omega (arith, h, order-length));
+    inside = v .flat .starts-in;
+    narrow = λ i h. child-narrow i (omega (arith, h, order-length));
+  }
+
+  pub row-label : (r : ℕ) → r < length (t .rows) → Label labels (getD functions r 0)
+  row-label r b = record {
+    entry = v .label-place r b;
+    short = v .label-short r b;
+    named =
+        subst (λ (n : List ℕ). valid n ≡ true) (sym (v .label r b))
+        (v .known .name (tableRowOf t r .function) (v .known .function r b));
+  }
+
   module _
-      (costs ranks marks known plan : List ℕ) (passes last : ℕ) (long : length ranks ≡ classCount t)
-      (same : length costs ≡ length ranks)
-      (w : Solved (classCount t) passes last outputs heads starts children order functions costs ranks marks known plan)
+      (costs ranks edges : List ℕ) (passes last : ℕ) (long : length ranks ≡ classCount t)
+      (w : Solved (classCount t) passes last outputs heads starts children costs ranks edges)
     where
       -- the run that was made is the table's own
       pub run-is : runOf t root ≡ ranTo costs ranks last passes
       unfolding runOver
       run-is = sym (w .ran ∙ ap (λ (x : List Row). run top x (classCount t)) (v .rows-are))
 
-      mark-is : (c : ℕ) → c < length ranks → getD marks c 0 ≡ edgeFor t (root ∷ []) c
+      edge-is : (c : ℕ) → c < length ranks → getD edges c 0 ≡ edgeFor t (root ∷ []) c
       unfolding edgeFor
-      mark-is c h =
+      edge-is c h =
           ap (λ (x : List ℕ). getD x c 0) (w .edges-are)
           ∙ tabulate-get (edgeOf top costs ranks (rowsOf outputs heads starts children)) (length ranks) c 0
           h
           ∙ ap (λ (x : List Row). edgeOf top costs ranks x c) (v .rows-are)
           ∙ ap (λ (x : Run). edgeOf top (x .state .costs) (x .state .ranks) (scanned t (root ∷ [])) c) (sym run-is)
-
-      -- a class of the plan has a cost below 2^64-1
-      pub priced-of-known : (c : ℕ) → 0 < getD known c 0 → (c < length ranks) × Priced costs ranks c
-      priced-of-known c h = go (decLt c (classCount t)) (priced-dec costs ranks marks order functions starts children
-          (plan-ready (classCount t) outputs heads starts children order functions solve-ready costs ranks marks last
-          passes
-          (w .ran) (w .edges-are) long same) c)
-        where
-          go : Dec (c < classCount t) → Dec (Priced costs ranks c) → (c < length ranks) × Priced costs ranks c
-          go (yes a) (yes b) = (omega (arith, a, long), b)
-          go (yes a) (no b) = absurd (omega (arith, h, w .planned .rest c (λ x. b)))
-          go (no a) b = absurd (omega (arith, h, w .planned .rest c (λ x y. a x)))
-
-      module _ (c : ℕ) (h : c < length ranks) (p : Priced costs ranks c) where
-        edge : FlatEdge (stateOf costs ranks last) outputs starts children c (getD marks c 0)
-        edge =
-            edge-found (classCount t) outputs heads starts children order functions solve-ready costs ranks marks last
-            passes
-            (w .ran) (w .edges-are) long c h p
-
-        place : getD marks c 0 < length order
-        place = omega (arith, edge .known, order-length)
-
-        class-plan : PlansClass plan c (getD functions (getD order (getD marks c 0) 0) 0)
-            (edgeChildren marks starts children c)
-        class-plan = w .planned .shown c (omega (arith, long)) p
-
-        -- its row is the row of the table's own edge
-        pub row-is : getD order (getD marks c 0) 0 ≡ edgeRow t (root ∷ []) c
-        unfolding edgeRow
-        row-is =
-            ap (λ (x : List ℕ). getD x (getD marks c 0) 0) (v .order-is)
-            ∙ ap (λ (x : ℕ). getD (scanOrder t (root ∷ [])) x 0) (mark-is c h)
-
-        row-below : getD order (getD marks c 0) 0 < length (t .rows)
-        row-below = order-below (getD marks c 0) place
-
-        pub name-agrees : planOf plan labels values .name c ≡ planFor t (pricesFor t root) .name c
-        unfolding planFor
-        name-agrees =
-            ap (nameAt labels) (class-plan .function)
-            ∙ v .label (getD order (getD marks c 0) 0) row-below
-            ∙ ap (nameOf t) row-is
-
-        numbers : take (getD plan (c * 10 + 1) 0) (drop (c * 10 + 2) plan) ≡ edgeChildren marks starts children c
-        numbers =
-            let ks : List ℕ = edgeChildren marks starts children c in
-            let n : ℕ = getD plan (c * 10 + 1) 0 in
-            let q : n ≡ length ks = class-plan .count in
-            let d : length (drop (c * 10 + 2) plan) ≡ length plan - (c * 10 + 2) = length-drop (c * 10 + 2) plan in
-            let l : length (take n (drop (c * 10 + 2) plan)) ≡ length ks =
-            length-take n (drop (c * 10 + 2) plan) ∙ omega (arith, q, d, class-plan .whole, class-plan .few) in
-            ext-getD 0 (take n (drop (c * 10 + 2) plan)) ks l
-            (λ j a.
-            let b : j < length ks = omega (arith, a, l) in
-            getD-take n (drop (c * 10 + 2) plan) j 0 (omega (arith, b, q))
-            ∙ getD-drop (c * 10 + 2) plan j 0
-            ∙ class-plan .places j b)
-
-        pub children-agree : planOf plan labels values .children c ≡ planFor t (pricesFor t root) .children c
-        unfolding planFor planChildren planNumbers
-        children-agree =
-            ap (map (planNumber values)) numbers
-            ∙ number-children t values (v .value) (edgeChildren marks starts children c)
-            (part-in (getD marks c 0) place)
-            ∙ ap (map (planChild t)) (part-children (getD marks c 0) place)
-            ∙ ap (λ (r : ℕ). map (planChild t) (rowAt (tableRows t) r .children)) row-is
 
       pub rank-is : (c : ℕ) → orderFor (pricesFor t root) c ≡ getD ranks c 0
       rank-is c = ap (λ (x : Run). getD (x .state .ranks) c 0) run-is
@@ -204,118 +168,136 @@ module _
       pub cost-is : (c : ℕ) → costOf (pricesFor t root) c ≡ getD costs c 0
       cost-is c = ap (λ (x : Run). getD (x .state .costs) c 0) run-is
 
-      -- the rank by which the builder goes
-      pub known-is : (c : ℕ) → getD known c 0 ≡ buildRank (pricesFor t root) c
-      known-is c =
-          go (decLt c (classCount t)) (decLt 0 (getD ranks c 0)) (decLt (getD costs c 0) top)
-        where
-          unranked : getD ranks c 0 ≡ 0 → buildRank (pricesFor t root) c ≡ 0
-          unranked z = buildRank-unranked (pricesFor t root) c (rank-is c ∙ z)
+      -- the rank by which the builder goes: 0 of a class that has no term
+      abbrev rank : ℕ → ℕ
+      rank = buildRank (pricesFor t root)
 
-          none : (c < classCount t → Priced costs ranks c → ⊥) → getD known c 0 ≡ 0
-          none n = w .planned .rest c n
+      pub priced-of-rank : (c : ℕ) → 0 < rank c → (c < length ranks) × Priced costs ranks c
+      priced-of-rank c z =
+          let q = priced-of-buildRank (pricesFor t root) c z in
+          let r : 0 < getD ranks c 0 = subst (λ (n : ℕ). 0 < n) (rank-is c) (q .ranked) in
+          (past-rank ranks c r, record { ranked = r; below = subst (λ (n : ℕ). n < top) (cost-is c) (q .below) })
 
-          go :
-              Dec (c < classCount t) → Dec (0 < getD ranks c 0) → Dec (getD costs c 0 < top) → getD known c 0
-              ≡ buildRank (pricesFor t root) c
-          go (yes a) (yes b) (yes d) =
-              w .planned .kept c a (record { ranked = b; below = d })
-              ∙ sym (buildRank-below (pricesFor t root) c (rw (cost-is c) d) ∙ rank-is c)
-          go (yes a) (yes b) (no d) =
-              none (λ x y. d (y .below)) ∙ sym (buildRank-dear (pricesFor t root) c (rw (cost-is c) (omega (arith, d))))
-          go (yes a) (no b) d = none (λ x y. b (y .ranked)) ∙ sym (unranked (omega (arith, b)))
-          go (no a) b d = none (λ x y. a x) ∙ sym (unranked (getD-past ranks c (omega (arith, a, long))))
+      pub rank-of-priced : (c : ℕ) → Priced costs ranks c → rank c ≡ getD ranks c 0
+      rank-of-priced c p = buildRank-below (pricesFor t root) c (rw (cost-is c) (p .below)) ∙ rank-is c
 
-      module _ (c : ℕ) (z : 0 < getD known c 0) where
-        h : c < length ranks
-        h = priced-of-known c z .0
+      module _ (c : ℕ) (h : c < length ranks) (p : Priced costs ranks c) where
+        edge : FlatEdge (stateOf costs ranks last) outputs starts children c (getD edges c 0)
+        edge =
+            edge-found (classCount t) passes last outputs heads starts children costs ranks edges (v .flat) w c h p
 
-        p : Priced costs ranks c
-        p = priced-of-known c z .1
+        place : getD edges c 0 < length order
+        place = omega (arith, edge .known, order-length)
 
-        ks : List ℕ
-        ks = edgeChildren marks starts children c
+        -- its row is the row of the table's own edge
+        pub row-is : getD order (getD edges c 0) 0 ≡ edgeRow t (root ∷ []) c
+        unfolding edgeRow
+        row-is =
+            ap (λ (x : List ℕ). getD x (getD edges c 0) 0) (v .order-is)
+            ∙ ap (λ (x : ℕ). getD (scanOrder t (root ∷ [])) x 0) (edge-is c h)
 
-        -- a child class is ranked below it, and so is its place in the plan
-        under : (j : ℕ) → j < length ks → getD ks j 0 < 512 → (0 < getD known (getD ks j 0) 0)
-            × (getD known (getD ks j 0) 0 < getD known c 0)
-        unfolding h p ks flatChild
-        under j l m =
-            let x : ℕ = getD ks j 0 in
-            let u = rw (lt-ltb x 512 m, flatChild) at (edge c h p .under j l) in
-            let b : x < classCount t = omega (arith, past-rank ranks x (u .0), long) in
-            let e = w .planned .kept x b (record { ranked = u .0; below = u .2 }) in
-            let f = w .planned .kept c (omega (arith, h, long)) p in
-            (omega (arith, e, u .0), omega (arith, e, f, u .1))
+        row-below : getD order (getD edges c 0) 0 < length (t .rows)
+        row-below = order-below (getD edges c 0) place
 
-        literal-in : (j : ℕ) → j < length ks → 512 ≤ getD ks j 0 → getD ks j 0 - 512 < length values
-        unfolding h p ks flatChild
-        literal-in j l m =
-            let x : ℕ = getD ks j 0 in
-            let i = rw (le-ltb x 512 m, flatChild) at (part-in (getD marks c 0) (place c h p) j l) in
-            omega (arith, i, v .values-length)
-
-        pub planned : Planned plan known labels values c
-        unfolding h p ks
-        planned =
-            let cp = class-plan c h p in
-            let r : ℕ = getD order (getD marks c 0) 0 in
-            let b = row-below c h p in
+        -- a child of it can be built
+        child-below :
+            (j : ℕ) →
+            j < length (partOf starts children (getD edges c 0)) →
+            ChildBelow rank (rank c) values (getD (partOf starts children (getD edges c 0)) j 0)
+        unfolding flatChild
+        child-below j l =
+            let x : ℕ = getD (partOf starts children (getD edges c 0)) j 0 in
             record {
-              whole = cp .whole;
-              entry = subst (λ (f : ℕ). f * 32 + 32 ≤ length labels) (sym (cp .function)) (v .label-place r b);
-              short = subst (λ (f : ℕ). lengthAt labels f ≤ 31) (sym (cp .function)) (v .label-short r b);
-              named =
-                  subst (λ (f : ℕ). valid (nameAt labels f) ≡ true) (sym (cp .function))
-                  (subst (λ (n : List ℕ). valid n ≡ true) (sym (v .label r b))
-                  (v .known .name (tableRowOf t r .function) (v .known .function r b)));
-              few = omega (arith, cp .count, cp .few);
-              ranked = λ j l m.
-                  let a : j < length ks = omega (arith, l, cp .count) in
-                  let e = cp .places j a in
-                  subst (λ (x : ℕ). 0 < getD known x 0) (sym e) (under j a (omega (arith, e, m)) .0);
-              falls = λ j l m.
-                  let a : j < length ks = omega (arith, l, cp .count) in
-                  let e = cp .places j a in
-                  subst (λ (x : ℕ). getD known x 0 < getD known c 0) (sym e) (under j a (omega (arith, e, m)) .1);
-              known = λ j l m.
-                  let a : j < length ks = omega (arith, l, cp .count) in
-                  let e = cp .places j a in
-                  omega (arith, e, literal-in j a (omega (arith, e, m)));
+              ranked = λ m.
+                  let u = rw (lt-ltb x 512 m, flatChild) at (edge .under j l) in
+                  rw (rank-of-priced x (record { ranked = u .0; below = u .2 })) (u .0);
+              falls = λ m.
+                  let u = rw (lt-ltb x 512 m, flatChild) at (edge .under j l) in
+                  rw (rank-of-priced x (record { ranked = u .0; below = u .2 }), rank-of-priced c p) (u .1);
+              known = λ m.
+                  let i = rw (le-ltb x 512 m, flatChild) at (part-in (getD edges c 0) place j l) in
+                  omega (arith, i, v .values-length);
             }
 
-      pub ready : (s : Store) → wellFormed s ≡ true → (c : ℕ) → 0 < getD known c 0 → Ready plan known labels values s c
-      ready s f c z = record {
-        planned = planned;
-        inside = λ k l. omega (arith, priced-of-known k l .0, long, v .flat .few-classes);
-        formed = f;
-        ranked = z;
-      }
+      pub inside : (c : ℕ) → 0 < rank c → c < 512
+      inside c z = omega (arith, priced-of-rank c z .0, long, v .flat .few-classes)
 
-      pub agree : Agree (planFor t (pricesFor t root)) (planOf plan labels values) (buildRank (pricesFor t root))
-      agree = record {
-        name = λ c l. let q = priced-of-known c (subst (λ (n : ℕ). 0 < n) (sym (known-is c)) l)
-            in sym (name-agrees c (q .0) (q .1));
-        children = λ c l.
-            let q = priced-of-known c (subst (λ (n : ℕ). 0 < n) (sym (known-is c)) l) in
-            sym (children-agree c (q .0) (q .1));
-        lower =
-            plan-ranked t (v .known) (ReachedClass t root) (pricesFor t root)
-            (run-true t (v .known) root (v .root-below)) .lower;
-      }
+      module _ (rows : List ℕ) (pk : Packed order functions outputs starts children rows (length outputs)) where
+        module _ (c : ℕ) (h : c < length ranks) (p : Priced costs ranks c) where
+          row : PackedRow order functions outputs starts children rows (getD edges c 0)
+          row = pk .each (getD edges c 0) (edge c h p .known)
 
-      -- what is built by the plan is what the table's own plan builds
-      pub whole-is :
-          (s : Store) (c : ℕ) →
-          0 < getD known c 0 →
-          whole (planOf plan labels values) (getD known c 0) s c ≡ whole (planFor t (pricesFor t root)) (orderFor (pricesFor t root) c) s c
-      unfolding whole
-      whole-is s c z =
-          let q = priced-of-known c z in
-          let e : getD known c 0 ≡ orderFor (pricesFor t root) c = w .planned .kept c (omega (arith, q .0, long)) (q .1)
-          ∙ sym (rank-is c) in
-          ap (λ (n : ℕ). left s (buildIn (planOf plan labels values) (n + 1) (state (replicate 512 0) s) c)) e
-          ∙ ap (left s)
-          (sym
-          (buildIn-agrees (planFor t (pricesFor t root)) (planOf plan labels values) (buildRank (pricesFor t root)) agree (orderFor (pricesFor t root) c + 1)
-          (state (replicate 512 0) s) c (subst (λ (n : ℕ). 0 < n) (known-is c) z)))
+          pub name-agrees : planOf rows edges labels values .name c ≡ planFor t (pricesFor t root) .name c
+          unfolding planFor
+          name-agrees =
+              ap (nameAt labels) (row .function)
+              ∙ v .label (getD order (getD edges c 0) 0) (row-below c h p)
+              ∙ ap (nameOf t) (row-is c h p)
+
+          pub children-agree : planOf rows edges labels values .children c ≡ planFor t (pricesFor t root) .children c
+          unfolding planFor planChildren
+          children-agree =
+              ap (map (planNumber values)) (row .children-are)
+              ∙ number-children t values (v .value) (partOf starts children (getD edges c 0))
+              (part-in (getD edges c 0) (place c h p))
+              ∙ ap (map (planChild t)) (part-children (getD edges c 0) (place c h p))
+              ∙ ap (λ (r : ℕ). map (planChild t) (rowAt (tableRows t) r .children)) (row-is c h p)
+
+        pub planned : (c : ℕ) → 0 < rank c → Planned rank rows edges labels values c
+        planned c z =
+            let q = priced-of-rank c z in
+            let e = edge c (q .0) (q .1) in
+            let r = row c (q .0) (q .1) in
+            record {
+              place =
+                  omega (
+                    arith,
+                    q .0,
+                    edges-many (classCount t) passes last outputs heads starts children costs ranks edges (v .flat) w,
+                  );
+              whole = omega (arith, e .known, pk .long);
+              label =
+                  subst (Label labels) (sym (r .function))
+                  (row-label (getD order (getD edges c 0) 0) (row-below c (q .0) (q .1)));
+              few = r .few;
+              child =
+                  subst
+                  (λ (ks : List ℕ). (j : ℕ) → j < length ks → ChildBelow rank (rank c) values (getD ks j 0))
+                  (sym (r .children-are)) (child-below c (q .0) (q .1));
+            }
+
+        pub ready :
+            (s : Store) → wellFormed s ≡ true → (c : ℕ) → Priced costs ranks c →
+            Ready rows edges labels values s (getD ranks c 0) c
+        ready s f c p = record {
+          rank = rank;
+          planned = planned;
+          inside = inside;
+          formed = f;
+          ranked = rw (rank-of-priced c p) (p .ranked);
+          enough = omega (arith, rank-of-priced c p);
+        }
+
+        pub agree : Agree (planFor t (pricesFor t root)) (planOf rows edges labels values) rank
+        agree = record {
+          name = λ c l. let q = priced-of-rank c l in sym (name-agrees c (q .0) (q .1));
+          children = λ c l. let q = priced-of-rank c l in sym (children-agree c (q .0) (q .1));
+          lower =
+              plan-ranked t (v .known) (ReachedClass t root) (pricesFor t root)
+              (run-true t (v .known) root (v .root-below)) .lower;
+        }
+
+        -- what is built by the rows is what the table's own plan builds
+        pub whole-is :
+            (s : Store) (c : ℕ) →
+            Priced costs ranks c →
+            whole (planOf rows edges labels values) (getD ranks c 0) s c
+            ≡ whole (planFor t (pricesFor t root)) (orderFor (pricesFor t root) c) s c
+        unfolding whole
+        whole-is s c p =
+            ap (λ (n : ℕ). left s (buildIn (planOf rows edges labels values) (n + 1) (state (replicate 512 0) s) c))
+            (sym (rank-is c))
+            ∙ ap (left s)
+            (sym
+            (buildIn-agrees (planFor t (pricesFor t root)) (planOf rows edges labels values) rank agree
+            (orderFor (pricesFor t root) c + 1) (state (replicate 512 0) s) c (rw (rank-of-priced c p) (p .ranked))))

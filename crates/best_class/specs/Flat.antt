@@ -10,6 +10,7 @@ use Rattle.refusal.specs.declared.Refusal.the-variants.{NoTerm, TooDear, NoRoom
 use Rattle.name.specs.Entries.{nameAt, lengthAt}
 use Rattle.term_rules.specs.Lent.{Store, store}
 use Rattle.term_rules.specs.WellFormed.{wellFormed}
+use Rattle.table_layout.specs.Packed.{Packed}
 use Rattle.price_passes.specs.Flat.{rowsOf, FlatOk}
 use Rattle.file_rules.specs.Table.{Table}
 use Rattle.table_rules.specs.Rules.Classes.{classCount}
@@ -35,6 +36,7 @@ pub record FlatTable
     pub arity : (i : ℕ) → i < length order → getD starts (i + 1) 0 ≤ getD starts i 0 + 8
     pub functions-long : length (t .rows) ≤ length functions
     pub functions-few : length functions ≤ 1024
+    pub function-few : (r : ℕ) → r < length (t .rows) → getD functions r 0 < 128
     pub label : (r : ℕ) → r < length (t .rows) → nameAt labels (getD functions r 0) ≡ nameOf t r
     pub label-place : (r : ℕ) → r < length (t .rows) → getD functions r 0 * 32 + 32 ≤ length labels
     pub label-short : (r : ℕ) → r < length (t .rows) → lengthAt labels (getD functions r 0) ≤ 31
@@ -67,3 +69,18 @@ BestAnswers outputs heads starts children order functions labels values n c s a 
     FlatTable t root outputs heads starts children order functions labels values →
     n ≡ classCount t →
     a ≡ bestClass t (pricesFor t root) (runOf t root .passes) c s (answerFor (pricesFor t root) c)
+
+-- The same of lists whose rows are packed too: `order` and `functions` are those that they were packed out of.
+pub record RowsReady
+    (outputs heads starts children rows labels : List ℕ) (values : List ℤ) (n c : ℕ) (s : Store) : Type 0 where
+  pub order : List ℕ
+  pub functions : List ℕ
+  pub packed : Packed order functions outputs starts children rows (length outputs)
+  pub is : BestReady outputs heads starts children order functions labels values n c s
+
+abbrev pub RowsAnswer :
+    List ℕ → List ℕ → List ℕ → List ℕ → List ℕ → List ℕ → List ℤ → ℕ → ℕ → Store → After BestTerm → Type 0
+RowsAnswer outputs heads starts children rows labels values n c s a =
+    (order functions : List ℕ) →
+    Packed order functions outputs starts children rows (length outputs) →
+    BestAnswers outputs heads starts children order functions labels values n c s a

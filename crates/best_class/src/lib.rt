@@ -3,7 +3,7 @@ ghost use mathlib.Core.Path.{_≡_};
 ghost use lib.ListN.{length};
 ghost use Rattle.term_rules.specs.Lent.{store};
 ghost use Rattle.price.specs.Solved.{Blank};
-ghost use Rattle.best_class.specs.Flat.{BestReady, BestAnswers, seen};
+ghost use Rattle.best_class.specs.Flat.{RowsReady, RowsAnswer, seen};
 use build::Built;
 use build::whole;
 
@@ -15,51 +15,36 @@ pub enum Best {
     NoRoom,
 }
 
-// The best term of class `c`, on lists of one place for each class (ten in the plan) that are all zero before.
+// The best term of class `c`, by packed rows, on lists of one place for each class that are all zero before.
 pub fn decide(
     outputs: &[u64],
     heads: &[u64],
     starts: &[usize],
     children: &[u64],
-    order: &[u64],
-    functions: &[u64],
+    rows: &[u16],
     labels: &[u8],
     values: &[i64],
     c: usize,
     costs: &mut [u64],
     ranks: &mut [u64],
-    marks: &mut [u64],
-    known: &mut [u64],
-    plan: &mut [u64],
+    edges: &mut [u16],
     records: &mut [u64],
     literals: &mut [i64],
     names: &mut [u8],
     terms: usize,
     symbols: usize,
 ) -> Best
-    requires { ⌜ BestReady (now outputs) (now heads) (now starts) (now children) (now order) (now functions) (now labels)
-        (now values) (length (now ranks)) c (store (now records) (now literals) (now names) terms symbols) ⌝ }
-    requires { ⌜ Blank (length (now ranks)) (now costs) (now ranks) (now marks) (now known) (now plan) ⌝ }
-    ensures { λ r. ⌜ BestAnswers (now (outputs .entry)) (now (heads .entry)) (now (starts .entry)) (now (children .entry))
-        (now (order .entry)) (now (functions .entry)) (now (labels .entry)) (now (values .entry))
+    requires { ⌜ RowsReady (now outputs) (now heads) (now starts) (now children) (now rows) (now labels) (now values)
+        (length (now ranks)) c (store (now records) (now literals) (now names) terms symbols) ⌝ }
+    requires { ⌜ Blank (length (now ranks)) (now costs) (now ranks) (now edges) ⌝ }
+    ensures { λ r. ⌜ RowsAnswer (now (outputs .entry)) (now (heads .entry)) (now (starts .entry))
+        (now (children .entry)) (now (rows .entry)) (now (labels .entry)) (now (values .entry))
         (length (now (ranks .entry))) c
         (store (now (records .entry)) (now (literals .entry)) (now (names .entry)) terms symbols)
         (seen (store (now (records .entry)) (now (literals .entry)) (now (names .entry)) terms symbols) r
         (now (records .exit)) (now (literals .exit)) (now (names .exit))) ⌝ }
 {
-    let run = price::solve(
-        outputs,
-        heads,
-        starts,
-        children,
-        order,
-        functions,
-        costs,
-        ranks,
-        marks,
-        known,
-        plan,
-    );
+    let run = price::solve(outputs, heads, starts, children, costs, ranks, edges);
     let rank = ranks[c];
     if rank == 0 {
         return Best::NoTerm;
@@ -69,8 +54,8 @@ pub fn decide(
         return Best::TooDear;
     }
     let built = whole::term(
-        plan,
-        known,
+        rows,
+        edges,
         labels,
         values,
         records,
@@ -78,6 +63,7 @@ pub fn decide(
         names,
         terms,
         symbols,
+        rank as usize,
         c,
     );
     let Built::Done(t, n, m) = built else {

@@ -9,6 +9,7 @@ ghost use Rattle.best_class.specs.Flat.{BestReady, BestAnswers};
 ghost use Rattle.best_root.specs.Single.{seenBest, answerFrom, literalAnswer, SomeClass, ClassAnswers};
 use build::Built;
 use refusal::Refusal;
+use table_layout::pack;
 
 // The cost, the term's number, the passes and the counts of terms and symbols then; or the refusal.
 pub enum BestAnswer {
@@ -88,26 +89,23 @@ fn choose(
         (store (now (records .entry)) (now (literals .entry)) (now (names .entry)) terms symbols)
         (seenBest r (now (records .exit)) (now (literals .exit)) (now (names .exit)) terms symbols) ⌝ }
 {
+    let mut rows = [0u16; table_layout::ROWS];
+    pack::fill(&mut rows, order, functions, outputs, starts, children);
     let mut costs: [u64; 512] = [0; 512];
     let mut ranks: [u64; 512] = [0; 512];
-    let mut marks: [u64; 512] = [0; 512];
-    let mut known: [u64; 512] = [0; 512];
-    let mut plan: [u64; 5120] = [0; 5120];
+    let mut edges: [u16; 512] = [0; 512];
     let choice = best_class::decide(
         outputs,
         heads,
         starts,
         children,
-        order,
-        functions,
+        &rows,
         labels,
         values,
         c,
         &mut costs[..w],
         &mut ranks[..w],
-        &mut marks[..w],
-        &mut known[..w],
-        &mut plan,
+        &mut edges[..w],
         records,
         literals,
         names,

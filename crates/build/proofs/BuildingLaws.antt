@@ -237,10 +237,10 @@ module _ (p : Plan) where
       (tracks : Tracks p s)
       (h : 0 < rank c) where
     -- an exact answer is right
-    pub exact-right : (o : Out ℕ) → Exact p (rank c) s c o → Right s (class c) o
-    exact-right o e =
-        subst (Right s (class c)) (e (rank c + 1) (omega arith))
-        (build-right rank ranked (rank c + 1) s c tracks h (omega arith))
+    pub exact-right : (level : ℕ) → rank c ≤ level → (o : Out ℕ) → Exact p level s c o → Right s (class c) o
+    exact-right level l o e =
+        subst (Right s (class c)) (e (level + 1) (omega arith))
+        (build-right rank ranked (level + 1) s c tracks h (omega arith))
 
   -- a memo that names no class
   pub tracks-of-zeros : (n : ℕ) (s : Store) → wellFormed s ≡ true → Tracks p (state (replicate n 0) s)

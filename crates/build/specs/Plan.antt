@@ -1,13 +1,14 @@
 -- What is to be built: for each class the row that its edge names. Document 01, 'Costs and choice'. Assumes nothing:
 -- these are definitions.
-use Prim.Native.Nat.{ℕ, _+_, _*_, _-_}
+use Prim.Native.Nat.{ℕ, _-_}
 use mathlib.Core.Path.{_≡_}
 use mathlib.Core.Bool.{true, false}
 use mathlib.Core.List.{List, [], _∷_, map}
-use lib.ListN.{getD, take, drop}
+use lib.ListN.{getD}
 use lib.Dec.{ltb}
 use lib.IntN.{ℤ, pos}
 use Rattle.name.specs.Entries.{nameAt}
+use Rattle.table_layout.specs.Rows.{functionAt, childrenAt}
 use Rattle.term_rules.specs.Nodes.{Tree, number, applied, Trees, none, more}
 
 -- a child: a class, or a literal
@@ -20,27 +21,19 @@ pub record Plan : Type 0 where
   pub name : ℕ → List ℕ
   pub children : ℕ → List Child
 
--- The plan as numbers, ten a class: the function, the count of children, eight child numbers.
-abbrev pub functionOf : List ℕ → ℕ → ℕ
-functionOf plan c = getD plan (c * 10) 0
-
-abbrev pub countOf : List ℕ → ℕ → ℕ
-countOf plan c = getD plan (c * 10 + 1) 0
-
-abbrev pub placeOf : List ℕ → ℕ → ℕ → ℕ
-placeOf plan c j = getD plan (c * 10 + 2 + j) 0
-
 -- a number below 512 is a class, any other the literal of that index past 512
 unfoldable pub childOf : List ℤ → ℕ → Child
 childOf values x = elim (ltb x 512) [ true ↦ class x | false ↦ value (getD values (x - 512) (pos 0)) ]
 
-unfoldable pub childrenOf : List ℕ → List ℤ → ℕ → List Child
-childrenOf plan values c = map (childOf values) (take (countOf plan c) (drop (c * 10 + 2) plan))
+-- the children of row i
+abbrev pub childrenOf : List ℕ → List ℤ → ℕ → List Child
+childrenOf rows values i = map (childOf values) (childrenAt rows i)
 
-abbrev pub planOf : List ℕ → List ℕ → List ℤ → Plan
-planOf plan functions values = record {
-  name = λ (c : ℕ). nameAt functions (functionOf plan c);
-  children = λ (c : ℕ). childrenOf plan values c;
+-- The plan in packed rows: the row of class c has the number that stands for c in `edges`.
+abbrev pub planOf : List ℕ → List ℕ → List ℕ → List ℤ → Plan
+planOf rows edges labels values = record {
+  name = λ (c : ℕ). nameAt labels (functionAt rows (getD edges c 0));
+  children = λ (c : ℕ). childrenOf rows values (getD edges c 0);
 }
 
 -- The tree of a class: its row's name over the trees of the row's children. (The name is a variable with an equation,

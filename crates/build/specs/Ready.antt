@@ -7,11 +7,12 @@ use lib.ListN.{length, getD}
 use lib.IntN.{ℤ}
 use Rattle.name.specs.Name.{valid}
 use Rattle.name.specs.Entries.{lengthAt, nameAt}
+use Rattle.table_layout.specs.Rows.{HasRow, functionAt, countAt, childrenAt}
 use Rattle.term_rules.specs.Lent.{Store, store}
 use Rattle.term_rules.specs.WellFormed.{wellFormed}
 use Rattle.term_rules.specs.Nodes.{literal}
 use Rattle.term_rules.specs.Adding.{add}
-use Rattle.build.specs.Plan.{Child, class, value, Plan, functionOf, countOf, placeOf, planOf}
+use Rattle.build.specs.Plan.{Child, class, value, Plan, planOf}
 use Rattle.build.specs.Building.{State, state, Out, done, full, added, buildIn}
 use Rattle.build.specs.Standing.{Tracks}
 use Rattle.build.specs.declared.Built.{Built}
@@ -32,31 +33,45 @@ pub record Ranked (p : Plan) (rank : ℕ → ℕ) : Type 0 where
   pub few : (c : ℕ) → 0 < rank c → length (p .children c) ≤ 8
   pub lower : (c : ℕ) → 0 < rank c → AllLower rank (rank c) (p .children c)
 
--- the same of the numbers of class c, all of them in their places
-pub record Planned (plan ranks functions : List ℕ) (values : List ℤ) (c : ℕ) : Type 0 where
-  pub whole : c * 10 + 10 ≤ length plan
-  pub entry : functionOf plan c * 32 + 32 ≤ length functions
-  pub short : lengthAt functions (functionOf plan c) ≤ 31
-  pub named : valid (nameAt functions (functionOf plan c)) ≡ true
-  pub few : countOf plan c ≤ 8
-  pub ranked : (j : ℕ) → j < countOf plan c → placeOf plan c j < 512 → 0 < getD ranks (placeOf plan c j) 0
-  pub falls : (j : ℕ) → j < countOf plan c → placeOf plan c j < 512 → getD ranks (placeOf plan c j) 0 < getD ranks c 0
-  pub known : (j : ℕ) → j < countOf plan c → 512 ≤ placeOf plan c j → placeOf plan c j - 512 < length values
+-- the name of function f stands in its place
+pub record Label (labels : List ℕ) (f : ℕ) : Type 0 where
+  pub entry : f * 32 + 32 ≤ length labels
+  pub short : lengthAt labels f ≤ 31
+  pub named : valid (nameAt labels f) ≡ true
 
--- what building class c asks: a plan for every class with a rank, a memo with a place for each that tells the truth
--- of a well-formed store, and a rank
-pub record Ready (plan ranks functions : List ℕ) (values : List ℤ) (me : List ℕ) (s : Store) (c : ℕ) : Type 0 where
-  pub planned : (k : ℕ) → 0 < getD ranks k 0 → Planned plan ranks functions values k
-  pub inside : (k : ℕ) → 0 < getD ranks k 0 → k < length me
-  pub tracks : Tracks (planOf plan functions values) (state me s)
-  pub ranked : 0 < getD ranks c 0
+-- a child number that can be built: a class of a rank below r, or a literal of the table
+pub record ChildBelow (rank : ℕ → ℕ) (r : ℕ) (values : List ℤ) (x : ℕ) : Type 0 where
+  pub ranked : x < 512 → 0 < rank x
+  pub falls : x < 512 → rank x < r
+  pub known : 512 ≤ x → x - 512 < length values
 
--- what a class's own term asks: a plan for the class, and children in the store
-pub record OwnReady (plan functions me : List ℕ) (s : Store) (c : ℕ) (ks : List ℕ) : Type 0 where
-  pub whole : c * 10 + 10 ≤ length plan
-  pub entry : functionOf plan c * 32 + 32 ≤ length functions
-  pub short : lengthAt functions (functionOf plan c) ≤ 31
-  pub named : valid (nameAt functions (functionOf plan c)) ≡ true
+-- the same of class c in packed rows: its row, all of its numbers in their places
+pub record Planned (rank : ℕ → ℕ) (rows edges labels : List ℕ) (values : List ℤ) (c : ℕ) : Type 0 where
+  pub place : c < length edges
+  pub whole : HasRow rows (getD edges c 0)
+  pub label : Label labels (functionAt rows (getD edges c 0))
+  pub few : countAt rows (getD edges c 0) ≤ 8
+  pub child :
+      (j : ℕ) →
+      j < length (childrenAt rows (getD edges c 0)) →
+      ChildBelow rank (rank c) values (getD (childrenAt rows (getD edges c 0)) j 0)
+
+-- what building class c asks: ranks, none of which is above the level for c, by which every class with a rank has a
+-- row; and a memo with a place for each that tells the truth of a well-formed store
+pub record Ready
+    (rows edges labels : List ℕ) (values : List ℤ) (me : List ℕ) (s : Store) (level c : ℕ) : Type 0 where
+  pub rank : ℕ → ℕ
+  pub planned : (k : ℕ) → 0 < rank k → Planned rank rows edges labels values k
+  pub inside : (k : ℕ) → 0 < rank k → k < length me
+  pub tracks : Tracks (planOf rows edges labels values) (state me s)
+  pub ranked : 0 < rank c
+  pub enough : rank c ≤ level
+
+-- what a class's own term asks: a function with a name, and children in the store
+pub record OwnReady (labels me : List ℕ) (s : Store) (c f : ℕ) (ks : List ℕ) : Type 0 where
+  pub entry : f * 32 + 32 ≤ length labels
+  pub short : lengthAt labels f ≤ 31
+  pub named : valid (nameAt labels f) ≡ true
   pub few : length ks ≤ 8
   pub below : (j : ℕ) → j < length ks → getD ks j 0 < s .terms
   pub memo : c < length me

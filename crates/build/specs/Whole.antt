@@ -1,9 +1,9 @@
 -- Building as one call: all or nothing. Document 01, 'Refusal numbers'. Assumes nothing: these are definitions.
-use Prim.Native.Nat.{ℕ, _+_, _<_}
+use Prim.Native.Nat.{ℕ, _+_, _≤_, _<_}
 use mathlib.Core.Path.{_≡_}
 use mathlib.Core.Bool.{true}
 use mathlib.Core.List.{List}
-use lib.ListN.{getD, replicate}
+use lib.ListN.{replicate}
 use lib.IntN.{ℤ}
 use Rattle.term_rules.specs.Lent.{Store, store}
 use Rattle.term_rules.specs.WellFormed.{wellFormed}
@@ -37,11 +37,14 @@ left s (full me rs ls ns) =
 unfoldable pub whole : Plan → ℕ → Store → ℕ → Left
 whole p rank s c = left s (buildIn p (rank + 1) (state (replicate 512 0) s) c)
 
-pub record Ready (plan ranks functions : List ℕ) (values : List ℤ) (s : Store) (c : ℕ) : Type 0 where
-  pub planned : (k : ℕ) → 0 < getD ranks k 0 → Planned plan ranks functions values k
-  pub inside : (k : ℕ) → 0 < getD ranks k 0 → k < 512
+-- what it asks: as `build`, with a memo of 512 places that names no class
+pub record Ready (rows edges labels : List ℕ) (values : List ℤ) (s : Store) (level c : ℕ) : Type 0 where
+  pub rank : ℕ → ℕ
+  pub planned : (k : ℕ) → 0 < rank k → Planned rank rows edges labels values k
+  pub inside : (k : ℕ) → 0 < rank k → k < 512
   pub formed : wellFormed s ≡ true
-  pub ranked : 0 < getD ranks c 0
+  pub ranked : 0 < rank c
+  pub enough : rank c ≤ level
 
 -- Demand 3 speaks of the term in the returned store: term t of it is the tree of class c, and every term that was
 -- there stays.

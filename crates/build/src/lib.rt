@@ -8,7 +8,7 @@ ghost use lib.IntN.{pos};
 ghost use Rattle.name.specs.Entries.{nameAt};
 ghost use Rattle.term_rules.specs.Lent.{store};
 ghost use Rattle.term_rules.specs.WellFormed.{wellFormed};
-ghost use Rattle.build.specs.Plan.{planOf, functionOf};
+ghost use Rattle.build.specs.Plan.{planOf};
 ghost use Rattle.build.specs.Building.{state, done, ownIn};
 ghost use Rattle.build.specs.Ready.{Ready, OwnReady, Exact, LiteralExact, seen};
 use term_add::Added;
@@ -54,74 +54,73 @@ pub fn literal_term(
     Built::Done(t, n, k)
 }
 
-// The term of class `c` over its children's terms, kept in the memo.
+// The term of class `c`, of function `f` over its children's terms, kept in the memo.
 fn own_term(
-    plan: &[u64],
-    functions: &[u8],
-    memo: &mut [u64],
+    labels: &[u8],
+    memo: &mut [u16],
     records: &mut [u64],
     literals: &mut [i64],
     names: &mut [u8],
     terms: usize,
     symbols: usize,
     c: usize,
+    f: usize,
     children: &[u64],
 ) -> Built
     requires { ⌜
-        OwnReady (now plan) (now functions) (now memo)
-        (store (now records) (now literals) (now names) terms symbols)
-        c (now children)
+        OwnReady (now labels) (now memo) (store (now records) (now literals) (now names) terms symbols)
+        c f (now children)
         ⌝ }
     ensures { λ r. ⌜
-        ownIn (nameAt (now (functions .entry)) (functionOf (now (plan .entry)) c)) c
+        ownIn (nameAt (now (labels .entry)) f) c
         (done (now (children .entry))
         (state (now (memo .entry))
         (store (now (records .entry)) (now (literals .entry)) (now (names .entry)) terms symbols)))
         ≡ seen r (now (memo .exit)) (now (records .exit)) (now (literals .exit)) (now (names .exit))
         ⌝ }
 {
-    let f = plan[c * 10] as usize * 32;
-    let a = f + 1;
-    let e = a + functions[f] as usize;
+    let p = f * 32;
+    let a = p + 1;
+    let e = a + labels[p] as usize;
     let Added::Term(t, n, k) = term_add::intern_application(
         records,
         literals,
         names,
         terms,
         symbols,
-        &functions[a..e],
+        &labels[a..e],
         children,
     ) else {
         return Built::Full;
     };
-    memo[c] = t as u64 + 1;
+    memo[c] = t as u16 + 1;
     Built::Done(t, n, k)
 }
 
 // The term of class `c`: its children first, left to right, then the term itself, once per class (src/extract.rs,
-// reconstruct_termdag_node_helper). Each call is on a class of a lower rank, so there are at most as many calls inside
-// one another as classes. The ranks are the measure, and no code reads them.
+// reconstruct_termdag_node_helper). The row of a class is the one that its edge names. Each call inside is on a class
+// of a lower rank, so `level`, which no rank is above, falls with each.
 pub fn build(
-    plan: &[u64],
-    ranks: &[u64],
-    functions: &[u8],
+    rows: &[u16],
+    edges: &[u16],
+    labels: &[u8],
     values: &[i64],
-    memo: &mut [u64],
+    memo: &mut [u16],
     records: &mut [u64],
     literals: &mut [i64],
     names: &mut [u8],
     terms: usize,
     symbols: usize,
+    level: usize,
     c: usize,
 ) -> Built
     requires { ⌜
-        Ready (now plan) (now ranks) (now functions) (now values) (now memo)
+        Ready (now rows) (now edges) (now labels) (now values) (now memo)
         (store (now records) (now literals) (now names) terms symbols)
-        c
+        level c
         ⌝ }
     ensures { λ r. ⌜
-        Exact (planOf (now (plan .entry)) (now (functions .entry)) (now (values .entry)))
-        (getD (now (ranks .entry)) c 0)
+        Exact (planOf (now (rows .entry)) (now (edges .entry)) (now (labels .entry)) (now (values .entry))) level
         (state (now (memo .entry))
         (store (now (records .entry)) (now (literals .entry)) (now (names .entry)) terms symbols))
         c (seen r (now (memo .exit)) (now (records .exit)) (now (literals .exit)) (now (names .exit)))
@@ -129,21 +128,21 @@ pub fn build(
 {
     let m = memo[c];
     if 0 < m {
-        return Built::Done((m - 1) as usize, terms, symbols);
+        return Built::Done(table_layout::wide(m) - 1, terms, symbols);
     }
-    let base = c * 10;
-    let count = plan[base + 1] as usize;
+    let i = table_layout::wide(edges[c]);
+    let kids = table_layout::children_of(rows, i);
     let mut children = [0u64; 8];
     let mut n = terms;
     let mut k = symbols;
     let mut j = 0;
-    while j < count {
-        let x = plan[base + 2 + j] as usize;
+    while j < kids.len() {
+        let x = table_layout::wide(kids[j]);
         let r = if x < 512 {
             build(
-                plan,
-                ranks,
-                functions,
+                rows,
+                edges,
+                labels,
                 values,
                 memo,
                 records,
@@ -151,6 +150,7 @@ pub fn build(
                 names,
                 n,
                 k,
+                level - 1,
                 x,
             )
         } else {
@@ -164,9 +164,9 @@ pub fn build(
         k = known;
         j += 1;
     }
+    let f = table_layout::function_of(rows, i);
     own_term(
-        plan,
-        functions,
+        labels,
         memo,
         records,
         literals,
@@ -174,6 +174,7 @@ pub fn build(
         n,
         k,
         c,
-        &children[..count],
+        f,
+        &children[..j],
     )
 }

@@ -1,30 +1,30 @@
 // A class's best term as one call: all or nothing.
 ghost use mathlib.Core.Path.{_≡_};
-ghost use lib.ListN.{getD};
 ghost use Rattle.term_rules.specs.Lent.{store};
 ghost use Rattle.build.specs.Plan.{planOf};
 ghost use Rattle.build.specs.Whole.{Ready, whole};
 use crate::Built;
 use crate::copies;
 
-// The term of class `c`, all or nothing: where there is no room for it, what was lent is put back (src/extract.rs,
-// reconstruct_termdag_node).
+// The term of class `c`, of a rank at most `level`, all or nothing: where there is no room for it, what was lent is put
+// back (src/extract.rs, reconstruct_termdag_node).
 pub fn term(
-    plan: &[u64],
-    ranks: &[u64],
-    functions: &[u8],
+    rows: &[u16],
+    edges: &[u16],
+    labels: &[u8],
     values: &[i64],
     records: &mut [u64],
     literals: &mut [i64],
     names: &mut [u8],
     terms: usize,
     symbols: usize,
+    level: usize,
     c: usize,
 ) -> Built
     requires { ⌜
-        Ready (now plan) (now ranks) (now functions) (now values)
+        Ready (now rows) (now edges) (now labels) (now values)
         (store (now records) (now literals) (now names) terms symbols)
-        c
+        level c
         ⌝ }
     ensures { λ r. ⌜
         record {
@@ -33,13 +33,12 @@ pub fn term(
           literals = now (literals .exit);
           names = now (names .exit);
         }
-        ≡ whole (planOf (now (plan .entry)) (now (functions .entry)) (now (values .entry)))
-        (getD (now (ranks .entry)) c 0)
+        ≡ whole (planOf (now (rows .entry)) (now (edges .entry)) (now (labels .entry)) (now (values .entry))) level
         (store (now (records .entry)) (now (literals .entry)) (now (names .entry)) terms symbols)
         c
         ⌝ }
 {
-    let mut memo = [0u64; 512];
+    let mut memo = [0u16; 512];
     let mut old_records = [0u64; term_layout::RECORDS];
     let mut old_literals = [0i64; 1024];
     let mut old_names = [0u8; 4096];
@@ -47,9 +46,9 @@ pub fn term(
     copies::literals(&mut old_literals, literals);
     copies::bytes(&mut old_names, names);
     let Built::Done(t, n, k) = crate::build(
-        plan,
-        ranks,
-        functions,
+        rows,
+        edges,
+        labels,
         values,
         &mut memo,
         records,
@@ -57,6 +56,7 @@ pub fn term(
         names,
         terms,
         symbols,
+        level,
         c,
     ) else {
         copies::numbers(records, &old_records);

@@ -121,6 +121,7 @@ module _
       arity = λ i l. laid .arity i (omega (arith, length-take-le n order (laid .order-room)));
       functions-long = omega (arith, known .few-rows, functions-length);
       functions-few = omega (arith, functions-length);
+      function-few = λ i l. omega (arith, row-function i l, known .few-functions);
       label = row-name;
       label-place = λ i l. omega (arith, row-function i l, known .few-functions, labels-length);
       label-short = λ i l.

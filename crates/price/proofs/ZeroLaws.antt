@@ -1,7 +1,7 @@
 -- Lists of zeros, as a call's own arrays are before. Assumes nothing.
 use mathlib.Core.Path.{_≡_, refl, ap, sym, _∙_, subst}
 use mathlib.Core.List.{List, _∷_}
-use Prim.Native.Nat.{ℕ, zero, suc, _*_, _≤_}
+use Prim.Native.Nat.{ℕ, zero, suc, _≤_}
 use native.Mathlib.Omega.{arith}
 use lib.ListN.{length, getD, take, replicate, length-replicate}
 use Rattle.choice_rules.proofs.ListLaws.{replicate-get}
@@ -24,15 +24,9 @@ take-zeros-length w n h = sym (ap length (take-zeros w n h) ∙ length-replicate
 
 -- The lists of the call's own, before: zeros for each of w classes.
 pub blank-lists :
-    (w n k : ℕ) (xs plan : List ℕ) →
-    xs ≡ take w (zeros n) →
-    plan ≡ zeros k →
-    w ≤ n →
-    n * 10 ≤ k →
-    Blank (length xs) xs xs xs xs plan
-blank-lists w n k xs plan e f h l =
+    (w n : ℕ) (xs : List ℕ) → xs ≡ take w (zeros n) → w ≤ n → Blank (length xs) xs xs xs
+blank-lists w n xs e h =
     let z : xs ≡ zeros w = e ∙ take-zeros w n h in
-    let j : length xs ≡ w = ap length z ∙ length-replicate w 0 in
     record {
       fresh = record {
         long = refl;
@@ -41,7 +35,4 @@ blank-lists w n k xs plan e f h l =
       };
       ranks-length = refl;
       edges-length = refl;
-      known-zero = z ∙ ap zeros (sym j);
-      plan-long =
-          subst (λ (x : List ℕ). length xs * 10 ≤ length x) (sym f) (zeros-room k (length xs * 10) (omega arith));
     }

@@ -1,4 +1,3 @@
 -- The definitions of the crate `price`.
 pub mod Marks
-pub mod Planning
 pub mod Solved

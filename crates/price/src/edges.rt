@@ -47,9 +47,9 @@ fn is_edge(costs: &[u64], ranks: &[u64], output: usize, head: u64, kids: &[u64])
 
 // Takes the row of number i for the edge of its class, if the class has none yet and the row can be.
 fn mark(
-    edges: &mut [u64],
-    none: u64,
-    i: u64,
+    edges: &mut [u16],
+    none: u16,
+    i: u16,
     costs: &[u64],
     ranks: &[u64],
     output: usize,
@@ -73,7 +73,7 @@ fn mark(
 }
 
 // No class has an edge.
-fn clear(edges: &mut [u64], none: u64)
+fn clear(edges: &mut [u16], none: u16)
     ensures { λ _. ⌜ now (edges .exit) ≡ replicate (length (now (edges .entry))) none ⌝ }
 {
     let mut c = 0;
@@ -85,7 +85,7 @@ fn clear(edges: &mut [u64], none: u64)
 
 // The edges of all classes; the number of rows where a class has none.
 pub fn fill(
-    edges: &mut [u64],
+    edges: &mut [u16],
     costs: &[u64],
     ranks: &[u64],
     outputs: &[u64],
@@ -99,7 +99,7 @@ pub fn fill(
     ensures { λ _. ⌜ now (edges .exit) ≡ edgesOf top (now (costs .entry)) (now (ranks .entry))
         (rowsOf (now (outputs .entry)) (now (heads .entry)) (now (starts .entry)) (now (children .entry))) ⌝ }
 {
-    let none = outputs.len() as u64;
+    let none = outputs.len() as u16;
     clear(edges, none);
     let mut i = 0;
     while i < outputs.len() {
@@ -110,7 +110,7 @@ pub fn fill(
         mark(
             edges,
             none,
-            i as u64,
+            i as u16,
             costs,
             ranks,
             output,

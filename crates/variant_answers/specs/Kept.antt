@@ -1,4 +1,4 @@
--- What the kept rows answer, over flat lists: document 01, 'Costs and choice' and 'Refusal numbers'. Assumes nothing:
+-- What the kept rows answer, over packed rows: document 01, 'Costs and choice' and 'Refusal numbers'. Assumes nothing:
 -- definitions.
 use mathlib.Core.Path.{_≡_}
 use mathlib.Core.Bool.{Bool, true, false, _||_}
@@ -12,13 +12,13 @@ use Rattle.refusal.specs.declared.Refusal.the-variants.{TooDear, NoRoom}
 use Rattle.refusal.specs.Numbers.{refusalNo}
 use Rattle.term_rules.specs.Lent.{Store, store}
 use Rattle.price_passes.specs.Flat.{top}
-use Rattle.build.specs.Plan.{Child, Plan, planOf}
+use Rattle.build.specs.Plan.{Child, Plan}
 use Rattle.build.specs.Building.{state}
 use Rattle.variant_order.specs.Arrays.{AllBelow}
 use Rattle.answer_rules.specs.Answers.{value, refusal}
 use Rattle.answer_rules.specs.Variants.{VariantsAfter, Lending, variantsRefused, variantsKept, roomForResults}
 use Rattle.variant_terms.specs.Rows.{Deep}
-use Rattle.variant_terms.specs.Turned.{AllListed, Steady, Wholly, whole, nothing, wholly, rowsIn, nameIn, kidsIn}
+use Rattle.variant_terms.specs.Turned.{AllListed, Steady, Wholly, whole, nothing, wholly, rowsIn}
 use Rattle.variant_answers.specs.declared.Variants.{Variants}
 use Rattle.variant_answers.specs.declared.Variants.the-variants.{Kept, TooDear as Dear, NoRoom as Full}
 
@@ -83,14 +83,15 @@ answerIn p prices rows l w =
       ]
     ]
 
--- What is asked: the rows are among those that have a cost in the list, and can be built unless one is too dear.
+-- What is asked: the listed rows are among those that have a cost in the list, and can be built unless one is too
+-- dear.
 pub record AnswerReady
-    (plan known labels : List ℕ) (values : List ℤ) (starts children order functions prices rows : List ℕ) (s : Store) :
-    Type 0 where
-  pub steady : Steady plan known labels values s
-  pub below : AllBelow (length prices) rows
-  pub few : length rows ≤ 1024
-  pub listed : dearIn prices rows ≡ false → AllListed known labels values starts children order functions rows
+    (rows edges ranks labels : List ℕ) (values : List ℤ) (prices list : List ℕ) (s : Store) : Type 0 where
+  pub rank : ℕ → ℕ
+  pub steady : Steady rank rows edges labels values s
+  pub below : AllBelow (length prices) list
+  pub few : length list ≤ 1024
+  pub listed : dearIn prices list ≡ false → AllListed rank rows ranks labels values list
 
 -- The answer is the definition's, at every depth that is enough.
 abbrev pub Answers :

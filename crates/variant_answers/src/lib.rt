@@ -5,9 +5,9 @@ ghost use Prim.Native.Nat.{_≤_};
 ghost use lib.ListN.{length};
 ghost use lib.Seq.{paste};
 ghost use Rattle.term_rules.specs.Lent.{store};
-ghost use Rattle.build.specs.Plan.{planOf};
+ghost use Rattle.build.specs.Plan.{planOf, childrenOf};
 ghost use Rattle.variant_order.specs.Arrays.{AllBelow};
-ghost use Rattle.variant_terms.specs.Turned.{nameIn, kidsIn};
+ghost use Rattle.variant_terms.specs.Turned.{nameIn};
 ghost use Rattle.variant_answers.specs.Kept.{lending, seen, dearIn, pricesOf, ResultsFit, Results};
 ghost use Rattle.variant_answers.specs.Kept.{AnswerReady, Answers};
 use build::copies;
@@ -65,14 +65,11 @@ fn put_results(prices: &[u64], list: &[u64], made: &[u64], paid: &mut [u64], fou
 
 // The answer for the listed rows: whether one is too dear, whether the results have room, then their terms.
 pub fn answer(
-    plan: &[u64],
-    known: &[u64],
+    rows: &[u16],
+    edges: &[u16],
+    ranks: &[u64],
     labels: &[u8],
     values: &[i64],
-    starts: &[usize],
-    children: &[u64],
-    order: &[u64],
-    functions: &[u64],
     prices: &[u64],
     list: &[u64],
     passes: u64,
@@ -84,12 +81,12 @@ pub fn answer(
     paid: &mut [u64],
     found: &mut [u64],
 ) -> Variants
-    requires { ⌜ AnswerReady (now plan) (now known) (now labels) (now values) (now starts) (now children) (now order)
-        (now functions) (now prices) (now list) (store (now records) (now literals) (now names) terms symbols) ⌝ }
-    ensures { λ r. ⌜ Answers (planOf (now (plan .entry)) (now (labels .entry)) (now (values .entry)))
-        (now (known .entry)) (nameIn (now (labels .entry)) (now (order .entry)) (now (functions .entry)))
-        (kidsIn (now (values .entry)) (now (starts .entry)) (now (children .entry))) passes (now (prices .entry))
-        (now (list .entry))
+    requires { ⌜ AnswerReady (now rows) (now edges) (now ranks) (now labels) (now values) (now prices) (now list)
+        (store (now records) (now literals) (now names) terms symbols) ⌝ }
+    ensures { λ r. ⌜ Answers
+        (planOf (now (rows .entry)) (now (edges .entry)) (now (labels .entry)) (now (values .entry)))
+        (now (ranks .entry)) (nameIn (now (labels .entry)) (now (rows .entry)))
+        (childrenOf (now (rows .entry)) (now (values .entry))) passes (now (prices .entry)) (now (list .entry))
         (lending (store (now (records .entry)) (now (literals .entry)) (now (names .entry)) terms symbols)
         (now (paid .entry)) (now (found .entry)))
         (seen r terms symbols (now (records .exit)) (now (literals .exit)) (now (names .exit)) (now (paid .exit))
@@ -107,14 +104,11 @@ pub fn answer(
     }
     let mut made = [0u64; 1024];
     let Turned::All(n, m) = variant_terms::whole_rows(
-        plan,
-        known,
+        rows,
+        edges,
+        ranks,
         labels,
         values,
-        starts,
-        children,
-        order,
-        functions,
         list,
         records,
         literals,

@@ -1,35 +1,27 @@
--- The terms of rows in turn, over flat lists, and all or nothing. Document 01, 'Costs and choice'. Assumes nothing:
+-- The terms of rows in turn, over packed rows, and all or nothing. Document 01, 'Costs and choice'. Assumes nothing:
 -- definitions.
-use Prim.Native.Nat.{ℕ, _+_, _<_, _≤_}
+use Prim.Native.Nat.{ℕ, _<_, _≤_}
 use mathlib.Core.Path.{_≡_}
 use mathlib.Core.Bool.{true}
-use mathlib.Core.List.{List, [], _∷_, _++_, map}
+use mathlib.Core.List.{List, [], _∷_, _++_}
 use lib.IntN.{ℤ}
 use lib.ListN.{length, getD, replicate}
 use Rattle.name.specs.Entries.{nameAt}
 use Rattle.term_rules.specs.Lent.{Store, store}
 use Rattle.term_rules.specs.WellFormed.{wellFormed}
-use Rattle.price_passes.specs.Flat.{partOf}
-use Rattle.build.specs.Plan.{Child, Plan, childOf}
+use Rattle.table_layout.specs.Rows.{HasRow, functionAt, countAt, childrenAt}
+use Rattle.build.specs.Plan.{Child, Plan}
 use Rattle.build.specs.Building.{State, state, Out, done, full, childrenIn, buildIn}
 use Rattle.build.specs.Standing.{Stuck}
 use Rattle.build.specs.Ready.{Planned}
 use Rattle.answer_rules.specs.Variants.{ownVariant}
-use Rattle.variant_terms.specs.Rows.{Deep, RowIn}
+use Rattle.variant_terms.specs.Rows.{Deep, Builder, RowIn}
 use Rattle.variant_terms.specs.declared.Turned.{Turned}
 use Rattle.variant_terms.specs.declared.Turned.the-variants.{All, Full}
 
--- The function of row i of the scan order: `order` has its number in the file, `functions` the function of each row
--- there.
-abbrev pub functionIn : List ℕ → List ℕ → ℕ → ℕ
-functionIn order functions i = getD functions (getD order i 0) 0
-
--- Its name, and its children.
-abbrev pub nameIn : List ℕ → List ℕ → List ℕ → ℕ → List ℕ
-nameIn labels order functions i = nameAt labels (functionIn order functions i)
-
-abbrev pub kidsIn : List ℤ → List ℕ → List ℕ → ℕ → List Child
-kidsIn values starts children i = map (childOf values) (partOf starts children i)
+-- The name of row i's function.
+abbrev pub nameIn : List ℕ → List ℕ → ℕ → List ℕ
+nameIn labels rows i = nameAt labels (functionAt rows i)
 
 -- The terms of rows in turn, after those that have the numbers ts. d bounds the depth.
 unfoldable pub rowsIn : Plan → ℕ → (ℕ → List ℕ) → (ℕ → List Child) → State → List ℕ → List ℕ → Out (List ℕ)
@@ -40,20 +32,29 @@ rowsIn p d name kids s ts (i ∷ rows) =
       | full me rs ls ns ↦ full me rs ls ns
     ]
 
--- Row i of the scan order stands in the flat lists and can be built.
-pub record Listed
-    (ranks labels : List ℕ) (values : List ℤ) (starts children order functions : List ℕ) (i : ℕ) : Type 0 where
-  pub place : i < length order
-  pub starts-long : i + 1 < length starts
-  pub rise : getD starts i 0 ≤ getD starts (i + 1) 0
-  pub inside : getD starts (i + 1) 0 ≤ length children
-  pub row : getD order i 0 < length functions
-  pub is : RowIn ranks labels values (functionIn order functions i) (partOf starts children i)
+-- Row i stands in the packed rows and can be built.
+pub record Listed (rank : ℕ → ℕ) (rows ranks labels : List ℕ) (values : List ℤ) (i : ℕ) : Type 0 where
+  pub whole : HasRow rows i
+  pub few : countAt rows i ≤ 8
+  pub is : RowIn rank ranks labels values (functionAt rows i) (childrenAt rows i)
 
 -- So does each row of a list.
-abbrev pub AllListed : List ℕ → List ℕ → List ℤ → List ℕ → List ℕ → List ℕ → List ℕ → List ℕ → Type 0
-AllListed ranks labels values starts children order functions list =
-    (j : ℕ) → j < length list → Listed ranks labels values starts children order functions (getD list j 0)
+abbrev pub AllListed : (ℕ → ℕ) → List ℕ → List ℕ → List ℕ → List ℤ → List ℕ → Type 0
+AllListed rank rows ranks labels values list =
+    (j : ℕ) → j < length list → Listed rank rows ranks labels values (getD list j 0)
+
+-- Both with what building asks, by some ranks.
+pub record ListedReady
+    (rows edges ranks labels : List ℕ) (values : List ℤ) (me : List ℕ) (s : Store) (i : ℕ) : Type 0 where
+  pub rank : ℕ → ℕ
+  pub builder : Builder rank rows edges labels values me s
+  pub listed : Listed rank rows ranks labels values i
+
+pub record ListReady
+    (rows edges ranks labels : List ℕ) (values : List ℤ) (me : List ℕ) (s : Store) (list : List ℕ) : Type 0 where
+  pub rank : ℕ → ℕ
+  pub builder : Builder rank rows edges labels values me s
+  pub listed : AllListed rank rows ranks labels values list
 
 -- An answer, with the terms' numbers and what was lent as it was left.
 abbrev pub seenAll : Turned → List ℕ → List ℕ → List ℕ → List ℤ → List ℕ → Out (List ℕ)
@@ -86,11 +87,17 @@ abbrev pub seenWholly : Turned → List ℕ → List ℕ → List ℤ → List �
 seenWholly (All n m) ts rs ls ns terms symbols = whole ts (store rs ls ns n m)
 seenWholly Full ts rs ls ns terms symbols = nothing (store rs ls ns terms symbols)
 
--- What one call asks of the plan and the store: a plan for every class with a rank, all below 512.
-pub record Steady (plan ranks labels : List ℕ) (values : List ℤ) (s : Store) : Type 0 where
-  pub planned : (k : ℕ) → 0 < getD ranks k 0 → Planned plan ranks labels values k
-  pub inside : (k : ℕ) → 0 < getD ranks k 0 → k < 512
+-- What one call asks of the rows and the store: a row for every class with a rank, all below 512.
+pub record Steady (rank : ℕ → ℕ) (rows edges labels : List ℕ) (values : List ℤ) (s : Store) : Type 0 where
+  pub planned : (k : ℕ) → 0 < rank k → Planned rank rows edges labels values k
+  pub inside : (k : ℕ) → 0 < rank k → k < 512
   pub formed : wellFormed s ≡ true
+
+pub record WholeReady
+    (rows edges ranks labels : List ℕ) (values : List ℤ) (s : Store) (list : List ℕ) : Type 0 where
+  pub rank : ℕ → ℕ
+  pub steady : Steady rank rows edges labels values s
+  pub listed : AllListed rank rows ranks labels values list
 
 -- The rows as one call, by a memo that names no class.
 abbrev pub RowsWhole : Plan → List ℕ → (ℕ → List ℕ) → (ℕ → List Child) → List ℕ → Store → Wholly → Type 0

@@ -4,13 +4,13 @@ ghost use mathlib.Core.Path.{_≡_};
 ghost use Prim.Native.Nat.{_≤_};
 ghost use lib.ListN.{length, getD, take};
 ghost use Rattle.term_rules.specs.Lent.{store};
-ghost use Rattle.price_passes.specs.Flat.{partOf};
-ghost use Rattle.build.specs.Plan.{planOf};
+ghost use Rattle.table_layout.specs.Rows.{childrenAt};
+ghost use Rattle.build.specs.Plan.{planOf, childrenOf};
 ghost use Rattle.build.specs.Building.{state};
 ghost use Rattle.build.specs.Ready.{seen};
-ghost use Rattle.variant_terms.specs.Rows.{Builder, RowMade};
-ghost use Rattle.variant_terms.specs.Turned.{nameIn, kidsIn, Listed, AllListed, seenAll, RowsMade};
-ghost use Rattle.variant_terms.specs.Turned.{Steady, seenWholly, RowsWhole};
+ghost use Rattle.variant_terms.specs.Rows.{RowMade};
+ghost use Rattle.variant_terms.specs.Turned.{nameIn, ListedReady, ListReady, seenAll, RowsMade};
+ghost use Rattle.variant_terms.specs.Turned.{WholeReady, seenWholly, RowsWhole};
 use build::Built;
 use build::copies;
 
@@ -24,15 +24,12 @@ pub enum Turned {
 
 // The term of row `i` of the scan order.
 fn one_row(
-    plan: &[u64],
+    rows: &[u16],
+    edges: &[u16],
     ranks: &[u64],
     labels: &[u8],
     values: &[i64],
-    starts: &[usize],
-    children: &[u64],
-    order: &[u64],
-    functions: &[u64],
-    memo: &mut [u64],
+    memo: &mut [u16],
     records: &mut [u64],
     literals: &mut [i64],
     names: &mut [u8],
@@ -40,24 +37,21 @@ fn one_row(
     symbols: usize,
     i: usize,
 ) -> Built
-    requires { ⌜ Builder (now plan) (now ranks) (now labels) (now values) (now memo)
-        (store (now records) (now literals) (now names) terms symbols) ⌝ }
-    requires { ⌜ Listed (now ranks) (now labels) (now values) (now starts) (now children) (now order) (now functions)
-        i ⌝ }
-    ensures { λ r. ⌜ RowMade (planOf (now (plan .entry)) (now (labels .entry)) (now (values .entry)))
-        (now (ranks .entry)) (now (values .entry))
-        (nameIn (now (labels .entry)) (now (order .entry)) (now (functions .entry)) i)
-        (partOf (now (starts .entry)) (now (children .entry)) i)
+    requires { ⌜ ListedReady (now rows) (now edges) (now ranks) (now labels) (now values) (now memo)
+        (store (now records) (now literals) (now names) terms symbols) i ⌝ }
+    ensures { λ r. ⌜ RowMade
+        (planOf (now (rows .entry)) (now (edges .entry)) (now (labels .entry)) (now (values .entry)))
+        (now (ranks .entry)) (now (values .entry)) (nameIn (now (labels .entry)) (now (rows .entry)) i)
+        (childrenAt (now (rows .entry)) i)
         (state (now (memo .entry))
         (store (now (records .entry)) (now (literals .entry)) (now (names .entry)) terms symbols))
         (seen r (now (memo .exit)) (now (records .exit)) (now (literals .exit)) (now (names .exit))) ⌝ }
 {
-    let a = starts[i];
-    let e = starts[i + 1];
-    let r = order[i] as usize;
-    let f = functions[r] as usize;
+    let f = table_layout::function_of(rows, i);
+    let kids = table_layout::children_of(rows, i);
     row::row_term(
-        plan,
+        rows,
+        edges,
         ranks,
         labels,
         values,
@@ -68,22 +62,19 @@ fn one_row(
         terms,
         symbols,
         f,
-        &children[a..e],
+        kids,
     )
 }
 
 // The terms of the listed rows in turn, into the front of `found`.
 fn all_rows(
-    plan: &[u64],
+    rows: &[u16],
+    edges: &[u16],
     ranks: &[u64],
     labels: &[u8],
     values: &[i64],
-    starts: &[usize],
-    children: &[u64],
-    order: &[u64],
-    functions: &[u64],
     list: &[u64],
-    memo: &mut [u64],
+    memo: &mut [u16],
     records: &mut [u64],
     literals: &mut [i64],
     names: &mut [u8],
@@ -91,14 +82,13 @@ fn all_rows(
     symbols: usize,
     found: &mut [u64],
 ) -> Turned
-    requires { ⌜ Builder (now plan) (now ranks) (now labels) (now values) (now memo)
-        (store (now records) (now literals) (now names) terms symbols) ⌝ }
-    requires { ⌜ AllListed (now ranks) (now labels) (now values) (now starts) (now children) (now order) (now functions)
-        (now list) ⌝ }
+    requires { ⌜ ListReady (now rows) (now edges) (now ranks) (now labels) (now values) (now memo)
+        (store (now records) (now literals) (now names) terms symbols) (now list) ⌝ }
     requires { ⌜ length (now list) ≤ length (now found) ⌝ }
-    ensures { λ r. ⌜ RowsMade (planOf (now (plan .entry)) (now (labels .entry)) (now (values .entry)))
-        (now (ranks .entry)) (nameIn (now (labels .entry)) (now (order .entry)) (now (functions .entry)))
-        (kidsIn (now (values .entry)) (now (starts .entry)) (now (children .entry))) (now (list .entry))
+    ensures { λ r. ⌜ RowsMade
+        (planOf (now (rows .entry)) (now (edges .entry)) (now (labels .entry)) (now (values .entry)))
+        (now (ranks .entry)) (nameIn (now (labels .entry)) (now (rows .entry)))
+        (childrenOf (now (rows .entry)) (now (values .entry))) (now (list .entry))
         (state (now (memo .entry))
         (store (now (records .entry)) (now (literals .entry)) (now (names .entry)) terms symbols))
         (seenAll r (take (length (now (list .entry))) (now (found .exit))) (now (memo .exit)) (now (records .exit))
@@ -109,14 +99,11 @@ fn all_rows(
     let mut j = 0;
     while j < list.len() {
         let Built::Done(t, more, known) = one_row(
-            plan,
+            rows,
+            edges,
             ranks,
             labels,
             values,
-            starts,
-            children,
-            order,
-            functions,
             memo,
             records,
             literals,
@@ -137,14 +124,11 @@ fn all_rows(
 
 // The terms of the listed rows, all or nothing: where there is no room for one, what was lent is put back.
 pub fn whole_rows(
-    plan: &[u64],
+    rows: &[u16],
+    edges: &[u16],
     ranks: &[u64],
     labels: &[u8],
     values: &[i64],
-    starts: &[usize],
-    children: &[u64],
-    order: &[u64],
-    functions: &[u64],
     list: &[u64],
     records: &mut [u64],
     literals: &mut [i64],
@@ -153,19 +137,18 @@ pub fn whole_rows(
     symbols: usize,
     found: &mut [u64],
 ) -> Turned
-    requires { ⌜ Steady (now plan) (now ranks) (now labels) (now values)
-        (store (now records) (now literals) (now names) terms symbols) ⌝ }
-    requires { ⌜ AllListed (now ranks) (now labels) (now values) (now starts) (now children) (now order) (now functions)
-        (now list) ⌝ }
+    requires { ⌜ WholeReady (now rows) (now edges) (now ranks) (now labels) (now values)
+        (store (now records) (now literals) (now names) terms symbols) (now list) ⌝ }
     requires { ⌜ length (now list) ≤ length (now found) ⌝ }
-    ensures { λ r. ⌜ RowsWhole (planOf (now (plan .entry)) (now (labels .entry)) (now (values .entry)))
-        (now (ranks .entry)) (nameIn (now (labels .entry)) (now (order .entry)) (now (functions .entry)))
-        (kidsIn (now (values .entry)) (now (starts .entry)) (now (children .entry))) (now (list .entry))
+    ensures { λ r. ⌜ RowsWhole
+        (planOf (now (rows .entry)) (now (edges .entry)) (now (labels .entry)) (now (values .entry)))
+        (now (ranks .entry)) (nameIn (now (labels .entry)) (now (rows .entry)))
+        (childrenOf (now (rows .entry)) (now (values .entry))) (now (list .entry))
         (store (now (records .entry)) (now (literals .entry)) (now (names .entry)) terms symbols)
         (seenWholly r (take (length (now (list .entry))) (now (found .exit))) (now (records .exit))
         (now (literals .exit)) (now (names .exit)) terms symbols) ⌝ }
 {
-    let mut memo = [0u64; 512];
+    let mut memo = [0u16; 512];
     let mut old_records = [0u64; term_layout::RECORDS];
     let mut old_literals = [0i64; 1024];
     let mut old_names = [0u8; 4096];
@@ -173,14 +156,11 @@ pub fn whole_rows(
     copies::literals(&mut old_literals, literals);
     copies::bytes(&mut old_names, names);
     let Turned::All(n, k) = all_rows(
-        plan,
+        rows,
+        edges,
         ranks,
         labels,
         values,
-        starts,
-        children,
-        order,
-        functions,
         list,
         &mut memo,
         records,

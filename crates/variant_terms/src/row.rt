@@ -6,13 +6,13 @@ ghost use Rattle.term_rules.specs.Lent.{store};
 ghost use Rattle.build.specs.Plan.{planOf};
 ghost use Rattle.build.specs.Building.{state};
 ghost use Rattle.build.specs.Ready.{seen};
-ghost use Rattle.variant_terms.specs.Rows.{Builder, KidIn, OwnIn, OwnExact, KidMade, RowIn, RowMade};
+ghost use Rattle.variant_terms.specs.Rows.{OwnIn, OwnExact, KidReady, KidMade, RowReady, RowMade};
 use build::Built;
 use term_add::Added;
 
 // The application of function `f` to terms that are in the store.
 fn own_row(
-    functions: &[u8],
+    labels: &[u8],
     records: &mut [u64],
     literals: &mut [i64],
     names: &mut [u8],
@@ -21,22 +21,22 @@ fn own_row(
     f: usize,
     children: &[u64],
 ) -> Built
-    requires { ⌜ OwnIn (now functions) f (store (now records) (now literals) (now names) terms symbols)
+    requires { ⌜ OwnIn (now labels) f (store (now records) (now literals) (now names) terms symbols)
         (now children) ⌝ }
     ensures { λ r. ⌜ OwnExact (store (now (records .entry)) (now (literals .entry)) (now (names .entry)) terms symbols)
-        (nameAt (now (functions .entry)) f) (now (children .entry)) r (now (records .exit)) (now (literals .exit))
+        (nameAt (now (labels .entry)) f) (now (children .entry)) r (now (records .exit)) (now (literals .exit))
         (now (names .exit)) ⌝ }
 {
     let p = f * 32;
     let a = p + 1;
-    let e = a + functions[p] as usize;
+    let e = a + labels[p] as usize;
     let Added::Term(t, n, k) = term_add::intern_application(
         records,
         literals,
         names,
         terms,
         symbols,
-        &functions[a..e],
+        &labels[a..e],
         children,
     ) else {
         return Built::Full;
@@ -46,11 +46,12 @@ fn own_row(
 
 // The term of a row's child: a class by its best term, a literal by itself.
 fn child_term(
-    plan: &[u64],
+    rows: &[u16],
+    edges: &[u16],
     ranks: &[u64],
-    functions: &[u8],
+    labels: &[u8],
     values: &[i64],
-    memo: &mut [u64],
+    memo: &mut [u16],
     records: &mut [u64],
     literals: &mut [i64],
     names: &mut [u8],
@@ -58,20 +59,21 @@ fn child_term(
     symbols: usize,
     x: usize,
 ) -> Built
-    requires { ⌜ Builder (now plan) (now ranks) (now functions) (now values) (now memo)
-        (store (now records) (now literals) (now names) terms symbols) ⌝ }
-    requires { ⌜ KidIn (now ranks) (now values) x ⌝ }
-    ensures { λ r. ⌜ KidMade (planOf (now (plan .entry)) (now (functions .entry)) (now (values .entry)))
+    requires { ⌜ KidReady (now rows) (now edges) (now ranks) (now labels) (now values) (now memo)
+        (store (now records) (now literals) (now names) terms symbols) x ⌝ }
+    ensures { λ r. ⌜ KidMade
+        (planOf (now (rows .entry)) (now (edges .entry)) (now (labels .entry)) (now (values .entry)))
         (now (ranks .entry)) (now (values .entry))
         (state (now (memo .entry))
         (store (now (records .entry)) (now (literals .entry)) (now (names .entry)) terms symbols))
         x (seen r (now (memo .exit)) (now (records .exit)) (now (literals .exit)) (now (names .exit))) ⌝ }
 {
     if x < 512 {
+        let level = ranks[x] as usize;
         return build::build(
-            plan,
-            ranks,
-            functions,
+            rows,
+            edges,
+            labels,
             values,
             memo,
             records,
@@ -79,6 +81,7 @@ fn child_term(
             names,
             terms,
             symbols,
+            level,
             x,
         );
     }
@@ -87,24 +90,25 @@ fn child_term(
 
 // The term of a row of function `f`: its children first, left to right, then the term itself.
 pub fn row_term(
-    plan: &[u64],
+    rows: &[u16],
+    edges: &[u16],
     ranks: &[u64],
-    functions: &[u8],
+    labels: &[u8],
     values: &[i64],
-    memo: &mut [u64],
+    memo: &mut [u16],
     records: &mut [u64],
     literals: &mut [i64],
     names: &mut [u8],
     terms: usize,
     symbols: usize,
     f: usize,
-    kids: &[u64],
+    kids: &[u16],
 ) -> Built
-    requires { ⌜ Builder (now plan) (now ranks) (now functions) (now values) (now memo)
-        (store (now records) (now literals) (now names) terms symbols) ⌝ }
-    requires { ⌜ RowIn (now ranks) (now functions) (now values) f (now kids) ⌝ }
-    ensures { λ r. ⌜ RowMade (planOf (now (plan .entry)) (now (functions .entry)) (now (values .entry)))
-        (now (ranks .entry)) (now (values .entry)) (nameAt (now (functions .entry)) f) (now (kids .entry))
+    requires { ⌜ RowReady (now rows) (now edges) (now ranks) (now labels) (now values) (now memo)
+        (store (now records) (now literals) (now names) terms symbols) f (now kids) ⌝ }
+    ensures { λ r. ⌜ RowMade
+        (planOf (now (rows .entry)) (now (edges .entry)) (now (labels .entry)) (now (values .entry)))
+        (now (ranks .entry)) (now (values .entry)) (nameAt (now (labels .entry)) f) (now (kids .entry))
         (state (now (memo .entry))
         (store (now (records .entry)) (now (literals .entry)) (now (names .entry)) terms symbols))
         (seen r (now (memo .exit)) (now (records .exit)) (now (literals .exit)) (now (names .exit))) ⌝ }
@@ -115,9 +119,10 @@ pub fn row_term(
     let mut j = 0;
     while j < kids.len() {
         let Built::Done(t, more, known) = child_term(
-            plan,
+            rows,
+            edges,
             ranks,
-            functions,
+            labels,
             values,
             memo,
             records,
@@ -125,7 +130,7 @@ pub fn row_term(
             names,
             n,
             k,
-            kids[j] as usize,
+            table_layout::wide(kids[j]),
         ) else {
             return Built::Full;
         };
@@ -134,5 +139,5 @@ pub fn row_term(
         k = known;
         j += 1;
     }
-    own_row(functions, records, literals, names, n, k, f, &children[..j])
+    own_row(labels, records, literals, names, n, k, f, &children[..j])
 }

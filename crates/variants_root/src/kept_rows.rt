@@ -2,12 +2,13 @@
 // (src/extract.rs, extract_variants_with_sort)
 ghost use lib.ListN.{length};
 ghost use Rattle.term_rules.specs.Lent.{store};
+ghost use Rattle.table_layout.specs.Packed.{Packed};
 ghost use Rattle.price.specs.Solved.{Blank};
 ghost use Rattle.variant_answers.specs.Kept.{lending, seen};
 ghost use Rattle.variants_root.specs.Flat.{VariantsReady, VariantsAnswers};
 use variant_answers::Variants;
 
-// The first `most` variants of class `c`, on lists of one place for each class (ten in the plan) that are all zero
+// The first `most` variants of class `c`, by packed rows, on lists of one place for each class that are all zero
 // before: their costs to the front of `paid`, their terms to the front of `found`.
 pub fn decide(
     outputs: &[u64],
@@ -16,6 +17,7 @@ pub fn decide(
     children: &[u64],
     order: &[u64],
     functions: &[u64],
+    rows: &[u16],
     labels: &[u8],
     values: &[i64],
     arities: &[u64],
@@ -24,9 +26,7 @@ pub fn decide(
     most: usize,
     costs: &mut [u64],
     ranks: &mut [u64],
-    marks: &mut [u64],
-    known: &mut [u64],
-    plan: &mut [u64],
+    edges: &mut [u16],
     records: &mut [u64],
     literals: &mut [i64],
     names: &mut [u8],
@@ -38,7 +38,9 @@ pub fn decide(
     requires { ⌜ VariantsReady (now outputs) (now heads) (now starts) (now children) (now order) (now functions)
         (now labels) (now values) (now arities) (now cells) (length (now ranks))
         (store (now records) (now literals) (now names) terms symbols) ⌝ }
-    requires { ⌜ Blank (length (now ranks)) (now costs) (now ranks) (now marks) (now known) (now plan) ⌝ }
+    requires { ⌜ Packed (now order) (now functions) (now outputs) (now starts) (now children) (now rows)
+        (length (now outputs)) ⌝ }
+    requires { ⌜ Blank (length (now ranks)) (now costs) (now ranks) (now edges) ⌝ }
     ensures { λ r. ⌜ VariantsAnswers (now (outputs .entry)) (now (heads .entry)) (now (starts .entry))
         (now (children .entry)) (now (order .entry)) (now (functions .entry)) (now (labels .entry))
         (now (values .entry)) (now (arities .entry)) (now (cells .entry)) (length (now (ranks .entry))) c most
@@ -47,19 +49,7 @@ pub fn decide(
         (seen r terms symbols (now (records .exit)) (now (literals .exit)) (now (names .exit)) (now (paid .exit))
         (now (found .exit))) ⌝ }
 {
-    let run = price::solve(
-        outputs,
-        heads,
-        starts,
-        children,
-        order,
-        functions,
-        costs,
-        ranks,
-        marks,
-        known,
-        plan,
-    );
+    let run = price::solve(outputs, heads, starts, children, costs, ranks, edges);
     let mut prices = [0u64; 1024];
     let mut list = [0u64; 1024];
     let k = variant_rows::rows(
@@ -80,14 +70,11 @@ pub fn decide(
         &mut list,
     );
     variant_answers::answer(
-        plan,
-        known,
+        rows,
+        edges,
+        ranks,
         labels,
         values,
-        starts,
-        children,
-        order,
-        functions,
         &prices,
         &list[..k],
         run.passes,

@@ -10,6 +10,7 @@ ghost use Rattle.variants_root.specs.Flat.{VariantsReady, VariantsAnswer
 ghost use Rattle.variants_root.specs.Several.{seenVariants, answerFrom, literalAnswer, SomeTable, ClassAnswers};
 use build::Built;
 use refusal::Refusal;
+use table_layout::pack;
 use variant_answers::Variants;
 
 pub mod kept_rows; // kept_rows.rt: the variants of a class, over flat rows: costs and choice, the rows that are kept, then their terms
@@ -111,11 +112,11 @@ fn choose(
         (seenVariants r terms symbols (now (records .exit)) (now (literals .exit)) (now (names .exit))
         (now (paid .exit)) (now (found .exit))) ⌝ }
 {
+    let mut rows = [0u16; table_layout::ROWS];
+    pack::fill(&mut rows, order, functions, outputs, starts, children);
     let mut costs: [u64; 512] = [0; 512];
     let mut ranks: [u64; 512] = [0; 512];
-    let mut marks: [u64; 512] = [0; 512];
-    let mut known: [u64; 512] = [0; 512];
-    let mut plan: [u64; 5120] = [0; 5120];
+    let mut edges: [u16; 512] = [0; 512];
     let kept = crate::kept_rows::decide(
         outputs,
         heads,
@@ -123,6 +124,7 @@ fn choose(
         children,
         order,
         functions,
+        &rows,
         labels,
         values,
         arities,
@@ -131,9 +133,7 @@ fn choose(
         most,
         &mut costs[..w],
         &mut ranks[..w],
-        &mut marks[..w],
-        &mut known[..w],
-        &mut plan,
+        &mut edges[..w],
         records,
         literals,
         names,

@@ -5,22 +5,12 @@ use mathlib.Core.Path.{refl}
 use Rattle.name.specs.Entries.{nameAt}
 use Rattle.term_rules.specs.Lent.{Store, store}
 use Rattle.term_rules.specs.Nodes.{application}
-use Rattle.build.specs.Plan.{functionOf}
 use Rattle.build.proofs.OwnLaws.{own-of-term, own-of-noRoom, number-limit}
 use Rattle.build.proofs.own_term.Statement.{statement}
 use Rattle.build.proofs.own_term.Tie as tie
 
-mul-f : tie.Need-mul-f
-mul-f c = search needs
-
-mul-f-2 : tie.Need-mul-f-2
-mul-f-2 c = search needs
-
-shared-slice-read-f : tie.Need-shared-slice-read-f
-shared-slice-read-f c = search needs
-
-mul-f-3 : tie.Need-mul-f-3
-mul-f-3 c = search needs
+mul-p : tie.Need-mul-p
+mul-p c = search needs
 
 add-a : tie.Need-add-a
 add-a c = search needs
@@ -46,7 +36,7 @@ part-intern-application-end c = search needs
 intern-application-requires : tie.Need-intern-application-requires
 unfolding nameAt
 intern-application-requires c κs =
-    let q = c .before .before .before .before .before .before .before .before .before .before .before .before .pre in
+    let q = c .before .before .before .before .before .before .before .before .before .before .pre in
     (q .formed, (q .named, q .few))
 
 enum-known-t : tie.Need-enum-known-t
@@ -68,28 +58,46 @@ returns : tie.Need-returns
 unfolding nameAt
 returns c =
     let a = c .before .before .before .before .before .before .before .before .before .before .before .before .before
-    .before .before .before .before .before .before .before .args in
+    .before .before .before .before .before .args in
     let s : Store = store (a .records .now) (a .literals .now) (a .names .now) (a .terms) (a .symbols) in
     let w = rw (c .enum-told .given .1) at (c .before .before .before .before .before .before .before
     .intern-application .ensures) in
-    own-of-noRoom (a .memo .now) s (nameAt (a .functions .now) (functionOf (a .plan .now) (a .c))) (a .c) (a .children
+    own-of-noRoom (a .memo .now) s (nameAt (a .labels .now) (a .f)) (a .c) (a .children
     .now)
     _ _ _ (w .answer) (w .kept refl)
 
-add-memo : tie.Need-add-memo
+cast-memo : tie.Need-cast-memo
 unfolding nameAt
-add-memo c =
+cast-memo c =
     let s = c .before .before .before .before .before .before .before .before .before .before .before .before .before
-    .before .before .before .before .before .before .before .before in
+    .before .before .before .before .before .before in
     let a = s .args in
     let q = s .pre in
     let w = rw (c .before .t .given .1) at (c .before .before .before .before .before .before .before .before
     .intern-application .ensures) in
     let lent : Store = store (a .records .now) (a .literals .now) (a .names .now) (a .terms) (a .symbols) in
-    let name = nameAt (a .functions .now) (functionOf (a .plan .now) (a .c)) in
+    let name = nameAt (a .labels .now) (a .f) in
     omega (
       arith,
-      number-limit lent (application name (a .children .now)) _ _ (q .formed) (q .named, q .few, q .below) (w .answer),
+      number-limit lent (application name (a .children .now)) _ _ (q .formed) (q .named, q .few, q .below) (w
+          .answer),
+    )
+
+add-memo : tie.Need-add-memo
+unfolding nameAt
+add-memo c =
+    let s = c .before .before .before .before .before .before .before .before .before .before .before .before .before
+    .before .before .before .before .before .before in
+    let a = s .args in
+    let q = s .pre in
+    let w = rw (c .before .t .given .1) at (c .before .before .before .before .before .before .before .before
+    .intern-application .ensures) in
+    let lent : Store = store (a .records .now) (a .literals .now) (a .names .now) (a .terms) (a .symbols) in
+    let name = nameAt (a .labels .now) (a .f) in
+    omega (
+      arith,
+      number-limit lent (application name (a .children .now)) _ _ (q .formed) (q .named, q .few, q .below) (w
+          .answer),
     )
 
 mul-memo : tie.Need-mul-memo
@@ -114,11 +122,11 @@ returns-2 : tie.Need-returns-2
 unfolding nameAt
 returns-2 c =
     let a = c .before .before .before .before .before .before .before .before .before .before .before .before .before
-    .before .before .before .before .before .before .before .before .args in
+    .before .before .before .before .before .before .args in
     let s : Store = store (a .records .now) (a .literals .now) (a .names .now) (a .terms) (a .symbols) in
     let w = rw (c .before .t .given .1) at (c .before .before .before .before .before .before .before .before
     .intern-application .ensures) in
-    own-of-term (a .memo .now) s (nameAt (a .functions .now) (functionOf (a .plan .now) (a .c))) (a .c) (a .children
+    own-of-term (a .memo .now) s (nameAt (a .labels .now) (a .f)) (a .c) (a .children
     .now)
     _ _ (w .answer)
 
@@ -126,10 +134,7 @@ pub own-term-spec : {M : Type 1} → statement M
 own-term-spec =
     tie.close
     (tie.spec
-    mul-f
-    mul-f-2
-    shared-slice-read-f
-    mul-f-3
+    mul-p
     add-a
     shared-slice-read-e
     cast-e
@@ -144,6 +149,7 @@ own-term-spec =
     same-length-2
     same-length-3
     returns
+    cast-memo
     add-memo
     mul-memo
     slice-write-memo

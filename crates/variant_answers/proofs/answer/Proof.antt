@@ -4,8 +4,8 @@ use mathlib.Core.Path.{refl, sym, _∙_}
 use mathlib.Core.List.{[]}
 use lib.ListN.{length, length-replicate}
 use Rattle.term_rules.specs.Lent.{store}
-use Rattle.build.specs.Plan.{planOf}
-use Rattle.variant_terms.specs.Turned.{nameIn, kidsIn}
+use Rattle.build.specs.Plan.{planOf, childrenOf}
+use Rattle.variant_terms.specs.Turned.{nameIn}
 use Rattle.variant_answers.proofs.AnswerLaws.{
   answer-dear,
   answer-no-costs,
@@ -23,11 +23,9 @@ any-dear-requires c κs = search needs
 
 returns : tie.Need-returns
 returns c =
-    let a = c .before .before .before .before .before .before .before .before .before .before .before .before .before
-    .before .before .args in
-    answer-dear (planOf (a .plan .now) (a .labels .now) (a .values .now)) (a .known .now)
-    (nameIn (a .labels .now) (a .order .now) (a .functions .now)) (kidsIn (a .values .now) (a .starts .now) (a
-    .children .now))
+    let a = c .before .before .before .before .before .before .before .before .before .before .before .before .args in
+    answer-dear (planOf (a .rows .now) (a .edges .now) (a .labels .now) (a .values .now)) (a .ranks .now)
+    (nameIn (a .labels .now) (a .rows .now)) (childrenOf (a .rows .now) (a .values .now))
     (a .passes) (a .prices .now) (a .list .now)
     (store (a .records .now) (a .literals .now) (a .names .now) (a .terms) (a .symbols)) (a .paid .now) (a .found
     .now)
@@ -36,10 +34,9 @@ returns c =
 returns-2 : tie.Need-returns-2
 returns-2 c =
     let a = c .before .before .before .before .before .before .before .before .before .before .before .before .before
-    .before .before .before .args in
-    answer-no-costs (planOf (a .plan .now) (a .labels .now) (a .values .now)) (a .known .now)
-    (nameIn (a .labels .now) (a .order .now) (a .functions .now)) (kidsIn (a .values .now) (a .starts .now) (a
-    .children .now))
+    .args in
+    answer-no-costs (planOf (a .rows .now) (a .edges .now) (a .labels .now) (a .values .now)) (a .ranks .now)
+    (nameIn (a .labels .now) (a .rows .now)) (childrenOf (a .rows .now) (a .values .now))
     (a .passes) (a .prices .now) (a .list .now)
     (store (a .records .now) (a .literals .now) (a .names .now) (a .terms) (a .symbols)) (a .paid .now) (a .found
     .now)
@@ -48,10 +45,9 @@ returns-2 c =
 returns-3 : tie.Need-returns-3
 returns-3 c =
     let a = c .before .before .before .before .before .before .before .before .before .before .before .before .before
-    .before .before .before .before .args in
-    answer-no-terms (planOf (a .plan .now) (a .labels .now) (a .values .now)) (a .known .now)
-    (nameIn (a .labels .now) (a .order .now) (a .functions .now)) (kidsIn (a .values .now) (a .starts .now) (a
-    .children .now))
+    .before .args in
+    answer-no-terms (planOf (a .rows .now) (a .edges .now) (a .labels .now) (a .values .now)) (a .ranks .now)
+    (nameIn (a .labels .now) (a .rows .now)) (childrenOf (a .rows .now) (a .values .now))
     (a .passes) (a .prices .now) (a .list .now)
     (store (a .records .now) (a .literals .now) (a .names .now) (a .terms) (a .symbols)) (a .paid .now) (a .found
     .now)
@@ -64,13 +60,14 @@ slice-aggregate-whole-rows c = search needs
 whole-rows-requires : tie.Need-whole-rows-requires
 whole-rows-requires c κs =
     let p = c .before .before .before .before .before .before .before .before .before .before .before .before .before
-    .before .before .before .before .before .before .before .before .pre in (
-      p .steady,
-      (
-        p .listed (sym (c .before .before .before .before .before .before .before .any-dear .ensures) ∙ c
-            .before .before .before .before .before .before .if1 .left),
-        rw (length-replicate {A = ℕ} 1024 0) (p .few),
-      ),
+    .before .before .before .before .before .pre in (
+      record {
+        rank = p .rank;
+        steady = p .steady;
+        listed = p .listed (sym (c .before .before .before .before .before .before .before .any-dear .ensures) ∙ c
+            .before .before .before .before .before .before .if1 .left);
+      },
+      rw (length-replicate {A = ℕ} 1024 0) (p .few),
     )
 
 enum-known-n : tie.Need-enum-known-n
@@ -92,12 +89,11 @@ returns-4 : tie.Need-returns-4
 returns-4 c =
     let a = c .before .before .before .before .before .before .before .before .before .before .before .before .before
     .before .before .before .before .before .before .before .before .before .before .before .before .before .before
-    .before .before .before .args in
+    .args in
     let w = rw (c .enum-told .given .1) at (c .before .before .before .before .before .before .before .before
     .whole-rows .ensures) in
-    answer-full (planOf (a .plan .now) (a .labels .now) (a .values .now)) (a .known .now)
-    (nameIn (a .labels .now) (a .order .now) (a .functions .now)) (kidsIn (a .values .now) (a .starts .now) (a
-    .children .now))
+    answer-full (planOf (a .rows .now) (a .edges .now) (a .labels .now) (a .values .now)) (a .ranks .now)
+    (nameIn (a .labels .now) (a .rows .now)) (childrenOf (a .rows .now) (a .values .now))
     (a .passes) (a .prices .now) (a .list .now)
     (store (a .records .now) (a .literals .now) (a .names .now) (a .terms) (a .symbols)) (a .paid .now) (a .found
     .now)
@@ -114,9 +110,9 @@ put-results-requires : tie.Need-put-results-requires
 put-results-requires c κs =
     let p = c .before .before .before .before .before .before .before .before .before .before .before .before .before
     .before .before .before .before .before .before .before .before .before .before .before .before .before .before
-    .before .before .before .before .before .before .before .pre in
+    .before .before .before .before .pre in
     let k = c .before .before .before .before .before .before .before .before .before .before .before .before
-    .whole-rows .kept .1 .1 .1 .1 .1 .1 .1 .1 .1 .1 .1 .1 .1 .1 .0 in (
+    .whole-rows .kept .1 .1 .1 .1 .1 .1 .1 .1 .1 .1 .1 .0 in (
       p .below,
       record {
         found-long = omega (arith, p .few, k, length-replicate {A = ℕ} 1024 0);
@@ -146,13 +142,12 @@ returns-5 : tie.Need-returns-5
 returns-5 c =
     let a = c .before .before .before .before .before .before .before .before .before .before .before .before .before
     .before .before .before .before .before .before .before .before .before .before .before .before .before .before
-    .before .before .before .before .before .before .before .before .before .before .before .before .args in
+    .before .before .before .before .before .before .before .before .before .args in
     let w = rw (c .before .before .before .before .before .before .before .before .before .n .given .1) at (c .before
     .before .before .before .before .before .before .before .before .before .before .before .before .before .before
     .before .before .whole-rows .ensures) in
-    answer-kept (planOf (a .plan .now) (a .labels .now) (a .values .now)) (a .known .now)
-    (nameIn (a .labels .now) (a .order .now) (a .functions .now)) (kidsIn (a .values .now) (a .starts .now) (a
-    .children .now))
+    answer-kept (planOf (a .rows .now) (a .edges .now) (a .labels .now) (a .values .now)) (a .ranks .now)
+    (nameIn (a .labels .now) (a .rows .now)) (childrenOf (a .rows .now) (a .values .now))
     (a .passes) (a .prices .now) (a .list .now)
     (store (a .records .now) (a .literals .now) (a .names .now) (a .terms) (a .symbols)) (a .paid .now) (a .found
     .now)

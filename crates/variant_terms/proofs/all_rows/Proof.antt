@@ -4,11 +4,11 @@ use Prim.Native.Nat.{ℕ, _-_}
 use mathlib.Core.Path.{refl}
 use lib.ListN.{length}
 use Rattle.term_rules.specs.Lent.{store}
-use Rattle.price_passes.specs.Flat.{partOf}
-use Rattle.build.specs.Plan.{planOf}
+use Rattle.table_layout.specs.Rows.{childrenAt}
+use Rattle.build.specs.Plan.{planOf, childrenOf}
 use Rattle.build.specs.Building.{state}
 use Rattle.term_rules.proofs.Adding.AddingLaws.{grows-refl}
-use Rattle.variant_terms.specs.Turned.{nameIn, kidsIn}
+use Rattle.variant_terms.specs.Turned.{nameIn}
 use Rattle.variant_terms.proofs.TurnLaws.{Turn, turn-go, turn-stop, turn-end}
 use borrow.Author.Needs.{needs}
 use native.Mathlib.Omega.{arith}
@@ -16,30 +16,30 @@ use Rattle.variant_terms.proofs.all_rows.Statement.{statement}
 use Rattle.variant_terms.proofs.all_rows.Tie as tie
 
 abbrev Inv-loop : tie.InvT-loop
-Inv-loop plan ranks labels values starts children order functions list memo₀ records₀ literals₀ names₀ terms symbols
+Inv-loop rows edges ranks labels values list memo₀ records₀ literals₀ names₀ terms symbols
     found₀ n₀ k₀ j₀ memo records literals names found n k j =
-    Turn (planOf plan labels values) ranks (nameIn labels order functions) (kidsIn values starts children)
+    Turn (planOf rows edges labels values) ranks (nameIn labels rows) (childrenOf rows values)
     (state memo₀ (store records₀ literals₀ names₀ terms symbols)) list (state memo (store records literals names n k))
     (length found₀) found j
 
 abbrev μ-loop : tie.MeasureT-loop
-μ-loop plan ranks labels values starts children order functions list memo₀ records₀ literals₀ names₀ terms symbols
+μ-loop rows edges ranks labels values list memo₀ records₀ literals₀ names₀ terms symbols
     found₀ n₀ k₀ j₀ memo records literals names found n k j =
     length list - j
 
 loop-holds : tie.Need-loop-holds Inv-loop μ-loop
 loop-holds c =
-    let p = c .before .before .before .before .before .before .before .before .before .before .before .before .pre in
+    let p = c .before .before .before .before .before .before .before .before .before .pre in
     record {
       within = omega arith;
-      room = p .1 .1;
+      room = p .1;
       long = refl;
       memo = refl;
       records = refl;
       literals = refl;
       names = refl;
-      tracks = p .0 .tracks;
-      grows = grows-refl _ (p .0 .tracks .formed);
+      tracks = p .0 .builder .tracks;
+      grows = grows-refl _ (p .0 .builder .tracks .formed);
       same = λ d deep. refl;
     }
 
@@ -52,15 +52,18 @@ shared-slice-read-one-row c = search needs
 one-row-requires : tie.Need-one-row-requires Inv-loop μ-loop
 one-row-requires c κs =
     let p = c .before .before .before .before .before .before .before .before .before .before .before .before .before
-    .before .before .before .before .before .before .pre in
-    let l = c .before .before .before .before .before .before .loop in (
-      record {
-        planned = p .0 .planned;
-        inside = λ i q. rw (l .inv .memo) (p .0 .inside i q);
-        tracks = l .inv .tracks;
-      },
-      p .1 .0 (l .j) (c .before .before .before .before .before .loop-test .taken),
-    )
+    .before .before .before .pre in
+    let l = c .before .before .before .before .before .before .loop in
+    record {
+      rank = p .0 .rank;
+      builder =
+          record {
+            planned = p .0 .builder .planned;
+            inside = λ i q. rw (l .inv .memo) (p .0 .builder .inside i q);
+            tracks = l .inv .tracks;
+          };
+      listed = p .0 .listed (l .j) (c .before .before .before .before .before .loop-test .taken);
+    }
 
 enum-known-t : tie.Need-enum-known-t Inv-loop μ-loop
 enum-known-t c = search needs
@@ -86,14 +89,14 @@ same-length-5 c = search needs
 returns : tie.Need-returns Inv-loop μ-loop
 returns c =
     let a = c .before .before .before .before .before .before .before .before .before .before .before .before .before
-    .before .before .before .before .before .before .before .before .before .before .before .before .before .before
-    .before .before .args in
+    .before .before .before .before .before .before .before .before .before .before .before .before .before .args in
     let l = c .before .before .before .before .before .before .before .before .before .before .before .before .before
     .before .before .before .loop in
     let w = rw (c .enum-told .given .1) at (c .before .before .before .before .before .before .before .before .before
     .one-row .ensures) in
-    turn-stop (planOf (a .plan .now) (a .labels .now) (a .values .now)) (a .ranks .now) (a .values .now)
-    (nameIn (a .labels .now) (a .order .now) (a .functions .now)) (partOf (a .starts .now) (a .children .now)) _
+    turn-stop (planOf (a .rows .now) (a .edges .now) (a .labels .now) (a .values .now)) (a .ranks .now) (a .values
+    .now)
+    (nameIn (a .labels .now) (a .rows .now)) (childrenAt (a .rows .now)) _
     (a .list .now) _ _ (l .found) (l .j) (l .inv) (c .before .before .before .before .before .before .before .before
     .before .before .before .before .before .before .before .loop-test .taken) _ _ _ _ w
 
@@ -101,7 +104,7 @@ mul-found : tie.Need-mul-found Inv-loop μ-loop
 mul-found c =
     let g = c .before .before .before .before .before .before .before .before .before .before .before .before .before
     .before .before .before .before .before .before .before .before .before .before .before .before .before .before
-    .before .before .before .good in
+    .good in
     let l = c .before .before .before .before .before .before .before .before .before .before .before .before .before
     .before .before .before .loop-test .taken in
     omega (arith, g)
@@ -113,7 +116,7 @@ add-j : tie.Need-add-j Inv-loop μ-loop
 add-j c =
     let g = c .before .before .before .before .before .before .before .before .before .before .before .before .before
     .before .before .before .before .before .before .before .before .before .before .before .before .before .before
-    .before .before .before .good in
+    .good in
     let l = c .before .before .before .before .before .before .before .before .before .before .before .before .before
     .before .before .before .loop-test .taken in
     omega (arith, g)
@@ -125,15 +128,15 @@ loop-again : tie.Need-loop-again Inv-loop μ-loop
 loop-again c =
     let a = c .before .before .before .before .before .before .before .before .before .before .before .before .before
     .before .before .before .before .before .before .before .before .before .before .before .before .before .before
-    .before .before .before .args in
+    .args in
     let l = c .before .before .before .before .before .before .before .before .before .before .before .before .before
     .before .before .before .before .loop in
     let k = c .before .before .before .before .before .before .before .before .before .before .one-row .kept .1 .1 .1
-    .1 .1 .1 .1 .1 in
+    .1 .1 in
     let w = rw (c .before .t .given .1) at (c .before .before .before .before .before .before .before .before .before
     .before .one-row .ensures) in
-    turn-go (planOf (a .plan .now) (a .labels .now) (a .values .now)) (a .ranks .now) (a .values .now)
-    (nameIn (a .labels .now) (a .order .now) (a .functions .now)) (partOf (a .starts .now) (a .children .now)) _
+    turn-go (planOf (a .rows .now) (a .edges .now) (a .labels .now) (a .values .now)) (a .ranks .now) (a .values .now)
+    (nameIn (a .labels .now) (a .rows .now)) (childrenAt (a .rows .now)) _
     (a .list .now) _ _ (l .found) (l .j) (l .inv) (c .before .before .before .before .before .before .before .before
     .before .before .before .before .before .before .before .before .loop-test .taken) _ _ w (k .0) (k .1 .0) (k .1
     .1 .0) (k .1 .1 .1 .0)
@@ -155,11 +158,11 @@ same-length-10 c = search needs
 
 returns-2 : tie.Need-returns-2 Inv-loop μ-loop
 returns-2 c =
-    let a = c .before .before .before .before .before .before .before .before .before .before .before .before .before
-    .before .args in
+    let a = c .before .before .before .before .before .before .before .before .before .before .before .args in
     let l = c .before .loop in
-    turn-end (planOf (a .plan .now) (a .labels .now) (a .values .now)) (a .ranks .now) (a .values .now)
-    (nameIn (a .labels .now) (a .order .now) (a .functions .now)) (partOf (a .starts .now) (a .children .now)) _
+    turn-end (planOf (a .rows .now) (a .edges .now) (a .labels .now) (a .values .now)) (a .ranks .now) (a .values
+    .now)
+    (nameIn (a .labels .now) (a .rows .now)) (childrenAt (a .rows .now)) _
     (a .list .now) _ _ (l .found) (l .j) (l .inv) (c .loop-test .left)
 
 pub all-rows-spec : {M : Type 1} → statement M

@@ -20,36 +20,36 @@ leaves-of-right p s x (done t s′) r = record { grows = r .grows; tracks = r .t
 leaves-of-right p s x (full me rs ls ns) r = r
 
 module _
-    (plan ranks functions : List ℕ) (values : List ℤ) (me : List ℕ) (s : Store)
-    (b : Builder plan ranks functions values me s) (x : ℕ) (k : KidIn ranks values x) (o : Out ℕ) where
-  pub kid-of-class :
-      x < 512 →
-      Exact (planOf plan functions values) (getD ranks x 0) (state me s) x o →
-      KidMade (planOf plan functions values) ranks values (state me s) x o
+    (rank : ℕ → ℕ) (rows edges ranks labels : List ℕ) (values : List ℤ) (me : List ℕ) (s : Store)
+    (b : Builder rank rows edges labels values me s) (x : ℕ) (k : KidIn rank ranks values x) (o : Out ℕ) where
+  abbrev p : Plan
+  p = planOf rows edges labels values
+
+  pub kid-of-class : x < 512 → Exact p (getD ranks x 0) (state me s) x o → KidMade p ranks values (state me s) x o
   kid-of-class h e = record {
     same = λ d deep.
-        ap (childIn (buildIn (planOf plan functions values) d) (state me s)) (childOf-class values x h)
-        ∙ childIn-class (buildIn (planOf plan functions values) d) (state me s) x
+        ap (childIn (buildIn p d) (state me s)) (childOf-class values x h)
+        ∙ childIn-class (buildIn p d) (state me s) x
         ∙ e d (deep x);
     leaves =
-        leaves-of-right (planOf plan functions values) (state me s) (class x) o
-        (exact-right (planOf plan functions values) (λ (c : ℕ). getD ranks c 0)
-        (ranked-of-planned plan ranks functions values (b .planned)) (state me s) x (b .tracks) (k .ranked h) o e);
+        leaves-of-right p (state me s) (class x) o
+        (exact-right p rank (ranked-of-planned rank rows edges labels values (b .planned)) (state me s) x (b .tracks)
+        (k .ranked h) (getD ranks x 0) (k .enough h) o e);
   }
 
   pub kid-of-value :
       512 ≤ x →
       added (state me s) (add s (literal (getD values (x - 512) (pos 0)))) ≡ o →
-      KidMade (planOf plan functions values) ranks values (state me s) x o
+      KidMade p ranks values (state me s) x o
   kid-of-value h e =
       let z : ℤ = getD values (x - 512) (pos 0) in
       record {
         same = λ d deep.
-            ap (childIn (buildIn (planOf plan functions values) d) (state me s)) (childOf-value values x h)
-            ∙ childIn-value (buildIn (planOf plan functions values) d) (state me s) z
+            ap (childIn (buildIn p d) (state me s)) (childOf-value values x h)
+            ∙ childIn-value (buildIn p d) (state me s) z
             ∙ e;
         leaves =
-            leaves-of-right (planOf plan functions values) (state me s) (value z) o
-            (made-of-value (planOf plan functions values) (λ (c : ℕ). getD ranks c 0)
-            (ranked-of-planned plan ranks functions values (b .planned)) 0 (state me s) (b .tracks) o z e .right);
+            leaves-of-right p (state me s) (value z) o
+            (made-of-value p rank (ranked-of-planned rank rows edges labels values (b .planned)) 0 (state me s)
+            (b .tracks) o z e .right);
       }

@@ -1,15 +1,15 @@
 -- Laws that follow the code of `row_term`: the loop over a row's children, and the row's own term. Assumes nothing.
 use Prim.{Dec, yes, no}
-use Prim.Native.Nat.{ℕ, suc, _+_, _<_, _≤_}
+use Prim.Native.Nat.{ℕ, _+_, _<_, _≤_}
 use mathlib.Core.Path.{_≡_, refl, sym, ap, subst, _∙_}
 use mathlib.Core.Bool.{true}
-use mathlib.Core.List.{List, [], _∷_, map}
+use mathlib.Core.List.{List, [], map}
 use native.Mathlib.Decide.{ℕ-discrete}
 use native.Mathlib.Numerals.{add-one}
 use native.Mathlib.Omega.{arith}
 use lib.IntN.{ℤ}
-use lib.ListN.{length, getD, set, take, drop, length-set, length-map, drop-of-length-le}
-use lib.Seq.{drop-cons, take-suc-set, getD-set-same, getD-set-other, length-take-le, getD-take}
+use lib.ListN.{length, getD, set, take, drop, length-set}
+use lib.Seq.{take-suc-set, getD-set-same, getD-set-other, length-take-le, getD-take}
 use Rattle.name.specs.Name.{valid}
 use Rattle.term_rules.specs.Lent.{Store}
 use Rattle.term_rules.specs.Nodes.{Node, application}
@@ -22,7 +22,7 @@ use Rattle.build.specs.Standing.{Tracks, Stuck}
 use Rattle.build.specs.Ready.{seen}
 use Rattle.build.specs.declared.Built.{Built}
 use Rattle.build.proofs.StandingLaws.{stands-grows}
-use Rattle.build.proofs.PlanLaws.{map-drop}
+use Rattle.build.proofs.PlanLaws.{children-next, children-end}
 use Rattle.build.proofs.TurnLaws.{childrenIn-go, childrenIn-stop, childrenIn-end}
 use Rattle.answer_rules.specs.Variants.{ownVariant}
 use Rattle.variant_terms.specs.Rows.{Deep, Leads, Leaves, KidMade, RowMade}
@@ -83,17 +83,6 @@ own-leaves :
 own-leaves p s name ks h v few below =
     own-by p s (application name ks) h (add (s .lent) (application name ks)) refl
     (add-gives (s .lent) (application name ks) (h .formed) (v, few, below))
-
--- the children from place j on
-kids-next :
-    (values : List ℤ) (kids : List ℕ) (j : ℕ) →
-    j < length kids →
-    drop j (map (childOf values) kids) ≡ childOf values (getD kids j 0) ∷ drop (j + 1) (map (childOf values) kids)
-kids-next values kids j h =
-    map-drop (childOf values) j kids
-    ∙ ap (map (childOf values)) (drop-cons kids j 0 h)
-    ∙ ap (λ (xs : List Child). childOf values (getD kids j 0) ∷ xs) (sym (map-drop (childOf values) (suc j) kids))
-    ∙ ap (λ (i : ℕ). childOf values (getD kids j 0) ∷ drop i (map (childOf values) kids)) (sym (add-one j))
 
 -- The loop over the children of a row: those before place j are built, in order, and the state is as the definition's.
 pub record Turn
@@ -156,7 +145,7 @@ module _
             below-set t (s′ .lent .terms) (made .leaves .grows .more) (made .leaves .below) small i (ℕ-discrete i j) q;
         same = λ d deep.
             turn .same d deep
-            ∙ ap (childrenIn (buildIn p d) at (take j ks)) (kids-next values kids j l)
+            ∙ ap (childrenIn (buildIn p d) at (take j ks)) (children-next values kids j l)
             ∙ childrenIn-go (buildIn p d) at (take j ks) (childOf values (getD kids j 0))
             (drop (j + 1) (map (childOf values) kids)) t s′ (made .same d deep)
             ∙ ap (λ (ms : List ℕ). childrenIn (buildIn p d) s′ ms (drop (j + 1) (map (childOf values) kids)))
@@ -173,7 +162,7 @@ module _
     same = λ d deep.
         ap (ownVariant name)
         (turn .same d deep
-        ∙ ap (childrenIn (buildIn p d) at (take j ks)) (kids-next values kids j l)
+        ∙ ap (childrenIn (buildIn p d) at (take j ks)) (children-next values kids j l)
         ∙ childrenIn-stop (buildIn p d) at (take j ks) (childOf values (getD kids j 0))
         (drop (j + 1) (map (childOf values) kids)) me rs ls ns (made .same d deep))
         ∙ own-of-full name me rs ls ns;
@@ -194,7 +183,7 @@ module _
             ap (ownVariant name)
             (turn .same d deep
             ∙ ap (childrenIn (buildIn p d) at (take j ks))
-            (drop-of-length-le (map (childOf values) kids) {i = j} (omega (arith, length-map kids (childOf values))))
+            (children-end values kids j l)
             ∙ childrenIn-end (buildIn p d) at (take j ks))
             ∙ own-of-done name (take j ks) at
             ∙ e;

@@ -6,10 +6,10 @@ use mathlib.Core.Path.{_∙_}
 use lib.ListN.{replicate, length-replicate}
 use lib.IntN.{pos}
 use Rattle.term_rules.specs.Lent.{Store, store, recordsLength}
-use Rattle.build.specs.Plan.{Plan, planOf}
+use Rattle.build.specs.Plan.{Plan, planOf, childrenOf}
 use Rattle.build.proofs.BuildingLaws.{tracks-of-zeros, stuck-beyond}
 use Rattle.build.proofs.copies.CopiedLaws.{saved-back}
-use Rattle.variant_terms.specs.Turned.{nameIn, kidsIn}
+use Rattle.variant_terms.specs.Turned.{nameIn}
 use Rattle.variant_terms.proofs.WholeLaws.{whole-of-done, whole-of-full}
 use native.Mathlib.Omega.{arith}
 use borrow.Author.Needs.{needs}
@@ -40,15 +40,20 @@ slice-aggregate-all-rows c = search needs
 all-rows-requires : tie.Need-all-rows-requires
 all-rows-requires c κs =
     let a = c .before .before .before .before .before .before .before .before .before .before .before .before .before
-    .before .before .before .before .before .before .before .before .before .before .before .before .before .before
-    .before .args in
+    .before .before .before .before .before .before .before .before .before .before .before .before .args in
     let p = c .before .before .before .before .before .before .before .before .before .before .before .before .before
-    .before .before .before .before .before .before .before .before .before .before .before .before .before .before
-    .before .pre in (
+    .before .before .before .before .before .before .before .before .before .before .before .before .pre in (
       record {
-        planned = p .0 .planned;
-        inside = λ k l. rw (length-replicate {A = ℕ} 512 0) (p .0 .inside k l);
-        tracks = tracks-of-zeros (planOf (a .plan .now) (a .labels .now) (a .values .now)) 512 _ (p .0 .formed);
+        rank = p .0 .rank;
+        builder =
+            record {
+              planned = p .0 .steady .planned;
+              inside = λ k l. rw (length-replicate {A = ℕ} 512 0) (p .0 .steady .inside k l);
+              tracks =
+                  tracks-of-zeros (planOf (a .rows .now) (a .edges .now) (a .labels .now) (a .values .now)) 512 _
+                  (p .0 .steady .formed);
+            };
+        listed = p .0 .listed;
       },
       p .1,
     )
@@ -94,14 +99,14 @@ returns c =
     let a = c .before .before .before .before .before .before .before .before .before .before .before .before .before
     .before .before .before .before .before .before .before .before .before .before .before .before .before .before
     .before .before .before .before .before .before .before .before .before .before .before .before .before .before
-    .before .before .before .before .before .before .before .before .before .before .before .before .args in
+    .before .before .before .before .before .before .before .before .before .args in
     let b = c .before .before .before .before .before .before .before .before .before .before .before .before .before
     .before .before .before .before .before .before .before .before .before .before .before .all-rows in
     let e = rw (c .before .before .before .before .before .before .before .before .before .before .before .before
     .before .before .enum-told .given .1) at (b .ensures) in
     let k = stuck-beyond (e .stuck) in
-    let u = b .last .1 .1 .1 .1 .1 .1 .1 .1 .1 .1 in
-    let q = b .kept .1 .1 .1 .1 .1 .1 .1 .1 .1 .1 in
+    let u = b .last .1 .1 .1 .1 .1 .1 .1 in
+    let q = b .kept .1 .1 .1 .1 .1 .1 .1 in
     let er =
     rw (c .before .before .before .before .before .before .before .before .before .before .before .before .before
     .before .before .before .before .before .before .before .before .before .before .before .before .before .before
@@ -120,9 +125,8 @@ returns c =
     .before .before .before .before .before .before .before .before .before .before .before .before .before .before
     .before .before .before .before .bytes .ensures) at (c .before .before .bytes2 .ensures)
     ∙ saved-back 4096 0 (a .names .now) (u .1 .1 .0) (q .1 .1 .0) (k .names) in
-    whole-of-full (planOf (a .plan .now) (a .labels .now) (a .values .now)) (a .ranks .now)
-    (nameIn (a .labels .now) (a .order .now) (a .functions .now)) (kidsIn (a .values .now) (a .starts .now) (a
-    .children .now))
+    whole-of-full (planOf (a .rows .now) (a .edges .now) (a .labels .now) (a .values .now)) (a .ranks .now)
+    (nameIn (a .labels .now) (a .rows .now)) (childrenOf (a .rows .now) (a .values .now))
     (a .list .now) (store (a .records .now) (a .literals .now) (a .names .now) (a .terms) (a .symbols)) _ _ _ _ e _ _
     _ er el en
 
@@ -142,12 +146,11 @@ returns-2 : tie.Need-returns-2
 returns-2 c =
     let a = c .before .before .before .before .before .before .before .before .before .before .before .before .before
     .before .before .before .before .before .before .before .before .before .before .before .before .before .before
-    .before .before .before .before .before .before .before .before .before .before .before .before .before .args in
+    .before .before .before .before .before .before .before .before .before .before .args in
     let e = rw (c .before .n .given .1) at (c .before .before .before .before .before .before .before .before .before
     .before .before .all-rows .ensures) in
-    whole-of-done (planOf (a .plan .now) (a .labels .now) (a .values .now)) (a .ranks .now)
-    (nameIn (a .labels .now) (a .order .now) (a .functions .now)) (kidsIn (a .values .now) (a .starts .now) (a
-    .children .now))
+    whole-of-done (planOf (a .rows .now) (a .edges .now) (a .labels .now) (a .values .now)) (a .ranks .now)
+    (nameIn (a .labels .now) (a .rows .now)) (childrenOf (a .rows .now) (a .values .now))
     (a .list .now) (store (a .records .now) (a .literals .now) (a .names .now) (a .terms) (a .symbols)) _ _ e
 
 pub whole-rows-spec : {M : Type 1} → statement M

@@ -14,10 +14,11 @@ use Rattle.choice_rules.specs.Run.{priced}
 use Rattle.choice_rules.proofs.ListLaws.{or-fails, and-cases}
 use Rattle.table_rules.proofs.PickedLaws.{Passes}
 use Rattle.price_passes.specs.Flat.{top, partOf, childOf as flatChild}
+use Rattle.table_layout.specs.Packed.{Packed}
 use Rattle.price.specs.Solved.{Solved}
 use Rattle.term_rules.specs.Lent.{Store}
 use Rattle.term_rules.specs.WellFormed.{wellFormed}
-use Rattle.build.specs.Plan.{planOf}
+use Rattle.build.specs.Plan.{planOf, childrenOf}
 use Rattle.build.specs.Building.{state, Out, done, full}
 use Rattle.file_rules.specs.Table.{Table}
 use Rattle.table_rules.specs.Rules.Classes.{classCount}
@@ -35,11 +36,12 @@ use Rattle.answer_rules.specs.Variants.{
   variantsOfRows,
   roomForResults,
 }
+use Rattle.answer_rules.proofs.PlanLaws.{buildRank}
 use Rattle.variant_terms.specs.Rows.{Deep}
-use Rattle.best_class.proofs.SolvedLaws.{planned, priced-of-known}
+use Rattle.best_class.proofs.SolvedLaws.{planned, inside}
 use Rattle.variant_rows.specs.Candidates.{Prices, isCandidate}
 use Rattle.variant_rows.specs.Kept.{keptIn}
-use Rattle.variant_terms.specs.Turned.{nameIn, kidsIn, rowsIn, AllListed, Steady, wholly}
+use Rattle.variant_terms.specs.Turned.{nameIn, rowsIn, AllListed, Steady, wholly}
 use Rattle.variant_answers.specs.Kept.{dearIn, pricesOf, builtIn, answerIn, AnswerReady, Answers}
 use Rattle.variants_root.specs.Flat.{VariantTable}
 use Rattle.variants_root.proofs.kept_rows.RowLaws.{passes-are, cost-is, kept-is, kept-from}
@@ -89,9 +91,9 @@ module _
     (t : Table) (root : ℕ) (outputs heads starts children order functions labels : List ℕ) (values : List ℤ)
     (arities cells : List ℕ)
     (v : VariantTable t root outputs heads starts children order functions labels values arities cells)
-    (costs ranks marks known plan : List ℕ) (passes last : ℕ) (long : length ranks ≡ classCount t)
-    (same : length costs ≡ length ranks)
-    (w : Solved (classCount t) passes last outputs heads starts children order functions costs ranks marks known plan)
+    (costs ranks edges : List ℕ) (passes last : ℕ) (long : length ranks ≡ classCount t)
+    (w : Solved (classCount t) passes last outputs heads starts children costs ranks edges)
+    (packed : List ℕ) (pk : Packed order functions outputs starts children packed (length outputs))
     (prices : List ℕ) (p : Prices costs heads starts children (length outputs) prices) (c most : ℕ) (rows : List ℕ)
     (are : rows ≡ keptIn prices ranks outputs starts children order functions arities labels cells c most) where
   from :
@@ -103,41 +105,33 @@ module _
       (λ (x : List ℕ).
       (j : ℕ) → j < length x → Passes (isCandidate ranks outputs starts children c) (getD x j 0) 0 (length outputs))
       (sym are)
-      (kept-from t root outputs heads starts children order functions labels values arities cells v costs ranks marks
-      known plan passes last long same w prices p c most)
+      (kept-from t root outputs heads starts children order functions labels values arities cells v costs ranks edges passes last long w prices p c most)
 
   kept-below : AllBelow (length outputs) rows
   kept-below j h = omega (arith, from j h .high)
 
   price : (i : ℕ) → i < length outputs → getD prices i 0 ≡ costFor t (pricesFor t root) i
   price =
-      cost-is t root outputs heads starts children order functions labels values arities cells v costs ranks marks
-      known plan passes last long same w prices p
+      cost-is t root outputs heads starts children order functions labels values arities cells v costs ranks edges passes last long w prices p
 
   -- the kept rows can be built if none is too dear
-  all-listed : dearIn prices rows ≡ false → AllListed known labels values starts children order functions rows
+  all-listed : dearIn prices rows ≡ false → AllListed (buildRank (pricesFor t root)) packed ranks labels values rows
   all-listed e j h =
       let i : ℕ = getD rows j 0 in
       let b : i < length outputs = kept-below j h in
-      listed t root outputs heads starts children order functions labels values arities cells v costs ranks marks
-      known plan passes last long same w i b (and-cases (eqb (getD outputs i 0) c) (allOf (priced ranks) (map
+      listed t root outputs heads starts children order functions labels values arities cells v costs ranks edges
+      passes last long w i b (and-cases (eqb (getD outputs i 0) c) (allOf (priced ranks) (map
       flatChild (partOf starts children i))) (from j h .passes) .1) (subst (λ (x : ℕ). x < top) (p i b) (not-dear
-      prices rows e j h))
+      prices rows e j h)) packed pk
 
-  steady : (s : Store) → wellFormed s ≡ true → Steady plan known labels values s
+  steady : (s : Store) → wellFormed s ≡ true → Steady (buildRank (pricesFor t root)) packed edges labels values s
   steady s f = record {
     planned =
-        planned t root outputs heads starts children order functions labels values (v .is) costs ranks marks known
-        plan passes last long same w;
-    inside = λ k l.
-        omega (
-          arith,
-          priced-of-known t root outputs heads starts children order functions labels values (v .is) costs ranks marks
-              known
-              plan passes last long same w k l .0,
-          long,
-          v .is .flat .few-classes,
-        );
+        planned t root outputs heads starts children order functions labels values (v .is) costs ranks edges passes last
+        long w packed pk;
+    inside =
+        inside t root outputs heads starts children order functions labels values (v .is) costs ranks edges passes last
+        long w;
     formed = f;
   }
 
@@ -146,8 +140,9 @@ module _
       wellFormed s ≡ true →
       1024 ≤ length prices →
       length rows ≤ 1024 →
-      AnswerReady plan known labels values starts children order functions prices rows s
+      AnswerReady packed edges ranks labels values prices rows s
   answer-ready s f a b = record {
+    rank = buildRank (pricesFor t root);
     steady = steady s f;
     below = λ j h. omega (arith, kept-below j h, a, v .is .flat .few-rows);
     few = b;
@@ -160,13 +155,12 @@ module _
 
     abbrev built : Out (List ℕ)
     built =
-        rowsIn (planOf plan labels values) depth (nameIn labels order functions) (kidsIn values starts children)
+        rowsIn (planOf packed edges labels values) depth (nameIn labels packed) (childrenOf packed values)
         (state (replicate 512 0) (l .store)) [] rows
 
-    depth-enough : Deep known (depthFor (pricesFor t root))
+    depth-enough : Deep ranks (depthFor (pricesFor t root))
     depth-enough =
-        deep t root outputs heads starts children order functions labels values arities cells v costs ranks marks
-        known plan passes last long same w
+        deep t root outputs heads starts children order functions labels values arities cells v costs ranks edges passes last long w
 
     when-dear :
         dearIn prices rows ≡ true →
@@ -194,13 +188,11 @@ module _
         let d : anyDear t (pricesFor t root) rows ≡ false = sym (dear-is t root (length outputs) prices price rows kept-below) ∙ e in
         rw (e, r, answerIn) (rw (d, r, variantsOfRows)
         (built-is t root passes prices rows l
-        (passes-are t root outputs heads starts children order functions labels values arities cells v costs ranks
-        marks known plan passes last long same w) (costs-are t root (length outputs) prices price rows kept-below)
+        (passes-are t root outputs heads starts children order functions labels values arities cells v costs ranks edges passes last long w) (costs-are t root (length outputs) prices price rows kept-below)
         built
         ∙ ap (variantsBuilt t (pricesFor t root) (runOf t root .passes) l rows)
         (sym
-        (variants-are t root outputs heads starts children order functions labels values arities cells v costs ranks
-        marks known plan passes last long same w depth depth-enough rows (all-listed e) (state (replicate 512 0) (l
+        (variants-are t root outputs heads starts children order functions labels values arities cells v costs ranks edges passes last long w packed pk depth depth-enough rows kept-below (all-listed e) (state (replicate 512 0) (l
         .store)) []))))
 
     of-rows : answerIn passes prices rows l (wholly (l .store) built) ≡ variantsOfRows t (pricesFor t root) (runOf t root .passes) l rows
@@ -214,12 +206,11 @@ module _
         of-rows
         ∙ ap (variantsOfRows t (pricesFor t root) (runOf t root .passes) l)
         (are
-        ∙ kept-is t root outputs heads starts children order functions labels values arities cells v costs ranks marks
-        known plan passes last long same w prices p c most)
+        ∙ kept-is t root outputs heads starts children order functions labels values arities cells v costs ranks edges passes last long w prices p c most)
 
     -- an answer that is right at every depth is the definition's
     pub answer-told :
         (a : VariantsAfter) →
-        Answers (planOf plan labels values) known (nameIn labels order functions) (kidsIn values starts children)
+        Answers (planOf packed edges labels values) ranks (nameIn labels packed) (childrenOf packed values)
         passes prices rows l a → a ≡ variantsOfRows t (pricesFor t root) (runOf t root .passes) l (keptRows t (pricesFor t root) c most)
     answer-told a x = x depth depth-enough ∙ answer-is

@@ -1,14 +1,13 @@
 -- The rows of a solved flat table: which are variants, what they cost, and that the kept ones can be built. Assumes
 -- nothing.
-use mathlib.Core.Path.{_≡_, ap, sym, _∙_, subst}
-use mathlib.Core.Bool.{true, _&&_}
+use mathlib.Core.Path.{_≡_, ap, sym, _∙_}
+use mathlib.Core.Bool.{_&&_}
 use mathlib.Core.List.{List, [], _∷_}
 use Prim.Native.Nat.{ℕ, _+_, _*_, _-_, _<_, _≤_}
 use native.Mathlib.Omega.{arith}
 use lib.Dec.{eqb}
 use lib.IntN.{ℤ}
 use lib.ListN.{length, getD, take, drop, length-take}
-use Rattle.name.specs.Name.{valid}
 use Rattle.name.specs.Entries.{nameAt}
 use Rattle.choice_rules.specs.Rows.{Row, rowAt}
 use Rattle.choice_rules.specs.Run.{Run, rowPriced, rowCost}
@@ -29,8 +28,6 @@ use Rattle.variant_order.specs.Arrays.{cellsIn, keyIn, KeysIn}
 use Rattle.answer_rules.specs.Variants.{fileRow, costFor, isVariant, variantRows, keyFor, keptRows}
 use Rattle.best_class.specs.Flat.{FlatTable}
 use Rattle.best_class.proofs.SolvedLaws.{order-length, order-below, run-is}
-use Rattle.variant_terms.specs.Rows.{NameIn}
-use Rattle.variant_terms.specs.Turned.{functionIn}
 use Rattle.variant_rows.specs.Candidates.{PartsIn, priceOf, Prices, isCandidate}
 use Rattle.variant_rows.specs.Kept.{KeptReady, keptIn}
 use Rattle.variant_rows.proofs.KeptLaws.{picked-below}
@@ -108,27 +105,15 @@ module _
   pub name-is :
       (i : ℕ) →
       i < length outputs →
-      nameAt labels (functionIn order functions i) ≡ nameOf t (fileRow (pricesFor t root) i)
+      nameAt labels (getD functions (getD order i 0) 0) ≡ nameOf t (fileRow (pricesFor t root) i)
   name-is i h = f .label (getD order i 0) (below i h) ∙ ap (nameOf t) (file-row i)
 
   cells-is :
       (i : ℕ) →
       i < length outputs →
-      cellsIn cells (getD order i 0) (getD arities (functionIn order functions i) 0) ≡ tableRowOf t (fileRow (pricesFor t root) i)
+      cellsIn cells (getD order i 0) (getD arities (getD functions (getD order i 0) 0) 0) ≡ tableRowOf t (fileRow (pricesFor t root) i)
       .cells
   cells-is i h = v .cells-are (getD order i 0) (below i h) ∙ ap (λ (r : ℕ). tableRowOf t r .cells) (file-row i)
-
-  pub named : (i : ℕ) → i < length outputs → NameIn labels (functionIn order functions i)
-  named i h =
-      let r : ℕ = getD order i 0 in
-      let b = below i h in
-      record {
-        entry = f .label-place r b;
-        short = f .label-short r b;
-        named =
-            subst (λ (n : List ℕ). valid n ≡ true) (sym (f .label r b))
-            (f .known .name (tableRowOf t r .function) (f .known .function r b));
-      }
 
   pub few-kids : (i : ℕ) → i < length outputs → length (partOf starts children i) ≤ 8
   few-kids i h =
@@ -140,14 +125,11 @@ module _
       )
 
   module _
-      (costs ranks marks known plan : List ℕ) (passes last : ℕ) (long : length ranks ≡ classCount t)
-      (same : length costs ≡ length ranks)
-      (w : Solved (classCount t) passes last outputs heads starts children order functions costs ranks marks known
-      plan) where
+      (costs ranks edges : List ℕ) (passes last : ℕ) (long : length ranks ≡ classCount t)
+      (w : Solved (classCount t) passes last outputs heads starts children costs ranks edges) where
     ran : runOf t root ≡ ranTo costs ranks last passes
     ran =
-        run-is t root outputs heads starts children order functions labels values f costs ranks marks known plan
-        passes last long same w
+        run-is t root outputs heads starts children order functions labels values f costs ranks edges passes last long w
 
     pub passes-are : runOf t root .passes ≡ passes
     passes-are = ap (λ (x : Run). x .passes) ran

@@ -2,7 +2,7 @@
 -- saved places nothing can have changed. Assumes nothing.
 use Prim.Native.Nat.{ℕ}
 use mathlib.Core.Path.{sym, _∙_}
-use lib.ListN.{getD, replicate, length-replicate}
+use lib.ListN.{replicate, length-replicate}
 use lib.IntN.{pos}
 use Rattle.term_rules.specs.Lent.{Store, store, recordsLength}
 use Rattle.build.specs.Plan.{Plan, planOf}
@@ -42,10 +42,14 @@ build-requires c κs =
     .before .before .before .before .before .before .before .before in
     let a = s .args in
     record {
+      rank = s .pre .rank;
       planned = s .pre .planned;
       inside = λ k l. rw (length-replicate {A = ℕ} 512 0) (s .pre .inside k l);
-      tracks = tracks-of-zeros (planOf (a .plan .now) (a .functions .now) (a .values .now)) 512 _ (s .pre .formed);
+      tracks =
+          tracks-of-zeros (planOf (a .rows .now) (a .edges .now) (a .labels .now) (a .values .now)) 512 _
+          (s .pre .formed);
       ranked = s .pre .ranked;
+      enough = s .pre .enough;
     }
 
 enum-known-t : tie.Need-enum-known-t
@@ -84,27 +88,30 @@ same-length-3 c = search needs
 returns : tie.Need-returns
 returns c =
     let s = c .before .before .before .before .before .before .before .before .before .before .before .before .before
-    .before .before .before .before .before .before .before .before .before .before .before .before .before
-    .before .before .before .before .before .before .before .before .before .before .before .before .before
-    .before .before .before .before .before in
+    .before .before .before .before .before .before .before .before .before .before .before .before .before .before
+    .before .before .before .before .before .before .before .before .before .before .before .before .before .before
+    .before .before .before in
     let a = s .args in
     let b = c .before .before .before .before .before .before .before .before .before .before .before .before .before
     .before .before .before .before .before .before .before .before .before .build in
-    let p : Plan = planOf (a .plan .now) (a .functions .now) (a .values .now) in
+    let p : Plan = planOf (a .rows .now) (a .edges .now) (a .labels .now) (a .values .now) in
     let lent : Store = store (a .records .now) (a .literals .now) (a .names .now) (a .terms) (a .symbols) in
     let e = rw (c .before .before .before .before .before .before .before .before .before .before .before .before
     .before .before .enum-told .given .1) at (b .ensures) in
     let k =
     stuck-beyond
-    (exact-right p (λ (i : ℕ). getD (a .ranks .now) i 0)
-    (ranked-of-planned (a .plan .now) (a .ranks .now) (a .functions .now) (a .values .now) (s .pre .planned))
-    (state (replicate 512 0) lent) (a .c) (tracks-of-zeros p 512 lent (s .pre .formed)) (s .pre .ranked) _ e) in
+    (exact-right p (s .pre .rank)
+    (ranked-of-planned (s .pre .rank) (a .rows .now) (a .edges .now) (a .labels .now) (a .values .now) (s .pre
+    .planned))
+    (state (replicate 512 0) lent) (a .c) (tracks-of-zeros p 512 lent (s .pre .formed)) (s .pre .ranked) (a .level)
+    (s .pre .enough) _ e) in
     let er =
     rw (c .before .before .before .before .before .before .before .before .before .before .before .before .before
     .before .before .before .before .before .before .before .before .before .before .before .before .before
     .before .before .before .before .before .before .before .before .before .before .numbers .ensures) at (c
     .before .before .before .before .before .before .before .before .before .before .before .numbers2 .ensures)
-    ∙ saved-back (recordsLength 1024) 0 (a .records .now) (b .last .1 .1 .1 .1 .1 .0) (b .kept .1 .1 .1 .1 .1 .0) (k .records) in
+    ∙ saved-back (recordsLength 1024) 0 (a .records .now) (b .last .1 .1 .1 .1 .1 .0) (b .kept .1 .1 .1 .1 .1 .0) (k
+    .records) in
     let el =
     rw (c .before .before .before .before .before .before .before .before .before .before .before .before .before
     .before .before .before .before .before .before .before .before .before .before .before .before .before
@@ -118,7 +125,7 @@ returns c =
     .before .before .bytes .ensures) at (c .before .before .bytes2 .ensures)
     ∙ saved-back 4096 0 (a .names .now) (b .last .1 .1 .1 .1 .1 .1 .1 .0) (b .kept .1 .1 .1 .1 .1 .1 .1 .0) (k .names)
     in
-    rw (er, el, en) (sym (whole-of-full p (getD (a .ranks .now) (a .c) 0) lent (a .c) _ _ _ _ e))
+    rw (er, el, en) (sym (whole-of-full p (a .level) lent (a .c) _ _ _ _ e))
 
 same-length-4 : tie.Need-same-length-4
 same-length-4 c = search needs
@@ -132,12 +139,12 @@ same-length-6 c = search needs
 returns-2 : tie.Need-returns-2
 returns-2 c =
     let s = c .before .before .before .before .before .before .before .before .before .before .before .before .before
-    .before .before .before .before .before .before .before .before .before .before .before .before .before
-    .before .before .before .before .before in
+    .before .before .before .before .before .before .before .before .before .before .before .before .before .before
+    .before .before .before .before in
     let a = s .args in
     let e = rw (c .before .t .given .1) at (c .before .before .before .before .before .before .before .before .before
     .build .ensures) in
-    sym (whole-of-done (planOf (a .plan .now) (a .functions .now) (a .values .now)) (getD (a .ranks .now) (a .c) 0)
+    sym (whole-of-done (planOf (a .rows .now) (a .edges .now) (a .labels .now) (a .values .now)) (a .level)
     (store (a .records .now) (a .literals .now) (a .names .now) (a .terms) (a .symbols)) (a .c) _ _ e)
 
 pub term-spec : {M : Type 1} → statement M

@@ -20,6 +20,9 @@ Inv-loop edges₀ costs ranks outputs heads starts children none i₀ edges i =
 abbrev μ-loop : tie.MeasureT-loop
 μ-loop edges₀ costs ranks outputs heads starts children none i₀ edges i = length outputs - i
 
+cast-none : tie.Need-cast-none Inv-loop μ-loop
+cast-none c = omega (arith, c .before .before .before .before .before .before .before .pre .1 .1 .few-rows)
+
 clear-requires : tie.Need-clear-requires Inv-loop μ-loop
 clear-requires c κs = search needs
 
@@ -60,6 +63,15 @@ mul-e c = omega arith
 
 shared-slice-read-e : tie.Need-shared-slice-read-e Inv-loop μ-loop
 shared-slice-read-e c = omega arith
+
+cast-mark : tie.Need-cast-mark Inv-loop μ-loop
+cast-mark c =
+    omega (
+      arith,
+      c .before .before .before .before .before .before .before .before .before .before .before .before .before
+          .before .before .before .before .before .pre .1 .1 .few-rows,
+      c .before .before .before .before .before .loop-test .taken,
+    )
 
 mul-mark : tie.Need-mul-mark Inv-loop μ-loop
 mul-mark c =
@@ -150,6 +162,7 @@ fill-spec =
     (tie.spec
     Inv-loop
     μ-loop
+    cast-none
     clear-requires
     loop-holds
     mul-output
@@ -161,6 +174,7 @@ fill-spec =
     add-e
     mul-e
     shared-slice-read-e
+    cast-mark
     mul-mark
     sub-mark
     part-mark-start

@@ -6,14 +6,25 @@ use borrow.Author.Needs.{needs}
 use Rattle.variant_terms.proofs.row.child_term.Statement.{statement}
 use Rattle.variant_terms.proofs.row.child_term.Tie as tie
 
+mul-level : tie.Need-mul-level
+mul-level c = omega (arith, c .if1 .taken)
+
+shared-slice-read-level : tie.Need-shared-slice-read-level
+shared-slice-read-level c = c .before .before .before .before .before .before .before .before .before .pre .kid
+    .place (c .before .if1 .taken)
+
 build-requires : tie.Need-build-requires
 build-requires c κs =
-    let p = c .before .before .before .before .before .before .before .before .before .before .before .pre in
+    let p = c .before .before .before .before .before .before .before .before .before .before .before .before .before
+    .pre in
+    let h = c .before .before .before .before .before .if1 .taken in
     record {
-      planned = p .0 .planned;
-      inside = p .0 .inside;
-      tracks = p .0 .tracks;
-      ranked = p .1 .ranked (c .before .before .before .before .if1 .taken);
+      rank = p .rank;
+      planned = p .builder .planned;
+      inside = p .builder .inside;
+      tracks = p .builder .tracks;
+      ranked = p .kid .ranked h;
+      enough = p .kid .enough h;
     }
 
 same-length : tie.Need-same-length
@@ -31,18 +42,21 @@ same-length-4 c = search needs
 returns : tie.Need-returns
 returns c =
     let a = c .before .before .before .before .before .before .before .before .before .before .before .before .before
-    .before .before .before .before .before .before .args in
+    .before .before .before .before .before .before .before .before .args in
     let p = c .before .before .before .before .before .before .before .before .before .before .before .before .before
-    .before .before .before .before .before .before .pre in
-    kid-of-class (a .plan .now) (a .ranks .now) (a .functions .now) (a .values .now) (a .memo .now)
-    (store (a .records .now) (a .literals .now) (a .names .now) (a .terms) (a .symbols)) (p .0) (a .x) (p .1) _
-    (c .before .before .before .before .before .before .before .before .before .before .before .before .if1 .taken)
+    .before .before .before .before .before .before .before .before .pre in
+    kid-of-class (p .rank) (a .rows .now) (a .edges .now) (a .ranks .now) (a .labels .now) (a .values .now) (a .memo
+    .now)
+    (store (a .records .now) (a .literals .now) (a .names .now) (a .terms) (a .symbols)) (p .builder) (a .x) (p .kid)
+    _
+    (c .before .before .before .before .before .before .before .before .before .before .before .before .before .if1
+    .taken)
     (c .before .before .before .before .before .before .before .build .ensures)
 
 literal-term-requires : tie.Need-literal-term-requires
 literal-term-requires c κs =
-    let p = c .before .before .before .before .before .before .before .before .before .before .pre in
-    (p .0 .tracks .formed, p .1 .known (c .before .before .before .if1 .left))
+    let p = c .before .before .before .before .before .before .before .before .before .before .before .pre in
+    (p .builder .tracks .formed, p .kid .known (c .before .before .before .if1 .left))
 
 same-length-5 : tie.Need-same-length-5
 same-length-5 c = search needs
@@ -56,11 +70,13 @@ same-length-7 c = search needs
 returns-2 : tie.Need-returns-2
 returns-2 c =
     let a = c .before .before .before .before .before .before .before .before .before .before .before .before .before
-    .before .args in
+    .before .before .args in
     let p = c .before .before .before .before .before .before .before .before .before .before .before .before .before
-    .before .pre in
-    kid-of-value (a .plan .now) (a .ranks .now) (a .functions .now) (a .values .now) (a .memo .now)
-    (store (a .records .now) (a .literals .now) (a .names .now) (a .terms) (a .symbols)) (p .0) (a .x) (p .1) _
+    .before .before .pre in
+    kid-of-value (p .rank) (a .rows .now) (a .edges .now) (a .ranks .now) (a .labels .now) (a .values .now) (a .memo
+    .now)
+    (store (a .records .now) (a .literals .now) (a .names .now) (a .terms) (a .symbols)) (p .builder) (a .x) (p .kid)
+    _
     (c .before .before .before .before .before .before .before .if1 .left) (c .before .before .before .literal-term
     .ensures (a .memo .now))
 
@@ -68,6 +84,8 @@ pub child-term-spec : {M : Type 1} → statement M
 child-term-spec =
     tie.close
     (tie.spec
+    mul-level
+    shared-slice-read-level
     build-requires
     same-length
     same-length-2

@@ -62,7 +62,7 @@ returns c =
     let s : Store = store (a .records .now) (a .literals .now) (a .names .now) (a .terms) (a .symbols) in
     let w = rw (c .enum-told .given .1) at (c .before .before .before .before .before .before .before
     .intern-application .ensures) in
-    λ me. added-of-noRoom me s (application (nameAt (a .functions .now) (a .f)) (a .children .now)) _ _ _ (w .answer)
+    λ me. added-of-noRoom me s (application (nameAt (a .labels .now) (a .f)) (a .children .now)) _ _ _ (w .answer)
     (w .kept refl)
 
 same-length-4 : tie.Need-same-length-4
@@ -82,7 +82,7 @@ returns-2 c =
     let s : Store = store (a .records .now) (a .literals .now) (a .names .now) (a .terms) (a .symbols) in
     let w = rw (c .before .t .given .1) at (c .before .before .before .before .before .before .before .before
     .intern-application .ensures) in
-    λ me. added-of-term me s (application (nameAt (a .functions .now) (a .f)) (a .children .now)) _ _ (w .answer)
+    λ me. added-of-term me s (application (nameAt (a .labels .now) (a .f)) (a .children .now)) _ _ (w .answer)
 
 pub own-row-spec : {M : Type 1} → statement M
 own-row-spec =

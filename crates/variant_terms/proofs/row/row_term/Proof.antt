@@ -16,20 +16,20 @@ use Rattle.variant_terms.proofs.row.row_term.Statement.{statement}
 use Rattle.variant_terms.proofs.row.row_term.Tie as tie
 
 abbrev Inv-loop : tie.InvT-loop
-Inv-loop plan ranks functions values memo₀ records₀ literals₀ names₀ terms symbols f kids children₀ n₀ k₀ j₀ memo
+Inv-loop rows edges ranks labels values memo₀ records₀ literals₀ names₀ terms symbols f kids children₀ n₀ k₀ j₀ memo
     records literals names children n k j =
-    Turn (planOf plan functions values) ranks values (state memo₀ (store records₀ literals₀ names₀ terms symbols))
+    Turn (planOf rows edges labels values) ranks values (state memo₀ (store records₀ literals₀ names₀ terms symbols))
     kids
     (state memo (store records literals names n k)) children j
 
 abbrev μ-loop : tie.MeasureT-loop
-μ-loop plan ranks functions values memo₀ records₀ literals₀ names₀ terms symbols f kids children₀ n₀ k₀ j₀ memo
+μ-loop rows edges ranks labels values memo₀ records₀ literals₀ names₀ terms symbols f kids children₀ n₀ k₀ j₀ memo
     records literals names children n k j =
     length kids - j
 
 loop-holds : tie.Need-loop-holds Inv-loop μ-loop
 loop-holds c =
-    let p = c .before .before .before .before .before .before .before .pre .0 in
+    let p = c .before .before .before .before .before .before .before .before .pre .builder in
     record {
       within = omega arith;
       long = refl;
@@ -43,24 +43,31 @@ loop-holds c =
       same = λ d deep. refl;
     }
 
-mul-child-term : tie.Need-mul-child-term Inv-loop μ-loop
-mul-child-term c = search needs
+mul-wide : tie.Need-mul-wide Inv-loop μ-loop
+mul-wide c = search needs
 
-shared-slice-read-child-term : tie.Need-shared-slice-read-child-term Inv-loop μ-loop
-shared-slice-read-child-term c = search needs
+shared-slice-read-wide : tie.Need-shared-slice-read-wide Inv-loop μ-loop
+shared-slice-read-wide c = search needs
+
+wide-requires : tie.Need-wide-requires Inv-loop μ-loop
+wide-requires c κs = search needs
 
 child-term-requires : tie.Need-child-term-requires Inv-loop μ-loop
 child-term-requires c κs =
     let p = c .before .before .before .before .before .before .before .before .before .before .before .before .before
-    .before .pre in
-    let l = c .before .before .before .before .before .before .loop in (
-      record {
-        planned = p .0 .planned;
-        inside = λ i q. rw (l .inv .memo) (p .0 .inside i q);
-        tracks = l .inv .tracks;
-      },
-      p .1 .each (l .j) (c .before .before .before .before .before .loop-test .taken),
-    )
+    .before .before .before .pre in
+    let l = c .before .before .before .before .before .before .before .loop in
+    record {
+      rank = p .rank;
+      builder =
+          record {
+            planned = p .builder .planned;
+            inside = λ i q. rw (l .inv .memo) (p .builder .inside i q);
+            tracks = l .inv .tracks;
+          };
+      kid = rw (c .wide .ensures) (p .row .each (l .j) (c .before .before .before .before .before .before .loop-test
+          .taken));
+    }
 
 enum-known-t : tie.Need-enum-known-t Inv-loop μ-loop
 enum-known-t c = search needs
@@ -83,36 +90,49 @@ same-length-4 c = search needs
 returns : tie.Need-returns Inv-loop μ-loop
 returns c =
     let a = c .before .before .before .before .before .before .before .before .before .before .before .before .before
-    .before .before .before .before .before .before .before .before .before .before .before .args in
+    .before .before .before .before .before .before .before .before .before .before .before .before .before .args in
     let l = c .before .before .before .before .before .before .before .before .before .before .before .before .before
-    .before .before .before .loop in
-    let w = rw (c .enum-told .given .1) at (c .before .before .before .before .before .before .before .before .before
-    .child-term .ensures) in
-    turn-stop (planOf (a .plan .now) (a .functions .now) (a .values .now)) (a .ranks .now) (a .values .now) _ (a
+    .before .before .before .before .loop in
+    let w = rw (
+      c .before .before .before .before .before .before .before .before .before .before .wide .ensures,
+      c
+          .enum-told .given .1,
+    ) at (c .before .before .before .before .before .before .before .before .before .child-term
+    .ensures) in
+    turn-stop (planOf (a .rows .now) (a .edges .now) (a .labels .now) (a .values .now)) (a .ranks .now) (a .values
+    .now) _ (a
     .kids .now) _
     (l .children) (l .j) (c .before .before .before .before .before .before .before .before .before .before .before
-    .before .before .before .before .before .before .before .before .before .before .before .before .before .pre .1
-    .few) (l .inv) (c .before .before .before .before .before .before .before .before .before .before .before .before
-    .before .before .before .loop-test .taken) (nameAt (a .functions .now) (a .f)) _ _ _ _ w
+    .before .before .before .before .before .before .before .before .before .before .before .before .before
+    .before .before .pre .row .few) (l .inv) (c .before .before .before .before .before .before .before .before
+    .before .before .before .before .before .before .before .before .loop-test .taken) (nameAt (a .labels .now)
+    (a .f)) _ _ _ _ w
 
 mul-children : tie.Need-mul-children Inv-loop μ-loop
 mul-children c = omega (
   arith,
-  c .before .before .before .before .before .before .before .before .before .before
-      .before .before .before .before .before .before .before .before .before .before .before .before .before .before
-      .before .pre .1 .few,
+  c .before .before .before .before .before .before .before .before .before .before .before .before .before .before
+      .before .before .before .before .before .before .before .before .before .before .before .before .before .pre
+      .row .few,
 )
 
 array-write-children : tie.Need-array-write-children Inv-loop μ-loop
 array-write-children c = omega (
   arith,
-  c .before .before .before .before .before .before .before .before .before
-      .before .before .before .before .before .before .before .before .before .before .before .before .before .before
-      .before .before .pre .1 .few,
+  c .before .before .before .before .before .before .before .before .before .before .before .before .before .before
+      .before .before .before .before .before .before .before .before .before .before .before .before .before .pre
+      .row .few,
 )
 
 add-j : tie.Need-add-j Inv-loop μ-loop
-add-j c = search needs
+add-j c = omega (
+  arith,
+  c .before .before .before .before .before .before .before .before .before .before .before
+      .before .before .before .before .before .before .before .before .before .before .before .before .before .before
+      .before .before .pre .row .few,
+  c .before .before .before .before .before .before .before .before .before .before
+      .before .before .before .before .before .before .before .loop-test .taken,
+)
 
 loop-less : tie.Need-loop-less Inv-loop μ-loop
 loop-less c = search needs
@@ -120,28 +140,34 @@ loop-less c = search needs
 loop-again : tie.Need-loop-again Inv-loop μ-loop
 loop-again c =
     let a = c .before .before .before .before .before .before .before .before .before .before .before .before .before
-    .before .before .before .before .before .before .before .before .before .before .before .before .args in
+    .before .before .before .before .before .before .before .before .before .before .before .before .before .before
+    .args in
     let l = c .before .before .before .before .before .before .before .before .before .before .before .before .before
-    .before .before .before .before .loop in
+    .before .before .before .before .before .loop in
     let k = c .before .before .before .before .before .before .before .before .before .before .child-term .kept in
-    let w = rw (c .before .t .given .1) at (c .before .before .before .before .before .before .before .before .before
+    let w = rw (
+      c .before .before .before .before .before .before .before .before .before .before .before .wide
+          .ensures,
+      c .before .t .given .1,
+    ) at (c .before .before .before .before .before .before .before .before .before
     .before .child-term .ensures) in
-    turn-go (planOf (a .plan .now) (a .functions .now) (a .values .now)) (a .ranks .now) (a .values .now) _ (a .kids
+    turn-go (planOf (a .rows .now) (a .edges .now) (a .labels .now) (a .values .now)) (a .ranks .now) (a .values
+    .now) _ (a .kids
     .now) _
     (l .children) (l .j) (c .before .before .before .before .before .before .before .before .before .before .before
-    .before .before .before .before .before .before .before .before .before .before .before .before .before .before
-    .pre .1 .few) (l .inv) (c .before .before .before .before .before .before .before .before .before .before .before
-    .before .before .before .before .before .loop-test .taken) _ _ w (k .1 .1 .1 .1 .0) (k .1 .1 .1 .1 .1 .0)
-    (k .1 .1 .1 .1 .1 .1 .0) (k .1 .1 .1 .1 .1 .1 .1 .0)
+    .before .before .before .before .before .before .before .before .before .before .before .before .before
+    .before .before .before .pre .row .few) (l .inv) (c .before .before .before .before .before .before .before
+    .before .before .before .before .before .before .before .before .before .before .loop-test .taken) _ _ w (k
+    .1 .1 .1 .1 .1 .0) (k .1 .1 .1 .1 .1 .1 .0)
+    (k .1 .1 .1 .1 .1 .1 .1 .0) (k .1 .1 .1 .1 .1 .1 .1 .1 .0)
 
 array-share-prefix-children : tie.Need-array-share-prefix-children Inv-loop μ-loop
 array-share-prefix-children c = omega (
   arith,
-  c .before .before .before .before .before .before .before .before
-      .before .before .before .before .pre .1 .few,
+  c .before .before .before .before .before .before .before .before .before .before .before .before .before .pre .row
+      .few,
   c .before .before .before .before .loop .inv .within,
-  c .before
-      .before .before .before .loop .inv .long,
+  c .before .before .before .before .loop .inv .long,
 )
 
 slice-aggregate-own-row : tie.Need-slice-aggregate-own-row Inv-loop μ-loop
@@ -149,8 +175,8 @@ slice-aggregate-own-row c =
     let l = c .before .before .before .before .before .loop in
     sym (length-take-le (l .j) (l .children) (omega (
       arith,
-      c .before .before .before .before .before .before .before
-          .before .before .before .before .before .before .pre .1 .few,
+      c .before .before .before .before .before .before .before .before .before .before .before .before .before
+          .before .pre .row .few,
       l .inv .within,
       l .inv .long,
     )))
@@ -158,12 +184,12 @@ slice-aggregate-own-row c =
 own-row-requires : tie.Need-own-row-requires Inv-loop μ-loop
 own-row-requires c κs =
     let p = c .before .before .before .before .before .before .before .before .before .before .before .before .before
-    .pre in
+    .before .pre in
     let l = c .before .before .before .before .before .loop in
-    let e = length-take-le (l .j) (l .children) (omega (arith, p .1 .few, l .inv .within, l .inv .long)) in
+    let e = length-take-le (l .j) (l .children) (omega (arith, p .row .few, l .inv .within, l .inv .long)) in
     record {
-      name = p .1 .name;
-      few = omega (arith, p .1 .few, l .inv .within, e);
+      name = p .row .name;
+      few = omega (arith, p .row .few, l .inv .within, e);
       formed = l .inv .tracks .formed;
     }
 
@@ -182,14 +208,15 @@ same-length-8 c = search needs
 returns-2 : tie.Need-returns-2 Inv-loop μ-loop
 returns-2 c =
     let a = c .before .before .before .before .before .before .before .before .before .before .before .before .before
-    .before .before .before .before .before .before .args in
+    .before .before .before .before .before .before .before .args in
     let p = c .before .before .before .before .before .before .before .before .before .before .before .before .before
-    .before .before .before .before .before .before .pre in
+    .before .before .before .before .before .before .before .pre in
     let l = c .before .before .before .before .before .before .before .before .before .before .before .loop in
-    turn-end (planOf (a .plan .now) (a .functions .now) (a .values .now)) (a .ranks .now) (a .values .now) _ (a .kids
+    turn-end (planOf (a .rows .now) (a .edges .now) (a .labels .now) (a .values .now)) (a .ranks .now) (a .values
+    .now) _ (a .kids
     .now) _
-    (l .children) (l .j) (p .1 .few) (l .inv) (c .before .before .before .before .before .before .before .before
-    .before .before .loop-test .left) (nameAt (a .functions .now) (a .f)) _ (p .1 .name .named)
+    (l .children) (l .j) (p .row .few) (l .inv) (c .before .before .before .before .before .before .before .before
+    .before .before .loop-test .left) (nameAt (a .labels .now) (a .f)) _ (p .row .name .named)
     (c .before .before .before .before .before .own-row .ensures (l .memo))
 
 pub row-term-spec : {M : Type 1} → statement M
@@ -199,8 +226,9 @@ row-term-spec =
     Inv-loop
     μ-loop
     loop-holds
-    mul-child-term
-    shared-slice-read-child-term
+    mul-wide
+    shared-slice-read-wide
+    wide-requires
     child-term-requires
     enum-known-t
     enum-told

@@ -4,8 +4,8 @@ use mathlib.Core.Path.{_≡_, refl, sym, _∙_, subst}
 use lib.ListN.{length, getD, take, length-replicate}
 use lib.Seq.{length-take-le}
 use Rattle.term_rules.specs.Lent.{store}
-use Rattle.price.specs.Solved.{SolveReady, Solved}
-use Rattle.best_class.proofs.SolvedLaws.{solve-ready}
+use Rattle.price_passes.specs.Flat.{FlatOk}
+use Rattle.price.specs.Solved.{Solved}
 use Rattle.variant_answers.specs.Kept.{lending}
 use Rattle.variants_root.proofs.kept_rows.RowLaws.{kept-ready}
 use Rattle.variants_root.proofs.kept_rows.AnswerLaws.{answer-ready, answer-told}
@@ -17,18 +17,12 @@ use Rattle.variants_root.proofs.kept_rows.decide.Tie as tie
 solve-requires : tie.Need-solve-requires
 solve-requires c κs =
     let g = c .before .before .before .before .before .before .before .before .before .before .before .before .before
-    .before .before .before .before .before .before .before .before .before .before .args in
+    .before .before .before .before .before .before .before .args in
     let a = c .before .before .before .before .before .before .before .before .before .before .before .before .before
-    .before .before .before .before .before .before .before .before .before .before .pre in (
-      subst
-          (λ (n : ℕ).
-          SolveReady n (g .outputs .now) (g .heads .now) (g .starts .now) (g .children .now) (g .order .now)
-          (g .functions .now))
-          (sym (a .0 .classes))
-          (solve-ready (a .0 .table) (a .0 .root) (g .outputs .now) (g .heads .now) (g .starts .now) (g .children
-          .now)
-          (g .order .now) (g .functions .now) (g .labels .now) (g .values .now) (a .0 .is .is)),
-      a .1,
+    .before .before .before .before .before .before .before .pre in (
+      subst (λ (n : ℕ). FlatOk n (g .outputs .now) (g .heads .now) (g .starts .now) (g .children .now)) (sym (a .0
+          .classes)) (a .0 .is .is .flat),
+      a .1 .1,
     )
 
 slice-aggregate-rows : tie.Need-slice-aggregate-rows
@@ -41,18 +35,18 @@ rows-requires : tie.Need-rows-requires
 rows-requires c κs =
     let g = c .before .before .before .before .before .before .before .before .before .before .before .before .before
     .before .before .before .before .before .before .before .before .before .before .before .before .before .before
-    .before .before .before .before .before .before .before .before .before .before .before .args in
+    .before .before .before .before .args in
     let a = c .before .before .before .before .before .before .before .before .before .before .before .before .before
     .before .before .before .before .before .before .before .before .before .before .before .before .before .before
-    .before .before .before .before .before .before .before .before .before .before .before .pre in
-    let k = c .before .before .before .before .before .before .before .before .before .before .before .before .before
-    .before .solve .kept .1 .1 .1 .1 .1 .1 in
-    let u = c .before .before .before .before .before .before .before .before .before .before .before .before .before
-    .before .solve .last .1 .1 .1 .1 .1 .1 in
+    .before .before .before .before .pre in
+    let k = c .before .before .before .before .before .before .before .before .before .before .solve .kept .1 .1 .1
+    .1 in
+    let u = c .before .before .before .before .before .before .before .before .before .before .solve .last .1 .1 .1
+    .1 in
     let n = length-replicate {A = ℕ} 1024 0 in
     kept-ready (a .0 .table) (a .0 .root) (g .outputs .now) (g .heads .now) (g .starts .now) (g .children .now)
     (g .order .now) (g .functions .now) (g .labels .now) (g .values .now) (g .arities .now) (g .cells .now) (a .0 .is)
-    (u .0) (u .1 .0) _ _ (k .0 ∙ a .1 .fresh .long ∙ a .0 .classes) (k .0 ∙ a .1 .fresh .long ∙ sym (k .1 .0))
+    (u .0) (u .1 .0) _ _ (k .0 ∙ a .1 .1 .fresh .long ∙ a .0 .classes) (k .0 ∙ a .1 .1 .fresh .long ∙ sym (k .1 .0))
     (omega (arith, n)) (omega (arith, n))
 
 slice-aggregate-answer : tie.Need-slice-aggregate-answer
@@ -71,29 +65,30 @@ answer-requires c κs =
     let g = c .before .before .before .before .before .before .before .before .before .before .before .before .before
     .before .before .before .before .before .before .before .before .before .before .before .before .before .before
     .before .before .before .before .before .before .before .before .before .before .before .before .before .before
-    .before .before .before .before .before .before .before .before .before .args in
+    .before .before .args in
     let a = c .before .before .before .before .before .before .before .before .before .before .before .before .before
     .before .before .before .before .before .before .before .before .before .before .before .before .before .before
     .before .before .before .before .before .before .before .before .before .before .before .before .before .before
-    .before .before .before .before .before .before .before .before .before .pre in
+    .before .before .pre in
     let q = c .before .before .before .before .before .before .before .before .before .before .before .before .before
-    .before .before .before .before .before .before .before .before .before .before .before .before .before .solve in
-    let k = q .kept .1 .1 .1 .1 .1 .1 in
-    let u = q .last .1 .1 .1 .1 .1 .1 in
+    .before .before .before .before .before .before .before .before .before .solve in
+    let k = q .kept .1 .1 .1 .1 in
+    let u = q .last .1 .1 .1 .1 in
     let r = c .before .before .before .before .before .before .before .before .before .before .before .rows in
     let e = r .ensures in
     let o = r .last .1 .1 .1 .1 .1 .1 .1 .1 .1 .1 .1 .1 .1 in
     let z = r .kept .1 .1 .1 .1 .1 .1 .1 .1 .1 .1 .1 .1 .1 in
     let n = length-replicate {A = ℕ} 1024 0 in
-    let w = subst (λ (m : ℕ). Solved m (q .result .passes) (q .result .last) (g .outputs .now) (g .heads .now) (g
-    .starts .now)
-    (g .children .now) (g .order .now) (g .functions .now) (u .0) (u .1 .0) (u .1 .1 .0) (u .1 .1 .1 .0) (u .1 .1 .1
-    .1 .0))
+    let w =
+    subst
+    (λ (m : ℕ).
+    Solved m (q .result .passes) (q .result .last) (g .outputs .now) (g .heads .now) (g .starts .now)
+    (g .children .now) (u .0) (u .1 .0) (u .1 .1 .0))
     (a .0 .classes) (q .ensures) in
     answer-ready (a .0 .table) (a .0 .root) (g .outputs .now) (g .heads .now) (g .starts .now) (g .children .now)
     (g .order .now) (g .functions .now) (g .labels .now) (g .values .now) (g .arities .now) (g .cells .now) (a .0 .is)
-    (u .0) (u .1 .0) (u .1 .1 .0) (u .1 .1 .1 .0) (u .1 .1 .1 .1 .0) (q .result .passes) (q .result .last)
-    (k .1 .0 ∙ a .0 .classes) (k .0 ∙ a .1 .fresh .long ∙ sym (k .1 .0)) w (o .0) (e .priced) (g .c) (g .most)
+    (u .0) (u .1 .0) (u .1 .1 .0) (q .result .passes) (q .result .last) (k .1 .0 ∙ a .0 .classes) w (g .rows .now)
+    (a .1 .0) (o .0) (e .priced) (g .c) (g .most)
     (take (r .result) (o .1 .0)) (e .are)
     (store (g .records .now) (g .literals .now) (g .names .now) (g .terms) (g .symbols)) (a .0 .formed)
     (omega (arith, n, z .0)) (omega (arith, n, z .1 .0, e .room, length-take-le (r .result) (o .1 .0) (e .room)))
@@ -101,25 +96,18 @@ answer-requires c κs =
 same-length : tie.Need-same-length
 same-length c = c .before .before .before .before .before .before .before .before .before .before .before .before
     .before .before .before .before .before .before .before .before .before .before .before .before .before .before
-    .before .before .before .before .before .before .before .before .before .before .solve .kept .1 .1 .1 .1 .1 .1 .0
+    .before .before .before .before .before .before .solve .kept .1 .1 .1 .1 .0
 
 same-length-2 : tie.Need-same-length-2
 same-length-2 c = c .before .before .before .before .before .before .before .before .before .before .before .before
     .before .before .before .before .before .before .before .before .before .before .before .before .before .before
-    .before .before .before .before .before .before .before .before .before .before .solve .kept .1 .1 .1 .1 .1 .1 .1
-    .0
+    .before .before .before .before .before .before .solve .kept .1 .1 .1 .1 .1 .0
 
 same-length-3 : tie.Need-same-length-3
-same-length-3 c = c .before .before .before .before .before .before .before .before .before .before .before .before
-    .before .before .before .before .before .before .before .before .before .before .before .before .before .before
-    .before .before .before .before .before .before .before .before .before .before .solve .kept .1 .1 .1 .1 .1 .1 .1
-    .1 .0
+same-length-3 c = search needs
 
 same-length-4 : tie.Need-same-length-4
-same-length-4 c = c .before .before .before .before .before .before .before .before .before .before .before .before
-    .before .before .before .before .before .before .before .before .before .before .before .before .before .before
-    .before .before .before .before .before .before .before .before .before .before .solve .kept .1 .1 .1 .1 .1 .1 .1
-    .1 .1 .0
+same-length-4 c = search needs
 
 same-length-5 : tie.Need-same-length-5
 same-length-5 c = search needs
@@ -133,42 +121,35 @@ same-length-7 c = search needs
 same-length-8 : tie.Need-same-length-8
 same-length-8 c = search needs
 
-same-length-9 : tie.Need-same-length-9
-same-length-9 c = search needs
-
-same-length-10 : tie.Need-same-length-10
-same-length-10 c = search needs
-
 returns : tie.Need-returns
 returns c = λ t root vt cs.
     let g = c .before .before .before .before .before .before .before .before .before .before .before .before .before
     .before .before .before .before .before .before .before .before .before .before .before .before .before .before
     .before .before .before .before .before .before .before .before .before .before .before .before .before .before
-    .before .before .before .before .before .before .before .before .before .before .before .before .before .before
-    .before .before .before .before .before .args in
+    .before .before .before .before .before .before .before .before .before .before .before .before .args in
     let a = c .before .before .before .before .before .before .before .before .before .before .before .before .before
     .before .before .before .before .before .before .before .before .before .before .before .before .before .before
     .before .before .before .before .before .before .before .before .before .before .before .before .before .before
-    .before .before .before .before .before .before .before .before .before .before .before .before .before .before
-    .before .before .before .before .before .pre in
+    .before .before .before .before .before .before .before .before .before .before .before .before .pre in
     let q = c .before .before .before .before .before .before .before .before .before .before .before .before .before
     .before .before .before .before .before .before .before .before .before .before .before .before .before .before
-    .before .before .before .before .before .before .before .before .before .solve in
-    let k = q .kept .1 .1 .1 .1 .1 .1 in
-    let u = q .last .1 .1 .1 .1 .1 .1 in
+    .before .before .before .before .before .solve in
+    let k = q .kept .1 .1 .1 .1 in
+    let u = q .last .1 .1 .1 .1 in
     let r = c .before .before .before .before .before .before .before .before .before .before .before .before .before
     .before .before .before .before .before .before .before .before .rows in
     let e = r .ensures in
     let o = r .last .1 .1 .1 .1 .1 .1 .1 .1 .1 .1 .1 .1 .1 in
-    let w = subst (λ (m : ℕ). Solved m (q .result .passes) (q .result .last) (g .outputs .now) (g .heads .now) (g
-    .starts .now)
-    (g .children .now) (g .order .now) (g .functions .now) (u .0) (u .1 .0) (u .1 .1 .0) (u .1 .1 .1 .0) (u .1 .1 .1
-    .1 .0))
+    let w =
+    subst
+    (λ (m : ℕ).
+    Solved m (q .result .passes) (q .result .last) (g .outputs .now) (g .heads .now) (g .starts .now)
+    (g .children .now) (u .0) (u .1 .0) (u .1 .1 .0))
     cs (q .ensures) in
     answer-told t root (g .outputs .now) (g .heads .now) (g .starts .now) (g .children .now)
     (g .order .now) (g .functions .now) (g .labels .now) (g .values .now) (g .arities .now) (g .cells .now) vt
-    (u .0) (u .1 .0) (u .1 .1 .0) (u .1 .1 .1 .0) (u .1 .1 .1 .1 .0) (q .result .passes) (q .result .last)
-    (k .1 .0 ∙ cs) (k .0 ∙ a .1 .fresh .long ∙ sym (k .1 .0)) w (o .0) (e .priced) (g .c) (g .most)
+    (u .0) (u .1 .0) (u .1 .1 .0) (q .result .passes) (q .result .last) (k .1 .0 ∙ cs) w (g .rows .now) (a .1 .0)
+    (o .0) (e .priced) (g .c) (g .most)
     (take (r .result) (o .1 .0)) (e .are)
     (lending (store (g .records .now) (g .literals .now) (g .names .now) (g .terms) (g .symbols)) (g .paid .now)
     (g .found .now)) _ (c .before .before .before .before .before .before .before .before .before .answer .ensures)
@@ -193,6 +174,4 @@ decide-spec =
     same-length-6
     same-length-7
     same-length-8
-    same-length-9
-    same-length-10
     returns)

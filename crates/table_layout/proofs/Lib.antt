@@ -1,0 +1,2 @@
+-- The laws of the crate `table_layout`.
+pub mod RowLaws
