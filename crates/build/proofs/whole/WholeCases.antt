@@ -1,4 +1,5 @@
--- Document 01's worked example, computed: Num(5) is class 0, Add(0, 0) class 1, Add(1, 1) class 2. Assumes nothing.
+-- Building in a store that has no room for the last term, by computing: Num(5) is class 0, Add(0, 0) class 1, Add(1, 1)
+-- class 2. Assumes nothing.
 use Prim.Native.Nat.{ℕ, _*_}
 use mathlib.Core.Path.{_≡_, refl}
 use mathlib.Core.List.{List, [], _∷_, _++_}
@@ -13,7 +14,7 @@ use Rattle.term_rules.specs.Adding.{firstFrom, findTerm, symbolFor, withName, w
 use Rattle.build.specs.Plan.{childOf, planOf}
 use Rattle.build.specs.Building.{added, kept, childIn, childrenIn, ownIn, buildIn}
 use Rattle.build.specs.Whole.{left, whole}
-use Rattle.build.specs.declared.Built.the-variants.{Done, Full}
+use Rattle.build.specs.declared.Built.the-variants.{Full}
 
 -- `Num` is function 0, `Add` function 1
 abbrev labels : List ℕ
@@ -32,12 +33,7 @@ edges = 0 ∷ 1 ∷ 2 ∷ []
 abbrev empty : ℕ → Store
 empty n = store (replicate (recordsLength n) 0) (replicate n (pos 0)) (replicate 64 0) 0 0
 
-four-terms : whole (planOf rows edges labels (pos 5 ∷ [])) 3 (empty 4) 2 .answer ≡ Done 3 4 2
-unfolding whole left buildIn ownIn childrenIn childIn kept added add roomFor roomForName append withRecord withName
-    symbolFor findTerm firstFrom recordOf sameNode nodeAt nodeOf sameInt byKind symbolRoom termRoom recordIn findName
-    findFrom putName entry nameAt same childOf
-four-terms = refl
-
+-- three places are one too few
 no-room : whole (planOf rows edges labels (pos 5 ∷ [])) 3 (empty 3) 2 .answer ≡ Full
 unfolding whole left buildIn ownIn childrenIn childIn kept added add roomFor roomForName append withRecord withName
     symbolFor findTerm firstFrom recordOf sameNode nodeAt nodeOf sameInt byKind symbolRoom termRoom recordIn findName
