@@ -181,13 +181,14 @@ setup() { cd "$BATS_TEST_TMPDIR" && cp "$house/examples/worked/table.bin" .; }
 
 @test "./run needs no kit where all is built, and says so where it is not" {
   says "needlevale 0.1.0" env PATH=/usr/bin:/bin "$house/run" --version
-  mkdir -p made && cp -r "$house/run" "$house/scripts" "$house/crates.txt" made && mkdir made/crates
+  mkdir -p made && cp -r "$house/run" "$house/scripts" "$house/crates.txt" "$house/kit.txt" made && mkdir made/crates
   run -4 env PATH=/usr/bin:/bin made/run --version
   [ "${lines[-1]}" = "run: the library is not built of these sources, and the Rattle kit's 'rt', which builds it, is not on the PATH" ]
   mkdir made/bin
   printf '#!/bin/sh\necho "rt: refusal proved"\necho "rt: FAILED: name"\nexit 1\n' >made/bin/rt && chmod +x made/bin/rt
   run -4 env PATH="$PWD/made/bin:/usr/bin:/bin" made/run --version
-  [[ "${lines[0]}" = "run: proving and building the library from these sources, "*" crates: "* ]]
+  [[ "${lines[0]}" = "run: the kit here is 'rt: refusal proved'; all of this was last proved with "*" (kit.txt)" ]]
+  [[ "${lines[1]}" = "run: proving and building the library from these sources, "*" crates: "* ]]
   [[ "${lines[-1]}" = "run: the library could not be proved and built; all that rt says of it is in "*/made/target/library.log ]]
   [ ! -e made/target/staticlib/libneedlevale_c.a.stamp ]
 }
