@@ -7,9 +7,10 @@
 #   make ARCHIVE=.. PROGRAM=..    takes a library and a program that were proved elsewhere, and needs no kit
 #
 # PREFIX, BINDIR, LIBDIR, INCLUDEDIR and MANDIR say where; DESTDIR stands before each of them and in no file.
-# Without ARCHIVE and PROGRAM the Rattle kit's `rt` proves and builds both where a source is newer, which takes minutes
-# the first time. The code is x86-64 on every machine: elsewhere the shared library is linked by the cross compiler
-# that scripts/x86-64.sh uses, and what is installed runs under an emulator only.
+# Without ARCHIVE and PROGRAM both come from dist/, if that is of these sources. If not, the Rattle kit's `rt` proves and
+# builds them where a source is newer, which takes minutes the first time. The code is x86-64 on every machine: elsewhere
+# the shared library is linked by the cross compiler that scripts/x86-64.sh uses, and what is installed runs under an
+# emulator only.
 
 PREFIX = /usr/local
 BINDIR = $(PREFIX)/bin
@@ -50,6 +51,10 @@ INSTALLED = $(BINDIR)/needlevale-core $(INCLUDEDIR)/needlevale.h $(LIBDIR)/libne
 all: $(BUILT)
 	@[ $(MACHINE) = x86_64 ] || echo "make: this is x86-64 code; on $(MACHINE) it runs under an emulator only"
 
+ifeq ($(shell scripts/dist check 2>/dev/null && echo fits),fits)
+ARCHIVE ?= dist/libneedlevale_c.a
+PROGRAM ?= dist/needlevale-core
+endif
 # rt tells by content what must be proved again, and leaves a file that is still right as old as it was.
 ifeq ($(origin ARCHIVE),undefined)
 ARCHIVE = target/staticlib/libneedlevale_c.a
