@@ -1,26 +1,47 @@
 -- What the library for C promises, beside its contracts: document 01, 'The program', 'Terms' and 'Refusal numbers'.
--- `replied` and `addLiteral` are the definitions that its two functions equal; what they are is on the pages of `program`
--- and `term`. Assumes nothing: a record, with one field for each theorem.
+-- `replied`, `addLiteral`, `plainTold`, `letTold`, `bestAt` and `variantsAt` are the definitions that its functions
+-- equal; what they are is on the pages of `program`, `term`, `text` and `extract`. Assumes nothing: a record, with one
+-- field for each theorem.
 use Prim.Native.Nat.{ℕ, _+_, _<_}
 use mathlib.Core.Path.{_≡_}
 use mathlib.Core.List.{List}
 use mathlib.Core.Logic.{_⊎_}
 use lib.IntN.{ℤ, pos}
+use lib.ListN.{length}
 use Rattle.refusal.specs.declared.Refusal.{Refusal}
 use Rattle.term_rules.specs.Lent.{Store}
 use Rattle.term.specs.Answers as terms
-use Rattle.term.specs.Calls.{addLiteral}
+use Rattle.term.specs.Calls.{addLiteral, addVariable, addApplication}
+use Rattle.term_rules.specs.declared.Term.{Term}
+use Rattle.text_rules.specs.LetText.{Naming}
+use Rattle.text.specs.Told.{plainTold}
+use Rattle.text.specs.LetTold.{letTold}
+use Rattle.lent.specs.Records.{lentStore}
+use Rattle.answer_rules.specs.Answers.{After}
+use Rattle.answer_rules.specs.Best.{BestTerm, bestAt}
+use Rattle.answer_rules.specs.Variants.{VariantsAfter, variantsAt}
+use Rattle.variant_answers.specs.Kept.{lending}
 use Rattle.refusal.specs.Answer.{value, refuse}
 use Rattle.program_rules.specs.Reply.{replied, Replied}
 use Rattle.needlevale_c.specs.Below.{belowZero}
 use Rattle.needlevale_c.specs.Coded.{Replies, Adds}
+use Rattle.needlevale_c.specs.Texts.{Writes, WritesLets}
+use Rattle.needlevale_c.specs.Choices.{BestLeft, VariantsLeft}
+use Rattle.needlevale_c.specs.Terms.{AddedLeft}
+use Rattle.needlevale_c.specs.Structs.{AddedStays}
+use Rattle.needlevale_c.specs.Structs.{PlainTold, LetsTold, BestTold, BestStays, VariantsTold, VariantsStay}
+use Rattle.needlevale_c.specs.declared.texts.LetLength.{LetLength}
+use Rattle.needlevale_c.specs.declared.terms.Adding.{Adding}
+use Rattle.needlevale_c.specs.declared.choices.Best.{Best}
+use Rattle.needlevale_c.specs.declared.choices.Variants.{Variants}
 
 -- The number that `needlevale_answer` gives is a length, or a refusal of the table below zero, as was answered.
 abbrev pub ReplyTold : Replied → ℤ → Type 0
 ReplyTold r z =
     ((n : ℕ) × ((z ≡ pos n) × (r .answer ≡ value n))) ⊎ ((x : Refusal) × ((z ≡ belowZero x) × (r .answer ≡ refuse x)))
 
--- The number that `needlevale_add_literal` gives is a term's, or a refusal of the table below zero, as was answered.
+-- The number that `needlevale_add_literal_flat` gives is a term's, or a refusal of the table below zero, as was
+-- answered.
 abbrev pub AddTold : terms.Answer ℕ → ℤ → Type 0
 AddTold a z =
     ((i : ℕ) × ((z ≡ pos i) × (a ≡ terms.given i))) ⊎ ((x : Refusal) × ((z ≡ belowZero x) × (a ≡ terms.refuse x)))
@@ -53,3 +74,72 @@ pub record Promises : Type 0 where
       Adds (addLiteral s v) z rs ls →
       Adds (addLiteral s v) y rs′ ls′ →
       (z ≡ y) × (rs ≡ rs′) × (ls ≡ ls′)
+  -- The calls on term structs: what each tells in numbers, for every store, file and buffer;
+  pub plain-told :
+      (s : Store) (t : ℕ) (out after : List ℕ) (z : ℤ) →
+      Writes (plainTold s t out) z after →
+      PlainTold (plainTold s t out) (length out) z
+  pub lets-told :
+      (s : Store) (nm : Naming) (t : ℕ) (out after : List ℕ) (z : LetLength) →
+      WritesLets (letTold s nm t out) z after →
+      LetsTold (letTold s nm t out) (length out) z
+  pub best-told :
+      (file : List ℕ) (root v : ℕ) (ts ts′ : List Term) (ns ns′ : List (List ℕ)) (n m : ℕ) (b : Best) →
+      BestLeft ts ns n m (bestAt file root v (lentStore ts ns n m)) b ts′ ns′ →
+      BestTold (bestAt file root v (lentStore ts ns n m)) b
+  pub variants-told :
+      (file : List ℕ) (root v most : ℕ) (ts ts′ : List Term) (ns ns′ : List (List ℕ)) (n m : ℕ)
+      (costs found ws us : List ℕ) (b : Variants) →
+      VariantsLeft ts ns n m (variantsAt file root v most (lending (lentStore ts ns n m) costs found)) b ts′ ns′ ws us →
+      VariantsTold (variantsAt file root v most (lending (lentStore ts ns n m) costs found)) b
+  -- "Nothing lent is changed" by a refusal, and the counts that come back are those that were lent;
+  pub best-stays :
+      (file : List ℕ) (root v : ℕ) (ts ts′ : List Term) (ns ns′ : List (List ℕ)) (n m : ℕ) (b : Best) →
+      BestLeft ts ns n m (bestAt file root v (lentStore ts ns n m)) b ts′ ns′ →
+      BestStays ts ns n m b ts′ ns′
+  pub variants-stay :
+      (file : List ℕ) (root v most : ℕ) (ts ts′ : List Term) (ns ns′ : List (List ℕ)) (n m : ℕ)
+      (costs found ws us : List ℕ) (b : Variants) →
+      VariantsLeft ts ns n m (variantsAt file root v most (lending (lentStore ts ns n m) costs found)) b ts′ ns′ ws us →
+      VariantsStay ts ns n m costs found b ts′ ns′ ws us
+  -- and one result.
+  pub one-plain :
+      (s : Store) (t : ℕ) (out : List ℕ) (z y : ℤ) (a b : List ℕ) →
+      Writes (plainTold s t out) z a →
+      Writes (plainTold s t out) y b →
+      (z ≡ y) × (a ≡ b)
+  pub one-let :
+      (s : Store) (nm : Naming) (t : ℕ) (out : List ℕ) (z y : LetLength) (a b : List ℕ) →
+      WritesLets (letTold s nm t out) z a →
+      WritesLets (letTold s nm t out) y b →
+      (z ≡ y) × (a ≡ b)
+  pub one-best :
+      (ts ts′ ts″ : List Term) (ns ns′ ns″ : List (List ℕ)) (n m : ℕ) (wanted : After BestTerm) (b c : Best) →
+      BestLeft ts ns n m wanted b ts′ ns′ →
+      BestLeft ts ns n m wanted c ts″ ns″ →
+      (b ≡ c) × (ts′ ≡ ts″) × (ns′ ≡ ns″)
+  pub one-variants :
+      (ts ts′ ts″ : List Term) (ns ns′ ns″ : List (List ℕ)) (n m : ℕ) (wanted : VariantsAfter) (b c : Variants)
+      (ws us ws′ us′ : List ℕ) →
+      VariantsLeft ts ns n m wanted b ts′ ns′ ws us →
+      VariantsLeft ts ns n m wanted c ts″ ns″ ws′ us′ →
+      (b ≡ c) × (ts′ ≡ ts″) × (ns′ ≡ ns″) × (ws ≡ ws′) × (us ≡ us′)
+  -- A refused add on term structs leaves what was lent, and gives back the counts that were lent;
+  pub literal-stays :
+      (ts ts′ : List Term) (ns ns′ : List (List ℕ)) (n m : ℕ) (v : ℤ) (z : Adding) →
+      AddedLeft ts ns n m (addLiteral (lentStore ts ns n m) v) z ts′ ns′ →
+      AddedStays ts ns n m z ts′ ns′
+  pub variable-stays :
+      (ts ts′ : List Term) (ns ns′ : List (List ℕ)) (n m : ℕ) (name : List ℕ) (z : Adding) →
+      AddedLeft ts ns n m (addVariable (lentStore ts ns n m) name) z ts′ ns′ →
+      AddedStays ts ns n m z ts′ ns′
+  pub application-stays :
+      (ts ts′ : List Term) (ns ns′ : List (List ℕ)) (n m : ℕ) (name children : List ℕ) (z : Adding) →
+      AddedLeft ts ns n m (addApplication (lentStore ts ns n m) name children) z ts′ ns′ →
+      AddedStays ts ns n m z ts′ ns′
+  -- and there is one result. The store's other calls on term structs equal a struct of numbers.
+  pub one-add :
+      (ts ts′ ts″ : List Term) (ns ns′ ns″ : List (List ℕ)) (n m : ℕ) (wanted : terms.Answer ℕ × Store) (z y : Adding) →
+      AddedLeft ts ns n m wanted z ts′ ns′ →
+      AddedLeft ts ns n m wanted y ts″ ns″ →
+      (z ≡ y) × (ts′ ≡ ts″) × (ns′ ≡ ns″)

@@ -10,7 +10,19 @@ ghost use Rattle.needlevale_c.specs.Coded.{Replies, Adds};
 use program_rules::replies::Answered;
 use term::Added;
 
+pub mod texts; // texts.rt: both texts on an array of term structs
+pub mod choices; // choices.rt: best and variants on an array of term structs
+pub mod terms; // terms.rt: the store's calls on an array of term structs
 pub mod codes; // codes.rt: a refusal as one number below zero, for callers that get one number back
+
+// The version as one number: the first * 1,000,000 + the second * 1,000 + the third. scripts/check-header holds it to
+// the header's.
+#[no_mangle]
+pub extern "C" fn needlevale_version() -> u64
+    ensures { λ n. ⌜ n ≡ 1000 ⌝ }
+{
+    1000
+}
 
 // The answer to a query and a table file: its text at the start of `output`, and its length.
 #[no_mangle]
@@ -28,7 +40,7 @@ pub extern "C" fn needlevale_answer(input: &[u8], output: &mut [u8]) -> i64
 
 // The number of a literal's term in a lent store, added if it is not there.
 #[no_mangle]
-pub extern "C" fn needlevale_add_literal(
+pub extern "C" fn needlevale_add_literal_flat(
     records: &mut [u64],
     literals: &mut [i64],
     names: &[u8],

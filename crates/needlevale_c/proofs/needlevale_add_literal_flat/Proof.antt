@@ -1,4 +1,5 @@
--- `needlevale_add_literal` meets its contract: a term's number, or the refusal's number below zero. Assumes nothing.
+-- `needlevale_add_literal_flat` meets its contract: a term's number, or the refusal's number below zero. Assumes
+-- nothing.
 use Prim.Native.Nat.{ℕ}
 use mathlib.Core.Path.{_≡_, _∙_}
 use mir.Syntax.{w64}
@@ -8,10 +9,10 @@ use Rattle.term_rules.specs.Lent.{Store, store}
 use Rattle.needlevale_c.proofs.CodedLaws.{term-within, adds-term, adds-refused}
 use native.Mathlib.Omega.{arith}
 use borrow.Author.Needs.{needs}
-use Rattle.needlevale_c.proofs.needlevale_add_literal.Statement.{statement}
-use Rattle.needlevale_c.proofs.needlevale_add_literal.Tie as tie
-use Rattle.needlevale_c.proofs.needlevale_add_literal.Reads as reads
-use Rattle.needlevale_c.proofs.needlevale_add_literal.Lts as lts
+use Rattle.needlevale_c.proofs.needlevale_add_literal_flat.Statement.{statement}
+use Rattle.needlevale_c.proofs.needlevale_add_literal_flat.Tie as tie
+use Rattle.needlevale_c.proofs.needlevale_add_literal_flat.Reads as reads
+use Rattle.needlevale_c.proofs.needlevale_add_literal_flat.Lts as lts
 use Rattle.needlevale_c.proofs.codes.below_zero.Reads as below-zero-reads
 use Rattle.term.proofs.add_literal.Reads as add-literal-reads
 
@@ -77,8 +78,8 @@ returns-2 c =
     (rw (toZ-ofZ (s .fits .value)) at (a .ensures))
     (t .0 .0) _ (t .1) (toZ-ofZ (record { sfits = c .below-zero .ok }) ∙ c .below-zero .ensures)
 
-pub needlevale-add-literal-spec : {M : Type 1} → statement M
-needlevale-add-literal-spec =
+pub needlevale-add-literal-flat-spec : {M : Type 1} → statement M
+needlevale-add-literal-flat-spec =
     tie.close
     (tie.spec
     add-literal-requires
