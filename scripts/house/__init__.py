@@ -23,7 +23,7 @@ FLOORS = (
     ("The program", ("program", "program_", "cases", "needlevale")),
     ("The theorems", ("theorems",)),
     ("Lent term structs", ("lent", "lent_")),
-    ("The library for C", ("needlevale_c",)),
+    ("The library for C", ("c_told", "needlevale_c")),
     ("Runs", ("run_",)),
 )
 

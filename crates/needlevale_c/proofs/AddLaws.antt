@@ -8,11 +8,12 @@ use Rattle.term_rules.specs.declared.Term.{Term}
 use Rattle.term_rules.specs.Lent.{Store}
 use Rattle.term.specs.Answers.{Answer, given, refused}
 use Rattle.lent.specs.Records.{lentStore}
-use Rattle.needlevale_c.specs.Below.{belowZero}
-use Rattle.needlevale_c.specs.Terms.{addedWith, AddedLeft}
+use Rattle.c_told.specs.Below.{belowZero}
+use Rattle.c_told.specs.Terms.{addedWith}
+use Rattle.needlevale_c.specs.Terms.{AddedLeft}
 use Rattle.needlevale_c.specs.Structs.{AddedStays}
-use Rattle.needlevale_c.specs.declared.terms.Adding.{Adding}
-use Rattle.needlevale_c.proofs.codes.CodeLaws.{is-below}
+use Rattle.c_told.specs.declared.terms.Adding.{Adding}
+use Rattle.needlevale_c.proofs.CodeLaws.{is-below}
 
 added-refusal :
     (a : Answer ℕ) (n m : ℕ) (r : Refusal) → addedWith a n m .status ≡ belowZero r → (k : ℕ) × (a ≡ refused k)

@@ -1,7 +1,7 @@
 -- The promises of the library for C, kept. Assumes nothing.
 use mathlib.Core.Path.{sym, _∙_}
 use Rattle.needlevale_c.specs.Promises.{Promises}
-use Rattle.needlevale_c.proofs.codes.CodeLaws.{is-below, one-code}
+use Rattle.needlevale_c.proofs.CodeLaws.{is-below, one-code}
 use Rattle.needlevale_c.proofs.PromiseLaws.{reply-told, add-told, literal-stays, literal-given}
 use Rattle.needlevale_c.proofs.ToldLaws.{
   plain-told,
@@ -15,6 +15,16 @@ use Rattle.lent.specs.Records.{lentStore}
 use Rattle.term.specs.Calls.{addLiteral, addVariable, addApplication}
 use Rattle.term.proofs.Promises.{promises as flat}
 use Rattle.needlevale_c.proofs.AddLaws.{added-stays}
+use Rattle.needlevale_c.proofs.CallLaws.{
+  sized,
+  literal-found,
+  variable-found,
+  application-found,
+  compared,
+  got,
+  sorted,
+}
+use Rattle.needlevale_c.proofs.ReadLaws.{read-accepted, read-refused}
 
 pub promises : Promises
 promises = record {
@@ -64,4 +74,14 @@ promises = record {
     p .lists .records ∙ sym (q .lists .records),
     p .lists .entries ∙ sym (q .lists .entries),
   );
+  sized = sized;
+  literal-found = literal-found;
+  variable-found = variable-found;
+  application-found = application-found;
+  compared = compared;
+  got = got;
+  sorted = sorted;
+  one-sort = λ s l a b z y p q. (p .number ∙ sym (q .number), p .list-is ∙ sym (q .list-is));
+  read-accepted = read-accepted;
+  read-refused = read-refused;
 }

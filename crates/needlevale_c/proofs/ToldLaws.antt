@@ -22,14 +22,16 @@ use Rattle.answer_rules.specs.Variants.{Kept, VariantsAfter, Lending, variantsA
 use Rattle.variant_answers.specs.Kept.{lending}
 use Rattle.program_rules.proofs.replies.KnownLaws.{Known, best-known, variants-known}
 use Rattle.extract.proofs.Promises.{promises as flat}
-use Rattle.needlevale_c.specs.Below.{belowZero}
-use Rattle.needlevale_c.specs.Texts.{codedText, Writes, letCoded, WritesLets}
-use Rattle.needlevale_c.specs.Choices.{bestWith, BestLeft, variantsWith, VariantsLeft}
-use Rattle.needlevale_c.specs.declared.texts.LetLength.{LetLength}
-use Rattle.needlevale_c.specs.declared.choices.Best.{Best}
-use Rattle.needlevale_c.specs.declared.choices.Variants.{Variants}
+use Rattle.c_told.specs.Below.{belowZero}
+use Rattle.c_told.specs.Texts.{codedText, letCoded}
+use Rattle.needlevale_c.specs.Texts.{Writes, WritesLets}
+use Rattle.c_told.specs.Choices.{bestWith, variantsWith}
+use Rattle.needlevale_c.specs.Choices.{BestLeft, VariantsLeft}
+use Rattle.c_told.specs.declared.texts.LetLength.{LetLength}
+use Rattle.c_told.specs.declared.choices.Best.{Best}
+use Rattle.c_told.specs.declared.choices.Variants.{Variants}
 use Rattle.needlevale_c.specs.Structs.{PlainTold, LetsTold, BestTold, VariantsTold, BestStays, VariantsStay}
-use Rattle.needlevale_c.proofs.codes.CodeLaws.{is-below}
+use Rattle.needlevale_c.proofs.CodeLaws.{is-below}
 use Rattle.needlevale_c.proofs.texts.TextLaws.{PlainKnown, plain-known, LetKnown, let-known}
 
 -- ---- texts

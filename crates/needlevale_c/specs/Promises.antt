@@ -1,7 +1,7 @@
 -- What the library for C promises, beside its contracts: document 01, 'The program', 'Terms' and 'Refusal numbers'.
--- `replied`, `addLiteral`, `plainTold`, `letTold`, `bestAt` and `variantsAt` are the definitions that its functions
--- equal; what they are is on the pages of `program`, `term`, `text` and `extract`. Assumes nothing: a record, with one
--- field for each theorem.
+-- `replied`, `addLiteral`, `plainTold`, `letTold`, `bestAt`, `variantsAt` and so on are the definitions that its
+-- functions equal; what they are is on the pages of `program`, `term`, `text`, `extract` and `file`. Assumes nothing: a
+-- record, with one field for each theorem.
 use Prim.Native.Nat.{ℕ, _+_, _<_}
 use mathlib.Core.Path.{_≡_}
 use mathlib.Core.List.{List}
@@ -9,9 +9,25 @@ use mathlib.Core.Logic.{_⊎_}
 use lib.IntN.{ℤ, pos}
 use lib.ListN.{length}
 use Rattle.refusal.specs.declared.Refusal.{Refusal}
-use Rattle.term_rules.specs.Lent.{Store}
+use Rattle.term_rules.specs.Lent.{Store, recordAt}
 use Rattle.term.specs.Answers as terms
-use Rattle.term.specs.Calls.{addLiteral, addVariable, addApplication}
+use Rattle.term.specs.Calls.{
+  addLiteral,
+  addVariable,
+  addApplication,
+  findLiteral,
+  findVariable,
+  findApplication,
+  sizeOf,
+  zeroRecord,
+  getTerm,
+  compareTerms,
+  sortTerms,
+}
+use Rattle.term.specs.Outcomes.{asksLiteral, asksVariable, asksApplication}
+use Rattle.order.specs.Sort.{SameCounts, Sorted}
+use Rattle.term_order.specs.TreeOrder.{compareAt, atMost}
+use Rattle.term_rules.specs.Nodes.{literal, variable, application}
 use Rattle.term_rules.specs.declared.Term.{Term}
 use Rattle.text_rules.specs.LetText.{Naming}
 use Rattle.text.specs.Told.{plainTold}
@@ -22,18 +38,46 @@ use Rattle.answer_rules.specs.Best.{BestTerm, bestAt}
 use Rattle.answer_rules.specs.Variants.{VariantsAfter, variantsAt}
 use Rattle.variant_answers.specs.Kept.{lending}
 use Rattle.refusal.specs.Answer.{value, refuse}
+use Rattle.bits.specs.Bits.{bitsOf}
+use Rattle.bits.specs.Got.{refused}
+use Rattle.file_rules.specs.Table.{Table}
+use Rattle.file_rules.specs.File.{tableAt}
+use Rattle.file_rules.specs.Accepted.{Accepted}
+use Rattle.file_rules.specs.Code.{codeFile}
 use Rattle.program_rules.specs.Reply.{replied, Replied}
-use Rattle.needlevale_c.specs.Below.{belowZero}
+use Rattle.c_told.specs.Below.{belowZero}
 use Rattle.needlevale_c.specs.Coded.{Replies, Adds}
 use Rattle.needlevale_c.specs.Texts.{Writes, WritesLets}
 use Rattle.needlevale_c.specs.Choices.{BestLeft, VariantsLeft}
-use Rattle.needlevale_c.specs.Terms.{AddedLeft}
-use Rattle.needlevale_c.specs.Structs.{AddedStays}
-use Rattle.needlevale_c.specs.Structs.{PlainTold, LetsTold, BestTold, BestStays, VariantsTold, VariantsStay}
-use Rattle.needlevale_c.specs.declared.texts.LetLength.{LetLength}
-use Rattle.needlevale_c.specs.declared.terms.Adding.{Adding}
-use Rattle.needlevale_c.specs.declared.choices.Best.{Best}
-use Rattle.needlevale_c.specs.declared.choices.Variants.{Variants}
+use Rattle.needlevale_c.specs.Terms.{AddedLeft, Sorts}
+use Rattle.needlevale_c.specs.Structs.{
+  PlainTold,
+  LetsTold,
+  BestTold,
+  BestStays,
+  VariantsTold,
+  VariantsStay,
+  AddedStays,
+}
+use Rattle.needlevale_c.specs.Reading.{
+  Tells,
+  TellsNumber,
+  TellsFound,
+  asksStore,
+  asksTerm,
+  asksTwo,
+  asksAll,
+}
+use Rattle.c_told.specs.declared.texts.LetLength.{LetLength}
+use Rattle.c_told.specs.Terms.{numberOf, orderOf, gotOf, signOf}
+use Rattle.c_told.specs.Files.{tableShape, faultShape, shapeOf}
+use Rattle.c_told.specs.declared.files.Shape.{Shape}
+use Rattle.c_told.specs.declared.terms.Adding.{Adding}
+use Rattle.c_told.specs.declared.terms.Got.{Got}
+use Rattle.c_told.specs.declared.terms.Number.{Number}
+use Rattle.c_told.specs.declared.terms.Standing.{Standing}
+use Rattle.c_told.specs.declared.choices.Best.{Best}
+use Rattle.c_told.specs.declared.choices.Variants.{Variants}
 
 -- The number that `needlevale_answer` gives is a length, or a refusal of the table below zero, as was answered.
 abbrev pub ReplyTold : Replied → ℤ → Type 0
@@ -137,9 +181,56 @@ pub record Promises : Type 0 where
       (ts ts′ : List Term) (ns ns′ : List (List ℕ)) (n m : ℕ) (name children : List ℕ) (z : Adding) →
       AddedLeft ts ns n m (addApplication (lentStore ts ns n m) name children) z ts′ ns′ →
       AddedStays ts ns n m z ts′ ns′
-  -- and there is one result. The store's other calls on term structs equal a struct of numbers.
+  -- and there is one result.
   pub one-add :
       (ts ts′ ts″ : List Term) (ns ns′ ns″ : List (List ℕ)) (n m : ℕ) (wanted : terms.Answer ℕ × Store) (z y : Adding) →
       AddedLeft ts ns n m wanted z ts′ ns′ →
       AddedLeft ts ns n m wanted y ts″ ns″ →
       (z ≡ y) × (ts′ ≡ ts″) × (ns′ ≡ ns″)
+  -- The calls that only read tell each refusal exactly when and in its order, and beside status 0 the count of terms,
+  pub sized : (s : Store) (z : Number) → z ≡ numberOf (sizeOf s) → TellsNumber (asksStore s) (λ n. n ≡ s .terms) z
+  -- the number that has the term, and Absent exactly when none has it,
+  pub literal-found :
+      (s : Store) (v : ℤ) (z : Number) → z ≡ numberOf (findLiteral s v) → TellsFound s (literal v) (asksLiteral s) z
+  pub variable-found :
+      (s : Store) (name : List ℕ) (z : Number) →
+      z ≡ numberOf (findVariable s name) →
+      TellsFound s (variable name) (asksVariable s name) z
+  pub application-found :
+      (s : Store) (name children : List ℕ) (z : Number) →
+      z ≡ numberOf (findApplication s name children) →
+      TellsFound s (application name children) (asksApplication s name children) z
+  -- how the two terms stand,
+  pub compared :
+      (s : Store) (i j : ℕ) (z : Standing) →
+      z ≡ orderOf (compareTerms s i j) →
+      Tells (asksTwo s i j) (λ o. o ≡ signOf (compareAt s i j)) (pos 0) (z .status) (z .order)
+  -- and the term's record, or zeros.
+  pub got :
+      (s : Store) (i : ℕ) (z : Got) →
+      z ≡ gotOf (getTerm s i) →
+      Tells (asksTerm s i) (λ t. t ≡ recordAt s i) zeroRecord (z .status) (z .term)
+  -- Sort leaves the sorted permutation of the list beside 0, and beside a refusal the list as it was;
+  pub sorted :
+      (s : Store) (l after : List ℕ) (z : ℤ) →
+      Sorts (sortTerms s l) z after →
+      Tells (asksAll s l) (λ m. Sorted (atMost s) m × SameCounts m l) l z after
+  -- and there is one result. The other calls that only read equal a struct.
+  pub one-sort :
+      (s : Store) (l a b : List ℕ) (z y : ℤ) →
+      Sorts (sortTerms s l) z a →
+      Sorts (sortTerms s l) y b →
+      (z ≡ y) × (a ≡ b)
+  -- "A file without a fault is accepted, and no other.": the bits of an accepted table are told by 0 and its counts,
+  pub read-accepted :
+      (file : List ℕ) (t : Table) (z : Shape) →
+      Accepted t →
+      bitsOf file ≡ codeFile t →
+      z ≡ shapeOf (tableAt file) →
+      z ≡ tableShape t
+  -- and any other file by its first fault below zero and zeros.
+  pub read-refused :
+      (file : List ℕ) (z : Shape) →
+      ((t : Table) → Accepted t → bitsOf file ≡ codeFile t → ⊥) →
+      z ≡ shapeOf (tableAt file) →
+      (r : Refusal) × ((tableAt file ≡ refused r) × (z ≡ faultShape r))

@@ -15,13 +15,13 @@ use Rattle.text_whole.specs.LetPlaced as lets
 use Rattle.answer_rules.specs.Answers.{After}
 use Rattle.answer_rules.specs.Best.{BestTerm}
 use Rattle.answer_rules.specs.Variants.{Kept, VariantsAfter}
-use Rattle.needlevale_c.specs.Below.{belowZero}
-use Rattle.needlevale_c.specs.Texts.{letCoded}
-use Rattle.needlevale_c.specs.Choices.{bestWith, variantsWith}
-use Rattle.needlevale_c.specs.declared.texts.LetLength.{LetLength}
-use Rattle.needlevale_c.specs.declared.choices.Best.{Best}
-use Rattle.needlevale_c.specs.declared.choices.Variants.{Variants}
-use Rattle.needlevale_c.specs.declared.terms.Adding.{Adding}
+use Rattle.c_told.specs.Below.{belowZero}
+use Rattle.c_told.specs.Texts.{letCoded}
+use Rattle.c_told.specs.Choices.{bestWith, variantsWith}
+use Rattle.c_told.specs.declared.texts.LetLength.{LetLength}
+use Rattle.c_told.specs.declared.choices.Best.{Best}
+use Rattle.c_told.specs.declared.choices.Variants.{Variants}
+use Rattle.c_told.specs.declared.terms.Adding.{Adding}
 
 -- A plain text's number is a length that a buffer of so many bytes has, or a refusal below zero, as was answered.
 abbrev pub PlainTold : Told plain.Answer → ℕ → ℤ → Type 0

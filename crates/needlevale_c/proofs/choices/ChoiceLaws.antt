@@ -1,9 +1,8 @@
--- What best and variants answered, told in one struct. Assumes nothing.
-use mathlib.Core.Path.{_≡_, refl, sym, ap, _∙_}
+-- What best and variants answered, told in one struct with what they leave. Assumes nothing.
+use mathlib.Core.Path.{_≡_, refl, ap, _∙_}
 use Prim.Native.Nat.{ℕ}
-use mathlib.Core.List.{List, []}
+use mathlib.Core.List.{List}
 use lib.IntN.{ℤ}
-use Rattle.refusal.specs.declared.Refusal.{Refusal}
 use Rattle.term_rules.specs.declared.Term.{Term}
 use Rattle.answer_rules.specs.Answers.{After}
 use Rattle.answer_rules.specs.Best.{BestTerm}
@@ -15,23 +14,10 @@ use Rattle.variants_root.specs.Several.{seenVariants}
 use Rattle.variants_root.specs.declared.VariantsAnswer.{VariantsAnswer}
 use Rattle.variants_root.specs.declared.VariantsAnswer.the-variants.{Kept, Refused as NotKept}
 use Rattle.lent_extract.specs.Left.{LentBest, LentVariants}
-use Rattle.needlevale_c.specs.Below.{belowZero}
-use Rattle.needlevale_c.specs.Choices.{bestTold, bestToldOf, BestLeft, variantsTold, variantsToldOf, VariantsLeft}
-use Rattle.needlevale_c.specs.declared.choices.Best.{Best}
-use Rattle.needlevale_c.specs.declared.choices.Variants.{Variants}
-
--- ---- best
-pub best-found :
-    (r : BestAnswer) (n m w i p n′ m′ : ℕ) (b : Best) → r ≡ Found w i p n′ m′ → b ≡ bestToldOf (Found w i p n′ m′) n m →
-    b ≡ bestToldOf r n m
-best-found r n m w i p n′ m′ b e t = t ∙ sym (ap (λ (x : BestAnswer). bestToldOf x n m) e)
-
-pub best-refused :
-    (r : BestAnswer) (n m : ℕ) (k : Refusal) (z : ℤ) → r ≡ Refused k → z ≡ belowZero k →
-    _≡_ {A = Best} (record { status = z; cost = 0; term = 0; passes = 0; terms = n; symbols = m }) (bestToldOf r n m)
-best-refused r n m k z e t =
-    ap (λ (x : ℤ). record { status = x; cost = 0; term = 0; passes = 0; terms = n; symbols = m }) t
-    ∙ sym (ap (λ (x : BestAnswer). bestToldOf x n m) e)
+use Rattle.c_told.specs.Choices.{bestTold, bestToldOf, variantsTold, variantsToldOf}
+use Rattle.c_told.specs.declared.choices.Best.{Best}
+use Rattle.c_told.specs.declared.choices.Variants.{Variants}
+use Rattle.needlevale_c.specs.Choices.{BestLeft, VariantsLeft}
 
 -- the numbers do not depend on the lists
 best-alike :
@@ -48,20 +34,6 @@ best-left ts ns n m wanted r b ts′ ns′ h t = record {
   numbers = t ∙ best-alike r _ _ _ n m ∙ ap bestTold (h .answer);
   lists = record { records = h .records; entries = h .entries; held = h .held; unchanged = h .unchanged };
 }
-
--- ---- variants
-pub variants-kept :
-    (r : VariantsAnswer) (n m k p n′ m′ : ℕ) (b : Variants) → r ≡ Kept k p n′ m′ →
-    b ≡ variantsToldOf (Kept k p n′ m′) n m →
-    b ≡ variantsToldOf r n m
-variants-kept r n m k p n′ m′ b e t = t ∙ sym (ap (λ (x : VariantsAnswer). variantsToldOf x n m) e)
-
-pub variants-refused :
-    (r : VariantsAnswer) (n m : ℕ) (k : Refusal) (z : ℤ) → r ≡ NotKept k → z ≡ belowZero k →
-    _≡_ {A = Variants} (record { status = z; count = 0; passes = 0; terms = n; symbols = m }) (variantsToldOf r n m)
-variants-refused r n m k z e t =
-    ap (λ (x : ℤ). record { status = x; count = 0; passes = 0; terms = n; symbols = m }) t
-    ∙ sym (ap (λ (x : VariantsAnswer). variantsToldOf x n m) e)
 
 variants-alike :
     (r : VariantsAnswer) (rs : List ℕ) (ls : List ℤ) (bs ws us : List ℕ) (n m : ℕ) →

@@ -13,7 +13,7 @@ use Rattle.needlevale_c.proofs.needlevale_add_literal_flat.Statement.{s
 use Rattle.needlevale_c.proofs.needlevale_add_literal_flat.Tie as tie
 use Rattle.needlevale_c.proofs.needlevale_add_literal_flat.Reads as reads
 use Rattle.needlevale_c.proofs.needlevale_add_literal_flat.Lts as lts
-use Rattle.needlevale_c.proofs.codes.below_zero.Reads as below-zero-reads
+use Rattle.c_told.proofs.codes.below_zero.Reads as below-zero-reads
 use Rattle.term.proofs.add_literal.Reads as add-literal-reads
 
 -- the store that is lent

@@ -24,21 +24,15 @@ use Rattle.text_whole.specs.LetPlaced as lets
 use Rattle.text_whole.specs.LetPlaced.{LetAnswer, letAnswerOf, validPrefix}
 use Rattle.text.specs.LetTold.{letTold}
 use Rattle.text_whole.specs.declared.Text.{Text}
-use Rattle.text_whole.specs.declared.Text.the-variants.{Written, Refused}
+use Rattle.text_whole.specs.declared.Text.the-variants.{Written}
 use Rattle.text_whole.specs.declared.LetText.{LetText}
-use Rattle.text_whole.specs.declared.LetText.the-variants.{Written as LetWritten, Refused as LetRefused}
+use Rattle.text_whole.specs.declared.LetText.the-variants.{Written as LetWritten}
 use Rattle.text.proofs.Promises.{promises}
-use Rattle.needlevale_c.specs.Below.{belowZero}
-use Rattle.needlevale_c.specs.Texts.{codedText, Writes, letCoded, WritesLets, TextFits, LetFits}
-use Rattle.needlevale_c.specs.declared.texts.LetLength.{LetLength}
+use Rattle.c_told.specs.Texts.{codedText, letCoded, TextFits, LetFits}
+use Rattle.needlevale_c.specs.Texts.{Writes, WritesLets}
+use Rattle.c_told.specs.declared.texts.LetLength.{LetLength}
 
 -- ---- plain text
-pub text-written : (r : Text) (n : ℕ) (z : ℤ) → r ≡ Written n → z ≡ pos n → z ≡ codedText (answerOf r)
-text-written r n z e t = t ∙ sym (ap (λ (x : Text). codedText (answerOf x)) e)
-
-pub text-refused : (r : Text) (k : Refusal) (z : ℤ) → r ≡ Refused k → z ≡ belowZero k → z ≡ codedText (answerOf r)
-text-refused r k z e t = t ∙ sym (ap (λ (x : Text). codedText (answerOf x)) e)
-
 -- a length of a text that is there, and 0 otherwise
 long : Answer → ℕ
 long (written n) = n
@@ -93,18 +87,6 @@ module _ (s : Store) (t : ℕ) (out : List ℕ) where
     }
 
 -- ---- let text
-pub let-written :
-    (r : LetText) (n next : ℕ) (z : ℤ) → r ≡ LetWritten n next → z ≡ pos n →
-    _≡_ {A = LetLength} (record { length = z; next = next }) (letCoded (letAnswerOf r))
-let-written r n next z e t =
-    ap (λ (x : ℤ). record { length = x; next = next }) t ∙ sym (ap (λ (x : LetText). letCoded (letAnswerOf x)) e)
-
-pub let-refused :
-    (r : LetText) (k : Refusal) (z : ℤ) → r ≡ LetRefused k → z ≡ belowZero k →
-    _≡_ {A = LetLength} (record { length = z; next = 0 }) (letCoded (letAnswerOf r))
-let-refused r k z e t =
-    ap (λ (x : ℤ). record { length = x; next = 0 }) t ∙ sym (ap (λ (x : LetText). letCoded (letAnswerOf x)) e)
-
 let-long : LetAnswer → ℕ
 let-long (lets.written n next) = n
 let-long (lets.refusal k) = 0

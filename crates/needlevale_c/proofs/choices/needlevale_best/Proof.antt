@@ -40,20 +40,20 @@ use Rattle.answer_rules.specs.Answers.{After}
 use Rattle.answer_rules.specs.Best.{BestTerm, bestAt}
 use Rattle.lent.specs.Records.{lentStore}
 use Rattle.lent_extract.specs.Left.{LentBest}
-use Rattle.needlevale_c.specs.Choices.{bestToldOf}
+use Rattle.c_told.specs.Choices.{bestToldOf}
 use Rattle.needlevale_c.proofs.choices.ChoiceLaws.{best-left}
 use Rattle.best_root.proofs.BestAnswer as R
 use Rattle.best_root.proofs.BestAnswer.Laws as R′
-use Rattle.needlevale_c.proofs.choices.Best as Q
-use Rattle.needlevale_c.proofs.choices.Best.Laws as Q′
+use Rattle.c_told.proofs.choices.Best as Q
+use Rattle.c_told.proofs.choices.Best.Laws as Q′
 use Rattle.lent_extract.proofs.best as wrk
 use Rattle.lent_extract.proofs.best.Symbol as wrk-def
 use Rattle.lent_extract.proofs.best.Symbol.{name as #wrk}
 use Rattle.lent_extract.proofs.best.Met as wrk-thm
-use Rattle.needlevale_c.proofs.choices.told_best as tel
-use Rattle.needlevale_c.proofs.choices.told_best.Symbol as tel-def
-use Rattle.needlevale_c.proofs.choices.told_best.Symbol.{name as #tel}
-use Rattle.needlevale_c.proofs.choices.told_best.Met as tel-thm
+use Rattle.c_told.proofs.choices.told_best as tel
+use Rattle.c_told.proofs.choices.told_best.Symbol as tel-def
+use Rattle.c_told.proofs.choices.told_best.Symbol.{name as #tel}
+use Rattle.c_told.proofs.choices.told_best.Met as tel-thm
 use Rattle.needlevale_c.proofs.Forwarding.{entered-at, ends, asks-counts, frees-one}
 use Rattle.needlevale_c.proofs.choices.needlevale_best.Key.{name as #it}
 use Rattle.needlevale_c.proofs.choices.needlevale_best as it
@@ -227,6 +227,6 @@ needlevale-best-spec 𝓤 H 𝓜 𝓖 𝓡 =
     (tables 𝓤 H 𝓜 𝓡 code.env .C) (tables 𝓤 H 𝓜 𝓡 code.env .Λ) #it code.function (code.unfolded 𝓤 H 𝓜 𝓡)
     (meets 𝓤 H (𝓖 .A) (givenOf 𝓤 H 𝓜 𝓖) (𝓜 .mem) (𝓡 .run) (tablesOf 𝓤 H 𝓜 (tables 𝓤 H 𝓜 𝓡 code.env))
     (cited 𝓤 H (Of 𝓤 H (𝓖 .A) tel.ended (tel.clauses 𝓤 H (𝓖 .A) (𝓜 .mem) (𝓡 .run))) 𝓜 𝓡 code.env #tel tel-def.routine
-    code.calls-needlevale-c·choices·told-best (tel-thm.met 𝓤 H 𝓜 𝓖 𝓡))
+    code.calls-c-told·choices·told-best (tel-thm.met 𝓤 H 𝓜 𝓖 𝓡))
     (cited 𝓤 H (Of 𝓤 H (𝓖 .A) wrk.ended (wrk.clauses 𝓤 H (𝓖 .A) (𝓜 .mem) (𝓡 .run))) 𝓜 𝓡 code.env #wrk wrk-def.routine
     code.calls-lent-extract·best (wrk-thm.met 𝓤 H 𝓜 𝓖 𝓡)))

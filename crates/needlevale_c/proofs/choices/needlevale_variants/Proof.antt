@@ -40,20 +40,20 @@ use Rattle.answer_rules.specs.Variants.{VariantsAfter, variantsAt}
 use Rattle.variant_answers.specs.Kept.{lending}
 use Rattle.lent.specs.Records.{lentStore}
 use Rattle.lent_extract.specs.Left.{LentVariants}
-use Rattle.needlevale_c.specs.Choices.{variantsToldOf}
+use Rattle.c_told.specs.Choices.{variantsToldOf}
 use Rattle.needlevale_c.proofs.choices.ChoiceLaws.{variants-left}
 use Rattle.variants_root.proofs.VariantsAnswer as R
 use Rattle.variants_root.proofs.VariantsAnswer.Laws as R′
-use Rattle.needlevale_c.proofs.choices.Variants as Q
-use Rattle.needlevale_c.proofs.choices.Variants.Laws as Q′
+use Rattle.c_told.proofs.choices.Variants as Q
+use Rattle.c_told.proofs.choices.Variants.Laws as Q′
 use Rattle.lent_extract.proofs.variants as wrk
 use Rattle.lent_extract.proofs.variants.Symbol as wrk-def
 use Rattle.lent_extract.proofs.variants.Symbol.{name as #wrk}
 use Rattle.lent_extract.proofs.variants.Met as wrk-thm
-use Rattle.needlevale_c.proofs.choices.told_variants as tel
-use Rattle.needlevale_c.proofs.choices.told_variants.Symbol as tel-def
-use Rattle.needlevale_c.proofs.choices.told_variants.Symbol.{name as #tel}
-use Rattle.needlevale_c.proofs.choices.told_variants.Met as tel-thm
+use Rattle.c_told.proofs.choices.told_variants as tel
+use Rattle.c_told.proofs.choices.told_variants.Symbol as tel-def
+use Rattle.c_told.proofs.choices.told_variants.Symbol.{name as #tel}
+use Rattle.c_told.proofs.choices.told_variants.Met as tel-thm
 use Rattle.needlevale_c.proofs.Forwarding.{entered-at, ends, asks-counts, frees-one}
 use Rattle.needlevale_c.proofs.choices.needlevale_variants.Key.{name as #it}
 use Rattle.needlevale_c.proofs.choices.needlevale_variants as it
@@ -296,6 +296,6 @@ needlevale-variants-spec 𝓤 H 𝓜 𝓖 𝓡 =
     (tables 𝓤 H 𝓜 𝓡 code.env .C) (tables 𝓤 H 𝓜 𝓡 code.env .Λ) #it code.function (code.unfolded 𝓤 H 𝓜 𝓡)
     (meets 𝓤 H (𝓖 .A) (givenOf 𝓤 H 𝓜 𝓖) (𝓜 .mem) (𝓡 .run) (tablesOf 𝓤 H 𝓜 (tables 𝓤 H 𝓜 𝓡 code.env))
     (cited 𝓤 H (Of 𝓤 H (𝓖 .A) tel.ended (tel.clauses 𝓤 H (𝓖 .A) (𝓜 .mem) (𝓡 .run))) 𝓜 𝓡 code.env #tel tel-def.routine
-    code.calls-needlevale-c·choices·told-variants (tel-thm.met 𝓤 H 𝓜 𝓖 𝓡))
+    code.calls-c-told·choices·told-variants (tel-thm.met 𝓤 H 𝓜 𝓖 𝓡))
     (cited 𝓤 H (Of 𝓤 H (𝓖 .A) wrk.ended (wrk.clauses 𝓤 H (𝓖 .A) (𝓜 .mem) (𝓡 .run))) 𝓜 𝓡 code.env #wrk wrk-def.routine
     code.calls-lent-extract·variants (wrk-thm.met 𝓤 H 𝓜 𝓖 𝓡)))

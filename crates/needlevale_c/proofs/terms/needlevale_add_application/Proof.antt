@@ -42,20 +42,20 @@ use Prim.Native.Nat.{ℕ}
 use Rattle.term.specs.Answers.{Answer}
 use Rattle.term.specs.Calls.{addApplication}
 use Rattle.lent_terms.specs.Lists.{LentAdded}
-use Rattle.needlevale_c.specs.Terms.{addedToldOf}
+use Rattle.c_told.specs.Terms.{addedToldOf}
 use Rattle.needlevale_c.proofs.terms.TermLaws.{added-left}
 use Rattle.term.proofs.Added as R
 use Rattle.term.proofs.Added.Laws as R′
-use Rattle.needlevale_c.proofs.terms.Adding as Q
-use Rattle.needlevale_c.proofs.terms.Adding.Laws as Q′
+use Rattle.c_told.proofs.terms.Adding as Q
+use Rattle.c_told.proofs.terms.Adding.Laws as Q′
 use Rattle.lent_terms.proofs.add_application as wrk
 use Rattle.lent_terms.proofs.add_application.Symbol as wrk-def
 use Rattle.lent_terms.proofs.add_application.Symbol.{name as #wrk}
 use Rattle.lent_terms.proofs.add_application.Met as wrk-thm
-use Rattle.needlevale_c.proofs.terms.told_added as tel
-use Rattle.needlevale_c.proofs.terms.told_added.Symbol as tel-def
-use Rattle.needlevale_c.proofs.terms.told_added.Symbol.{name as #tel}
-use Rattle.needlevale_c.proofs.terms.told_added.Met as tel-thm
+use Rattle.c_told.proofs.terms.told_added as tel
+use Rattle.c_told.proofs.terms.told_added.Symbol as tel-def
+use Rattle.c_told.proofs.terms.told_added.Symbol.{name as #tel}
+use Rattle.c_told.proofs.terms.told_added.Met as tel-thm
 use Rattle.needlevale_c.proofs.Forwarding.{entered-at, ends, asks-counts, frees-one}
 use Rattle.needlevale_c.proofs.terms.needlevale_add_application.Key.{name as #it}
 use Rattle.needlevale_c.proofs.terms.needlevale_add_application as it
@@ -226,6 +226,6 @@ needlevale-add-application-spec 𝓤 H 𝓜 𝓖 𝓡 =
     (tables 𝓤 H 𝓜 𝓡 code.env .C) (tables 𝓤 H 𝓜 𝓡 code.env .Λ) #it code.function (code.unfolded 𝓤 H 𝓜 𝓡)
     (meets 𝓤 H (𝓖 .A) (givenOf 𝓤 H 𝓜 𝓖) (𝓜 .mem) (𝓡 .run) (tablesOf 𝓤 H 𝓜 (tables 𝓤 H 𝓜 𝓡 code.env))
     (cited 𝓤 H (Of 𝓤 H (𝓖 .A) tel.ended (tel.clauses 𝓤 H (𝓖 .A) (𝓜 .mem) (𝓡 .run))) 𝓜 𝓡 code.env #tel tel-def.routine
-    code.calls-needlevale-c·terms·told-added (tel-thm.met 𝓤 H 𝓜 𝓖 𝓡))
+    code.calls-c-told·terms·told-added (tel-thm.met 𝓤 H 𝓜 𝓖 𝓡))
     (cited 𝓤 H (Of 𝓤 H (𝓖 .A) wrk.ended (wrk.clauses 𝓤 H (𝓖 .A) (𝓜 .mem) (𝓡 .run))) 𝓜 𝓡 code.env #wrk wrk-def.routine
     code.calls-lent-terms·add-application (wrk-thm.met 𝓤 H 𝓜 𝓖 𝓡)))

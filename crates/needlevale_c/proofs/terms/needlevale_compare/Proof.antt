@@ -39,19 +39,19 @@ use Rattle.term_rules.specs.Lent.{Store}
 use Rattle.lent.specs.Records.{lentStore}
 use Rattle.term.specs.Answers.{seenOrder}
 use Rattle.term.specs.Calls.{compareTerms}
-use Rattle.needlevale_c.specs.Terms.{orderOf}
+use Rattle.c_told.specs.Terms.{orderOf}
 use Rattle.term.proofs.Compared as R
 use Rattle.term.proofs.Compared.Laws as R′
-use Rattle.needlevale_c.proofs.terms.Standing as Q
-use Rattle.needlevale_c.proofs.terms.Standing.Laws as Q′
+use Rattle.c_told.proofs.terms.Standing as Q
+use Rattle.c_told.proofs.terms.Standing.Laws as Q′
 use Rattle.lent_terms.proofs.compare as wrk
 use Rattle.lent_terms.proofs.compare.Symbol as wrk-def
 use Rattle.lent_terms.proofs.compare.Symbol.{name as #wrk}
 use Rattle.lent_terms.proofs.compare.Met as wrk-thm
-use Rattle.needlevale_c.proofs.terms.told_order as tel
-use Rattle.needlevale_c.proofs.terms.told_order.Symbol as tel-def
-use Rattle.needlevale_c.proofs.terms.told_order.Symbol.{name as #tel}
-use Rattle.needlevale_c.proofs.terms.told_order.Met as tel-thm
+use Rattle.c_told.proofs.terms.told_order as tel
+use Rattle.c_told.proofs.terms.told_order.Symbol as tel-def
+use Rattle.c_told.proofs.terms.told_order.Symbol.{name as #tel}
+use Rattle.c_told.proofs.terms.told_order.Met as tel-thm
 use Rattle.needlevale_c.proofs.Forwarding.{entered-at, ends, asks-one, frees-one}
 use Rattle.needlevale_c.proofs.terms.needlevale_compare.Key.{name as #it}
 use Rattle.needlevale_c.proofs.terms.needlevale_compare as it
@@ -165,6 +165,6 @@ needlevale-compare-spec 𝓤 H 𝓜 𝓖 𝓡 =
     (tables 𝓤 H 𝓜 𝓡 code.env .C) (tables 𝓤 H 𝓜 𝓡 code.env .Λ) #it code.function (code.unfolded 𝓤 H 𝓜 𝓡)
     (meets 𝓤 H (𝓖 .A) (givenOf 𝓤 H 𝓜 𝓖) (𝓜 .mem) (𝓡 .run) (tablesOf 𝓤 H 𝓜 (tables 𝓤 H 𝓜 𝓡 code.env))
     (cited 𝓤 H (Of 𝓤 H (𝓖 .A) tel.ended (tel.clauses 𝓤 H (𝓖 .A) (𝓜 .mem) (𝓡 .run))) 𝓜 𝓡 code.env #tel tel-def.routine
-    code.calls-needlevale-c·terms·told-order (tel-thm.met 𝓤 H 𝓜 𝓖 𝓡))
+    code.calls-c-told·terms·told-order (tel-thm.met 𝓤 H 𝓜 𝓖 𝓡))
     (cited 𝓤 H (Of 𝓤 H (𝓖 .A) wrk.ended (wrk.clauses 𝓤 H (𝓖 .A) (𝓜 .mem) (𝓡 .run))) 𝓜 𝓡 code.env #wrk wrk-def.routine
     code.calls-lent-terms·compare (wrk-thm.met 𝓤 H 𝓜 𝓖 𝓡)))

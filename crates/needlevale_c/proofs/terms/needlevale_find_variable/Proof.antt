@@ -39,19 +39,19 @@ use Rattle.term_rules.specs.Lent.{Store}
 use Rattle.lent.specs.Records.{lentStore}
 use Rattle.term.specs.Answers.{seenFound}
 use Rattle.term.specs.Calls.{findVariable}
-use Rattle.needlevale_c.specs.Terms.{numberOf}
+use Rattle.c_told.specs.Terms.{numberOf}
 use Rattle.term.proofs.Looked as R
 use Rattle.term.proofs.Looked.Laws as R′
-use Rattle.needlevale_c.proofs.terms.Number as Q
-use Rattle.needlevale_c.proofs.terms.Number.Laws as Q′
+use Rattle.c_told.proofs.terms.Number as Q
+use Rattle.c_told.proofs.terms.Number.Laws as Q′
 use Rattle.lent_terms.proofs.find_variable as wrk
 use Rattle.lent_terms.proofs.find_variable.Symbol as wrk-def
 use Rattle.lent_terms.proofs.find_variable.Symbol.{name as #wrk}
 use Rattle.lent_terms.proofs.find_variable.Met as wrk-thm
-use Rattle.needlevale_c.proofs.terms.told_found as tel
-use Rattle.needlevale_c.proofs.terms.told_found.Symbol as tel-def
-use Rattle.needlevale_c.proofs.terms.told_found.Symbol.{name as #tel}
-use Rattle.needlevale_c.proofs.terms.told_found.Met as tel-thm
+use Rattle.c_told.proofs.terms.told_found as tel
+use Rattle.c_told.proofs.terms.told_found.Symbol as tel-def
+use Rattle.c_told.proofs.terms.told_found.Symbol.{name as #tel}
+use Rattle.c_told.proofs.terms.told_found.Met as tel-thm
 use Rattle.needlevale_c.proofs.Forwarding.{entered-at, ends, asks-one, frees-one}
 use Rattle.needlevale_c.proofs.terms.needlevale_find_variable.Key.{name as #it}
 use Rattle.needlevale_c.proofs.terms.needlevale_find_variable as it
@@ -162,6 +162,6 @@ needlevale-find-variable-spec 𝓤 H 𝓜 𝓖 𝓡 =
     (tables 𝓤 H 𝓜 𝓡 code.env .C) (tables 𝓤 H 𝓜 𝓡 code.env .Λ) #it code.function (code.unfolded 𝓤 H 𝓜 𝓡)
     (meets 𝓤 H (𝓖 .A) (givenOf 𝓤 H 𝓜 𝓖) (𝓜 .mem) (𝓡 .run) (tablesOf 𝓤 H 𝓜 (tables 𝓤 H 𝓜 𝓡 code.env))
     (cited 𝓤 H (Of 𝓤 H (𝓖 .A) tel.ended (tel.clauses 𝓤 H (𝓖 .A) (𝓜 .mem) (𝓡 .run))) 𝓜 𝓡 code.env #tel tel-def.routine
-    code.calls-needlevale-c·terms·told-found (tel-thm.met 𝓤 H 𝓜 𝓖 𝓡))
+    code.calls-c-told·terms·told-found (tel-thm.met 𝓤 H 𝓜 𝓖 𝓡))
     (cited 𝓤 H (Of 𝓤 H (𝓖 .A) wrk.ended (wrk.clauses 𝓤 H (𝓖 .A) (𝓜 .mem) (𝓡 .run))) 𝓜 𝓡 code.env #wrk wrk-def.routine
     code.calls-lent-terms·find-variable (wrk-thm.met 𝓤 H 𝓜 𝓖 𝓡)))

@@ -39,19 +39,19 @@ use Rattle.term_rules.specs.Lent.{Store}
 use Rattle.lent.specs.Records.{lentStore}
 use Rattle.term.specs.Answers.{seenCount}
 use Rattle.term.specs.Calls.{sizeOf}
-use Rattle.needlevale_c.specs.Terms.{numberOf}
+use Rattle.c_told.specs.Terms.{numberOf}
 use Rattle.term.proofs.Counted as R
 use Rattle.term.proofs.Counted.Laws as R′
-use Rattle.needlevale_c.proofs.terms.Number as Q
-use Rattle.needlevale_c.proofs.terms.Number.Laws as Q′
+use Rattle.c_told.proofs.terms.Number as Q
+use Rattle.c_told.proofs.terms.Number.Laws as Q′
 use Rattle.lent_terms.proofs.size as wrk
 use Rattle.lent_terms.proofs.size.Symbol as wrk-def
 use Rattle.lent_terms.proofs.size.Symbol.{name as #wrk}
 use Rattle.lent_terms.proofs.size.Met as wrk-thm
-use Rattle.needlevale_c.proofs.terms.told_count as tel
-use Rattle.needlevale_c.proofs.terms.told_count.Symbol as tel-def
-use Rattle.needlevale_c.proofs.terms.told_count.Symbol.{name as #tel}
-use Rattle.needlevale_c.proofs.terms.told_count.Met as tel-thm
+use Rattle.c_told.proofs.terms.told_count as tel
+use Rattle.c_told.proofs.terms.told_count.Symbol as tel-def
+use Rattle.c_told.proofs.terms.told_count.Symbol.{name as #tel}
+use Rattle.c_told.proofs.terms.told_count.Met as tel-thm
 use Rattle.needlevale_c.proofs.Forwarding.{entered-at, ends, asks-one, frees-one}
 use Rattle.needlevale_c.proofs.terms.needlevale_size.Key.{name as #it}
 use Rattle.needlevale_c.proofs.terms.needlevale_size as it
@@ -154,6 +154,6 @@ needlevale-size-spec 𝓤 H 𝓜 𝓖 𝓡 =
     (tables 𝓤 H 𝓜 𝓡 code.env .C) (tables 𝓤 H 𝓜 𝓡 code.env .Λ) #it code.function (code.unfolded 𝓤 H 𝓜 𝓡)
     (meets 𝓤 H (𝓖 .A) (givenOf 𝓤 H 𝓜 𝓖) (𝓜 .mem) (𝓡 .run) (tablesOf 𝓤 H 𝓜 (tables 𝓤 H 𝓜 𝓡 code.env))
     (cited 𝓤 H (Of 𝓤 H (𝓖 .A) tel.ended (tel.clauses 𝓤 H (𝓖 .A) (𝓜 .mem) (𝓡 .run))) 𝓜 𝓡 code.env #tel tel-def.routine
-    code.calls-needlevale-c·terms·told-count (tel-thm.met 𝓤 H 𝓜 𝓖 𝓡))
+    code.calls-c-told·terms·told-count (tel-thm.met 𝓤 H 𝓜 𝓖 𝓡))
     (cited 𝓤 H (Of 𝓤 H (𝓖 .A) wrk.ended (wrk.clauses 𝓤 H (𝓖 .A) (𝓜 .mem) (𝓡 .run))) 𝓜 𝓡 code.env #wrk wrk-def.routine
     code.calls-lent-terms·size (wrk-thm.met 𝓤 H 𝓜 𝓖 𝓡)))

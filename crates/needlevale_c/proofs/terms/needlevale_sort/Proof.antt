@@ -40,7 +40,7 @@ use Rattle.term_rules.specs.Lent.{Store}
 use Rattle.lent.specs.Records.{lentStore}
 use Rattle.term.specs.Answers.{seenVerdict, seenSort}
 use Rattle.term.specs.Calls.{sortTerms}
-use Rattle.needlevale_c.specs.Terms.{statusOf}
+use Rattle.c_told.specs.Terms.{statusOf}
 use Rattle.needlevale_c.proofs.terms.TermLaws.{sorts-so}
 use Rattle.term.proofs.Verdict as R
 use Rattle.term.proofs.Verdict.Laws as R′
@@ -48,10 +48,10 @@ use Rattle.lent_terms.proofs.sort as wrk
 use Rattle.lent_terms.proofs.sort.Symbol as wrk-def
 use Rattle.lent_terms.proofs.sort.Symbol.{name as #wrk}
 use Rattle.lent_terms.proofs.sort.Met as wrk-thm
-use Rattle.needlevale_c.proofs.terms.told_verdict as tel
-use Rattle.needlevale_c.proofs.terms.told_verdict.Symbol as tel-def
-use Rattle.needlevale_c.proofs.terms.told_verdict.Symbol.{name as #tel}
-use Rattle.needlevale_c.proofs.terms.told_verdict.Met as tel-thm
+use Rattle.c_told.proofs.terms.told_verdict as tel
+use Rattle.c_told.proofs.terms.told_verdict.Symbol as tel-def
+use Rattle.c_told.proofs.terms.told_verdict.Symbol.{name as #tel}
+use Rattle.c_told.proofs.terms.told_verdict.Met as tel-thm
 use Rattle.needlevale_c.proofs.Forwarding.{entered-at, ends, asks-one, frees-one}
 use Rattle.needlevale_c.proofs.terms.needlevale_sort.Key.{name as #it}
 use Rattle.needlevale_c.proofs.terms.needlevale_sort as it
@@ -170,6 +170,6 @@ needlevale-sort-spec 𝓤 H 𝓜 𝓖 𝓡 =
     (tables 𝓤 H 𝓜 𝓡 code.env .C) (tables 𝓤 H 𝓜 𝓡 code.env .Λ) #it code.function (code.unfolded 𝓤 H 𝓜 𝓡)
     (meets 𝓤 H (𝓖 .A) (givenOf 𝓤 H 𝓜 𝓖) (𝓜 .mem) (𝓡 .run) (tablesOf 𝓤 H 𝓜 (tables 𝓤 H 𝓜 𝓡 code.env))
     (cited 𝓤 H (Of 𝓤 H (𝓖 .A) tel.ended (tel.clauses 𝓤 H (𝓖 .A) (𝓜 .mem) (𝓡 .run))) 𝓜 𝓡 code.env #tel tel-def.routine
-    code.calls-needlevale-c·terms·told-verdict (tel-thm.met 𝓤 H 𝓜 𝓖 𝓡))
+    code.calls-c-told·terms·told-verdict (tel-thm.met 𝓤 H 𝓜 𝓖 𝓡))
     (cited 𝓤 H (Of 𝓤 H (𝓖 .A) wrk.ended (wrk.clauses 𝓤 H (𝓖 .A) (𝓜 .mem) (𝓡 .run))) 𝓜 𝓡 code.env #wrk wrk-def.routine
     code.calls-lent-terms·sort (wrk-thm.met 𝓤 H 𝓜 𝓖 𝓡)))

@@ -42,20 +42,20 @@ use Rattle.text_rules.specs.LetText.{Naming}
 use Rattle.text_whole.specs.Placed.{told as written}
 use Rattle.text_whole.specs.LetPlaced.{letAnswerOf, naming}
 use Rattle.text.specs.LetTold.{letTold}
-use Rattle.needlevale_c.specs.Texts.{letCoded, LetFits}
+use Rattle.c_told.specs.Texts.{letCoded, LetFits}
 use Rattle.needlevale_c.proofs.texts.TextLaws.{let-fits, let-writes}
 use Rattle.text_whole.proofs.LetText as R
 use Rattle.text_whole.proofs.LetText.Laws as R′
-use Rattle.needlevale_c.proofs.texts.LetLength as Q
-use Rattle.needlevale_c.proofs.texts.LetLength.Laws as Q′
+use Rattle.c_told.proofs.texts.LetLength as Q
+use Rattle.c_told.proofs.texts.LetLength.Laws as Q′
 use Rattle.lent_texts.proofs.lets.let_text as wrk
 use Rattle.lent_texts.proofs.lets.let_text.Symbol as wrk-def
 use Rattle.lent_texts.proofs.lets.let_text.Symbol.{name as #wrk}
 use Rattle.lent_texts.proofs.lets.let_text.Met as wrk-thm
-use Rattle.needlevale_c.proofs.texts.told_lets as tel
-use Rattle.needlevale_c.proofs.texts.told_lets.Symbol as tel-def
-use Rattle.needlevale_c.proofs.texts.told_lets.Symbol.{name as #tel}
-use Rattle.needlevale_c.proofs.texts.told_lets.Met as tel-thm
+use Rattle.c_told.proofs.texts.told_lets as tel
+use Rattle.c_told.proofs.texts.told_lets.Symbol as tel-def
+use Rattle.c_told.proofs.texts.told_lets.Symbol.{name as #tel}
+use Rattle.c_told.proofs.texts.told_lets.Met as tel-thm
 use Rattle.needlevale_c.proofs.Forwarding.{entered-at, ends, asks-fitting, frees-one}
 use Rattle.needlevale_c.proofs.texts.needlevale_let_text.Key.{name as #it}
 use Rattle.needlevale_c.proofs.texts.needlevale_let_text as it
@@ -265,6 +265,6 @@ needlevale-let-text-spec 𝓤 H 𝓜 𝓖 𝓡 =
     (tables 𝓤 H 𝓜 𝓡 code.env .C) (tables 𝓤 H 𝓜 𝓡 code.env .Λ) #it code.function (code.unfolded 𝓤 H 𝓜 𝓡)
     (meets 𝓤 H (𝓖 .A) (givenOf 𝓤 H 𝓜 𝓖) (𝓜 .mem) (𝓡 .run) (tablesOf 𝓤 H 𝓜 (tables 𝓤 H 𝓜 𝓡 code.env))
     (cited 𝓤 H (Of 𝓤 H (𝓖 .A) tel.ended (tel.clauses 𝓤 H (𝓖 .A) (𝓜 .mem) (𝓡 .run))) 𝓜 𝓡 code.env #tel tel-def.routine
-    code.calls-needlevale-c·texts·told-lets (tel-thm.met 𝓤 H 𝓜 𝓖 𝓡))
+    code.calls-c-told·texts·told-lets (tel-thm.met 𝓤 H 𝓜 𝓖 𝓡))
     (cited 𝓤 H (Of 𝓤 H (𝓖 .A) wrk.ended (wrk.clauses 𝓤 H (𝓖 .A) (𝓜 .mem) (𝓡 .run))) 𝓜 𝓡 code.env #wrk wrk-def.routine
     code.calls-lent-texts·lets·let-text (wrk-thm.met 𝓤 H 𝓜 𝓖 𝓡)))

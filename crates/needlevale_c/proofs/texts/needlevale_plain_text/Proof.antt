@@ -40,7 +40,7 @@ use Rattle.term_rules.specs.Lent.{Store}
 use Rattle.lent.specs.Records.{lentStore}
 use Rattle.text_whole.specs.Placed.{answerOf, told as written}
 use Rattle.text.specs.Told.{plainTold}
-use Rattle.needlevale_c.specs.Texts.{codedText, TextFits}
+use Rattle.c_told.specs.Texts.{codedText, TextFits}
 use Rattle.needlevale_c.proofs.texts.TextLaws.{plain-fits, plain-writes}
 use Rattle.text_whole.proofs.Text as R
 use Rattle.text_whole.proofs.Text.Laws as R′
@@ -48,10 +48,10 @@ use Rattle.lent_texts.proofs.plain.plain_text as wrk
 use Rattle.lent_texts.proofs.plain.plain_text.Symbol as wrk-def
 use Rattle.lent_texts.proofs.plain.plain_text.Symbol.{name as #wrk}
 use Rattle.lent_texts.proofs.plain.plain_text.Met as wrk-thm
-use Rattle.needlevale_c.proofs.texts.told_text as tel
-use Rattle.needlevale_c.proofs.texts.told_text.Symbol as tel-def
-use Rattle.needlevale_c.proofs.texts.told_text.Symbol.{name as #tel}
-use Rattle.needlevale_c.proofs.texts.told_text.Met as tel-thm
+use Rattle.c_told.proofs.texts.told_text as tel
+use Rattle.c_told.proofs.texts.told_text.Symbol as tel-def
+use Rattle.c_told.proofs.texts.told_text.Symbol.{name as #tel}
+use Rattle.c_told.proofs.texts.told_text.Met as tel-thm
 use Rattle.needlevale_c.proofs.Forwarding.{entered-at, ends, asks-fitting, frees-one}
 use Rattle.needlevale_c.proofs.texts.needlevale_plain_text.Key.{name as #it}
 use Rattle.needlevale_c.proofs.texts.needlevale_plain_text as it
@@ -177,6 +177,6 @@ needlevale-plain-text-spec 𝓤 H 𝓜 𝓖 𝓡 =
     (tables 𝓤 H 𝓜 𝓡 code.env .C) (tables 𝓤 H 𝓜 𝓡 code.env .Λ) #it code.function (code.unfolded 𝓤 H 𝓜 𝓡)
     (meets 𝓤 H (𝓖 .A) (givenOf 𝓤 H 𝓜 𝓖) (𝓜 .mem) (𝓡 .run) (tablesOf 𝓤 H 𝓜 (tables 𝓤 H 𝓜 𝓡 code.env))
     (cited 𝓤 H (Of 𝓤 H (𝓖 .A) tel.ended (tel.clauses 𝓤 H (𝓖 .A) (𝓜 .mem) (𝓡 .run))) 𝓜 𝓡 code.env #tel tel-def.routine
-    code.calls-needlevale-c·texts·told-text (tel-thm.met 𝓤 H 𝓜 𝓖 𝓡))
+    code.calls-c-told·texts·told-text (tel-thm.met 𝓤 H 𝓜 𝓖 𝓡))
     (cited 𝓤 H (Of 𝓤 H (𝓖 .A) wrk.ended (wrk.clauses 𝓤 H (𝓖 .A) (𝓜 .mem) (𝓡 .run))) 𝓜 𝓡 code.env #wrk wrk-def.routine
     code.calls-lent-texts·plain·plain-text (wrk-thm.met 𝓤 H 𝓜 𝓖 𝓡)))
