@@ -184,7 +184,7 @@ static void one_add(struct worker *at, const struct shape *store, int64_t value,
     memcpy(lent(&at->input, sizeof literals, edge), literals, sizeof literals);
     memcpy(lent_names, names, store->names);
 
-    expect(at, needlevale_add_literal(nulls && !store->records ? NULL : lent_records, store->records,
+    expect(at, needlevale_add_literal_flat(nulls && !store->records ? NULL : lent_records, store->records,
                                       nulls && !store->literals ? NULL : lent_literals, store->literals,
                                       nulls && !store->names ? NULL : lent_names, store->names, store->terms,
                                       store->symbols, value) == wanted, "another answer");
@@ -235,11 +235,11 @@ static void bad_stores(struct worker *at)
     literals[1] = 1;
     for (at->number = 0; at->number < sizeof counts / sizeof *counts; at->number++)
         for (int names = 0; names < 2; names++)
-            expect(at, needlevale_add_literal(records, 2 * NEEDLEVALE_RECORD, literals, 2, NULL, 0,
+            expect(at, needlevale_add_literal_flat(records, 2 * NEEDLEVALE_RECORD, literals, 2, NULL, 0,
                                               names ? 0 : counts[at->number], names ? counts[at->number] : 0, 0)
                            == -NEEDLEVALE_BAD_STORE, "a count past the store was taken");
     records[3] = 1;
-    expect(at, needlevale_add_literal(records, 2 * NEEDLEVALE_RECORD, literals, 2, NULL, 0, 2, 0, 0)
+    expect(at, needlevale_add_literal_flat(records, 2 * NEEDLEVALE_RECORD, literals, 2, NULL, 0, 2, 0, 0)
                    == -NEEDLEVALE_BAD_STORE && records[3] == 1, "a literal with a child was taken");
 }
 

@@ -22,8 +22,8 @@ FLOORS = (
                           "extract", "extract_")),
     ("The program", ("program", "program_", "cases", "needlevale")),
     ("The theorems", ("theorems",)),
-    ("The library for C", ("needlevale_c",)),
     ("Lent term structs", ("lent", "lent_")),
+    ("The library for C", ("c_told", "needlevale_c")),
     ("Runs", ("run_",)),
 )
 

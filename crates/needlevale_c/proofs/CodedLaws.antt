@@ -6,7 +6,7 @@ use native.Mathlib.Omega.{arith}
 use lib.IntN.{ℤ, pos}
 use lib.ListN.{length, drop, length-append}
 use Rattle.refusal.specs.declared.Refusal.{Refusal}
-use Rattle.needlevale_c.specs.Below.{belowZero}
+use Rattle.c_told.specs.Below.{belowZero}
 use Rattle.term_rules.specs.Lent.{Store, store}
 use Rattle.term_rules.specs.Nodes.{literal}
 use Rattle.term_rules.specs.Growing.{Takes}

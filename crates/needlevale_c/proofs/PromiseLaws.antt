@@ -20,7 +20,7 @@ use Rattle.term.specs.Answers as terms
 use Rattle.term.specs.Calls.{Faults, fine, fault, literalFaults, adding, added, addLiteral}
 use Rattle.program_rules.specs.Reply.{answerTo, inRoom, putIn, replied}
 use Rattle.program_rules.proofs.replies.KnownLaws.{Known, answer-known, room-known}
-use Rattle.needlevale_c.specs.Below.{belowZero}
+use Rattle.c_told.specs.Below.{belowZero}
 use Rattle.needlevale_c.specs.Coded.{coded, Replies, codedTerm, Adds as Wanted}
 use Rattle.needlevale_c.specs.Promises.{ReplyTold, AddTold, Counts}
 

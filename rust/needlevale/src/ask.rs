@@ -1,4 +1,4 @@
-//! Questions to the proved library. The one `unsafe` of this crate is in [`call`].
+//! Questions to the proved library as document 01's program answers them. Its one `unsafe` is in [`call`].
 
 use crate::refusal::Refusal;
 use std::fmt;
@@ -8,8 +8,9 @@ pub use needlevale_sys::LONGEST_FILE;
 /// The room that document 01's program has for its output: 16,384 bytes.
 pub use needlevale_sys::PROGRAM_OUTPUT;
 
-/// The stack that a call gets: the deepest one measured took some 640 KiB, and a caller's thread may have less.
-const STACK: usize = 2 << 20;
+/// The stack that a call gets: what the header names for the calls on structs, the deepest. A caller's thread may have
+/// less.
+const STACK: usize = needlevale_sys::STRUCTS_STACK;
 
 /// What is asked.
 #[derive(Clone, Copy, PartialEq, Eq, Debug)]
@@ -123,21 +124,21 @@ pub fn ask(file: &[u8], query: Query, room: usize) -> Result<Answer, Error> {
     input.extend(file.iter().take(LONGEST_FILE + 1));
     let mut output = vec![0; room];
     let returned = with_stack(|| call(&input, &mut output))?;
-    match usize::try_from(returned) {
-        Ok(length) => {
-            output.truncate(length);
-            let output = String::from_utf8(output).map_err(|_| Error::Unknown("bytes that are no text".to_string()))?;
-            Ok(Answer { output })
-        }
-        Err(_) => match Refusal::from_number(returned.unsigned_abs()) {
-            Some(refusal) => Err(Error::Refused(refusal)),
-            None => Err(Error::Unknown(format!("the number {returned}"))),
-        },
-    }
+    output.truncate(told(returned)?);
+    let output = String::from_utf8(output).map_err(|_| Error::Unknown("bytes that are no text".to_string()))?;
+    Ok(Answer { output })
+}
+
+/// A number that a call of the library gave: of 0 or more, or minus a refusal's.
+pub(crate) fn told(returned: i64) -> Result<usize, Error> {
+    usize::try_from(returned).map_err(|_| match Refusal::from_number(returned.unsigned_abs()) {
+        Some(refusal) => Error::Refused(refusal),
+        None => Error::Unknown(format!("the number {returned}")),
+    })
 }
 
 /// Runs a call of the library in a thread that has the stack for it.
-fn with_stack(call: impl FnOnce() -> i64 + Send) -> Result<i64, Error> {
+pub(crate) fn with_stack<T: Send>(call: impl FnOnce() -> T + Send) -> Result<T, Error> {
     std::thread::scope(|scope| {
         let thread = std::thread::Builder::new().name("needlevale".to_string()).stack_size(STACK);
         let running = thread.spawn_scoped(scope, call).map_err(Error::Thread)?;
@@ -147,7 +148,7 @@ fn with_stack(call: impl FnOnce() -> i64 + Send) -> Result<i64, Error> {
 
 fn call(input: &[u8], output: &mut [u8]) -> i64 {
     // SAFETY: the two slices are valid for their lengths, which are at most 2^63-1; a `&mut` slice overlaps nothing; and
-    // `with_stack` gives the call three times the stack that the deepest one was seen to take.
+    // `with_stack` gives the call more stack than the header names for it.
     unsafe { needlevale_sys::needlevale_answer(input.as_ptr(), input.len(), output.as_mut_ptr(), output.len()) }
 }
 

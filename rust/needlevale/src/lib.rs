@@ -1,7 +1,8 @@
 //! Needlevale in Rust: tables made, read and shown, and the proved library's answers about them.
 //!
-//! What [`best`], [`plain`], [`variants`] and [`verdict`] give comes from `libneedlevale_c.a`, whose functions are proved
-//! (`include/needlevale.h` says what). Everything else here is plain Rust, tested and not proved: the table file's bytes and
+//! What [`best`], [`plain`], [`variants`], [`verdict`] and a [`Store`] give comes from `libneedlevale_c.a`, whose
+//! functions are proved (`include/needlevale.h` says what). Everything else here is plain Rust, tested and not proved:
+//! the table file's bytes and
 //! the place of a fault ([`Table`], [`Fault`]), the text form ([`text`]), and what is computed for pictures and counts
 //! ([`compute`]).
 //!
@@ -32,6 +33,7 @@ mod fault;
 mod layout;
 mod names;
 mod refusal;
+mod store;
 mod table;
 pub mod text;
 
@@ -43,4 +45,5 @@ pub use layout::{
 };
 pub use names::{Named, Names};
 pub use refusal::Refusal;
+pub use store::{Chosen, Lets, Naming, Store, MOST_NAMES, MOST_TERMS};
 pub use table::{Draft, Function, Reading, Row, Sort, Table};

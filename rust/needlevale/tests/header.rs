@@ -60,4 +60,5 @@ fn numbers_are_the_headers() {
     assert_eq!(defined("NEEDLEVALE_LONGEST_INPUT"), needlevale::LONGEST_FILE);
     assert_eq!(defined("NEEDLEVALE_PROGRAM_OUTPUT"), needlevale::PROGRAM_OUTPUT);
     assert!(header.contains("#define NEEDLEVALE_LONGEST_INPUT (3 + 21385)"));
+    assert!(header.contains("#define NEEDLEVALE_STRUCTS_STACK (4 * 1024 * 1024)"));
 }

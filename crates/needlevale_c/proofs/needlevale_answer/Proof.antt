@@ -14,7 +14,7 @@ use Rattle.needlevale_c.proofs.needlevale_answer.Tie as tie
 use Rattle.needlevale_c.proofs.needlevale_answer.Reads as reads
 use Rattle.needlevale_c.proofs.needlevale_answer.Lts as lts
 use Rattle.program.proofs.answer.Reads as answer-reads
-use Rattle.needlevale_c.proofs.codes.below_zero.Reads as below-zero-reads
+use Rattle.c_told.proofs.codes.below_zero.Reads as below-zero-reads
 
 -- a length of the lent buffer is below 2^63
 within :

@@ -148,7 +148,7 @@ module _ (s : Store) where
       let l : Left = whole (planFor t p) (orderFor p c) s c in
       by-built w n l (l .answer)
 
-  best-known : (file : List ℕ) (root v : ℕ) → BestKnown (bestAt file root v s)
+  pub best-known : (file : List ℕ) (root v : ℕ) → Known (bestAt file root v s .answer)
   unfolding bestAt bestOf
   best-known file root v =
       by-got BestKnown (tableAt file) (λ r. (r, refl)) (λ t p.
@@ -180,7 +180,7 @@ module _ (l : Lending) where
       by-test VariantsKnown (anyDear t p rows) (TooDear, refl)
       (by-test VariantsKnown (roomForResults l (length rows)) (variants-built-known t p n rows _) (NoRoom, refl))
 
-  variants-known : (file : List ℕ) (root v n : ℕ) → VariantsKnown (variantsAt file root v n l)
+  pub variants-known : (file : List ℕ) (root v n : ℕ) → Known (variantsAt file root v n l .answer)
   unfolding variantsAt variantsOf
   variants-known file root v n =
       by-got VariantsKnown (tableAt file) (λ r. (r, refl)) (λ t p.

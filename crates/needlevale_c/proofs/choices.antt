@@ -1,0 +1,2 @@
+-- The laws of `choices`.
+pub mod ChoiceLaws

@@ -1,3 +1,0 @@
--- The laws of `codes`.
-pub mod BelowLaws
-pub mod CodeLaws

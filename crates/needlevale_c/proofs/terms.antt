@@ -1,0 +1,2 @@
+-- The laws of `terms`.
+pub mod TermLaws

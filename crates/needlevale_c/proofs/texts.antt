@@ -1,0 +1,2 @@
+-- The laws of `texts`.
+pub mod TextLaws
