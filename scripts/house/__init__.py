@@ -14,7 +14,7 @@ KIT = ("std", "check", "libc", "io", "os", "bytes")
 
 # The floors of document 01, lowest first: its heading, and the crates of each, by name or by what a name begins with.
 FLOORS = (
-    ("Refusals, names and numbers", ("refusal", "name", "bits", "decimal", "order")),
+    ("Refusals, names and numbers", ("refusal", "name", "bits", "copies", "decimal", "order")),
     ("The table file", ("file", "file_")),
     ("Terms", ("term", "term_")),
     ("Texts", ("text", "text_")),
@@ -28,7 +28,7 @@ FLOORS = (
 )
 
 # The crates whose `pub fn`s are document 01's public calls.
-PUBLIC = ("file", "term", "text", "extract", "program", "needlevale_c", "lent_terms", "lent_texts", "lent_extract")
+PUBLIC = ("file", "term", "term_many", "text", "extract", "program", "needlevale_c", "lent_terms", "lent_texts", "lent_extract")
 
 # Constructors that every .antt file has without a `use` line.
 PRELUDE = ("_", "zero", "suc", "[]", "true", "false", "tt", "yes", "no", "refl")

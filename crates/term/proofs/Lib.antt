@@ -1,7 +1,7 @@
 -- The laws of the crate `term`.
 pub mod CallLaws
-mod DeterminedLaws
-mod OrderLaws
+pub mod DeterminedLaws
+pub mod OrderLaws
 mod AppendedLaws
 mod AddsLaws
 mod PromiseLaws

@@ -1,0 +1,2 @@
+-- The laws of the crate `copies`.
+pub mod CopiedLaws

@@ -1,0 +1,2 @@
+-- The definitions of the crate `copies`.
+pub mod Copied

@@ -1,0 +1,8 @@
+-- The laws of the crate `term_many`.
+pub mod FromLaws
+pub mod TurnLaws
+pub mod ManyLaws
+mod StepsLaws
+mod AsksLaws
+mod PromiseLaws
+pub mod Promises

@@ -1,0 +1,2 @@
+-- The laws of the crate `term_one`.
+pub mod AskedLaws

@@ -1,0 +1,3 @@
+-- The definitions of the crate `term_one`.
+pub mod Wanted
+pub mod One
