@@ -1,5 +1,4 @@
 -- The definitions of the crate `build`.
-pub mod Copied
 pub mod Plan
 pub mod Building
 pub mod Standing

@@ -13,7 +13,6 @@ ghost use Rattle.build.specs.Building.{state, done, ownIn};
 ghost use Rattle.build.specs.Ready.{Ready, OwnReady, Exact, LiteralExact, seen};
 use term_add::Added;
 
-pub mod copies; // copies.rt: copying what is lent, and putting it back: "Nothing lent is changed" on a refusal
 pub mod whole; // whole.rt: a class's best term as one call: all or nothing
 
 // The term's number and the counts of terms and symbols then; or that the store has no room for a term.

@@ -4,7 +4,6 @@ ghost use Rattle.term_rules.specs.Lent.{store};
 ghost use Rattle.build.specs.Plan.{planOf};
 ghost use Rattle.build.specs.Whole.{Ready, whole};
 use crate::Built;
-use crate::copies;
 
 // The term of class `c`, of a rank at most `level`, all or nothing: where there is no room for it, what was lent is put
 // back (src/extract.rs, reconstruct_termdag_node).

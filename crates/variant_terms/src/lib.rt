@@ -12,7 +12,6 @@ ghost use Rattle.variant_terms.specs.Rows.{RowMade};
 ghost use Rattle.variant_terms.specs.Turned.{nameIn, ListedReady, ListReady, seenAll, RowsMade};
 ghost use Rattle.variant_terms.specs.Turned.{WholeReady, seenWholly, RowsWhole};
 use build::Built;
-use build::copies;
 
 pub mod row; // row.rt: the term of one row, as a variant is: each child class by its best term, then the row's own
 

@@ -8,7 +8,7 @@ use lib.IntN.{pos}
 use Rattle.term_rules.specs.Lent.{Store, store, recordsLength}
 use Rattle.build.specs.Plan.{Plan, planOf, childrenOf}
 use Rattle.build.proofs.BuildingLaws.{tracks-of-zeros, stuck-beyond}
-use Rattle.build.proofs.copies.CopiedLaws.{saved-back}
+use Rattle.copies.proofs.CopiedLaws.{saved-back}
 use Rattle.variant_terms.specs.Turned.{nameIn}
 use Rattle.variant_terms.proofs.WholeLaws.{whole-of-done, whole-of-full}
 use native.Mathlib.Omega.{arith}

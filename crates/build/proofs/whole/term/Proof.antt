@@ -8,7 +8,7 @@ use Rattle.term_rules.specs.Lent.{Store, store, recordsLength}
 use Rattle.build.specs.Plan.{Plan, planOf}
 use Rattle.build.specs.Building.{state}
 use Rattle.build.proofs.PlanLaws.{ranked-of-planned}
-use Rattle.build.proofs.copies.CopiedLaws.{saved-back}
+use Rattle.copies.proofs.CopiedLaws.{saved-back}
 use Rattle.build.proofs.BuildingLaws.{tracks-of-zeros, stuck-beyond, exact-right}
 use Rattle.build.proofs.whole.WholeLaws.{whole-of-done, whole-of-full}
 use borrow.Author.Needs.{needs}

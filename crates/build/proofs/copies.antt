@@ -1,2 +1,0 @@
--- The laws of `copies`.
-pub mod CopiedLaws
