@@ -2,7 +2,7 @@
 
 unsafe extern "C" {
     fn needlevale_answer(input: *const u8, input_length: usize, output: *mut u8, output_length: usize) -> i64;
-    fn needlevale_add_literal(
+    fn needlevale_add_literal_flat(
         records: *mut u64,
         records_length: usize,
         literals: *mut i64,
@@ -39,7 +39,7 @@ impl Store {
         let Store { records, literals, names, terms } = self;
         // SAFETY: three vectors valid for their lengths, none of which overlap.
         let number = unsafe {
-            needlevale_add_literal(
+            needlevale_add_literal_flat(
                 records.as_mut_ptr(),
                 records.len(),
                 literals.as_mut_ptr(),
