@@ -156,3 +156,37 @@ pub fn growing(eighths: usize) -> [(&'static str, Vec<u8>); 4] {
 pub fn literals() -> Vec<i64> {
     (0..1024).map(|k| (mixed(k, 1 << 20) as i64 - (1 << 19)) * 2048 + k as i64).collect()
 }
+
+/// A term to be added to a store: a literal, or an application of earlier terms, by their places.
+pub enum Made {
+    Literal(i64),
+    Application(String, Vec<u64>),
+}
+
+/// Two chains of so many terms, literals 0 and 1 at their ends; the tops are the last two.
+pub fn chains(depth: usize) -> Vec<Made> {
+    let mut list = vec![Made::Literal(0), Made::Literal(1)];
+    list.extend((0..2 * depth as u64 - 2).map(|below| Made::Application("S".into(), vec![below])));
+    list
+}
+
+/// A chain of so many terms, each under the number of its place.
+pub fn tower(depth: usize) -> Vec<Made> {
+    let above = (0..depth as u64 - 1).map(|below| Made::Application("S".into(), vec![below]));
+    std::iter::once(Made::Literal(0)).chain(above).collect()
+}
+
+/// As many terms as a store holds: a quarter of them literals, the others applications of two earlier terms.
+pub fn forest() -> Vec<Made> {
+    let leaf = |k: usize| Made::Literal(mixed(k, 1 << 20) as i64 * 256 + k as i64);
+    let above = |k: usize| Made::Application(format!("F{}", mixed(k, 8)), vec![mixed(k, k) as u64, k as u64 - 1]);
+    (0..256).map(leaf).chain((256..1024).map(above)).collect()
+}
+
+/// So many of the numbers of a full store's terms, in no order.
+pub fn shuffled(length: usize) -> Vec<u64> {
+    let mut list: Vec<u64> = (0..1024).collect();
+    list.sort_by_key(|k| mixed(*k as usize, 1 << 30));
+    list.truncate(length);
+    list
+}

@@ -12,6 +12,9 @@ mod plot;
 mod recorded;
 mod rounds;
 mod stack;
+mod stacks;
+mod stores;
+mod terms;
 
 use rounds::{Side, Took, rounds};
 use std::hint::black_box;
@@ -19,10 +22,6 @@ use std::process::ExitCode;
 
 /// The program's room for its output.
 const ROOM: usize = 16_384;
-
-const STORE_WHY: &str = "every call checks the whole lent store first, every record and every name of it, since it may \
-be handed any (demand 1), and then looks at each term for the one; the Rust trusts its own store and finds a term by \
-its hash";
 
 const READING: &str = "Needlevale's time has the reading of the file in it, the Rust's second time has not";
 const SMALL_WHY: &str = "whatever the table's size, the call clears all arrays of its own, which takes most of its \
@@ -34,7 +33,7 @@ struct Row {
     answer: String,
     took: Vec<Took>,
     /// Why the library is slower, where that is known.
-    why: Option<&'static str>,
+    why: Option<String>,
 }
 
 fn first_line(text: &str) -> String {
@@ -93,31 +92,6 @@ fn text_of(length: i64, output: &[u8]) -> String {
     }
 }
 
-/// Times as many adds as a store has room for, from an empty one.
-fn adds(count: usize, name: &str) -> Result<Row, String> {
-    let values = inputs::literals();
-    let dag = original::store(&values);
-    let mut store = library::Store::new();
-    let numbers: Vec<i64> = values.iter().map(|v| store.add(*v)).collect();
-    if !numbers.iter().copied().eq(0..values.len() as i64) || dag.size() != store.terms {
-        return Err(format!("{name}: the stores differ; {} terms, and the Rust has {}", store.terms, dag.size()));
-    }
-    let sides: Vec<Side> = vec![
-        Box::new(|| {
-            let store = black_box(&mut store);
-            store.terms = 0;
-            for value in &values {
-                black_box(store.add(*value));
-            }
-        }),
-        Box::new(|| {
-            black_box(original::store(black_box(&values)));
-        }),
-    ];
-    let answer = format!("{} terms", dag.size());
-    Ok(Row { name: name.to_string(), answer, took: rounds(count, sides), why: Some(STORE_WHY) })
-}
-
 fn time(seconds: f64) -> String {
     if seconds < 1e-3 { format!("{:.1} µs", seconds * 1e6) } else { format!("{:.2} ms", seconds * 1e3) }
 }
@@ -140,9 +114,9 @@ impl Row {
     }
 
     /// Why the library is not faster on both counts, if it is not.
-    fn fault(&self) -> Option<&'static str> {
+    fn fault(&self) -> Option<&str> {
         match self.took.iter().position(|took| took.ratio < 1.0)? {
-            1 => self.why.or(Some(UNKNOWN)),
+            1 => self.why.as_deref().or(Some(UNKNOWN)),
             _ => Some(READING),
         }
     }
@@ -174,7 +148,7 @@ fn small(count: usize) -> Result<Vec<Row>, String> {
         question(count, &format!("the recorded input of middle length, {} bytes", middle.len()), middle)?,
         many(count, &format!("all {} recorded inputs that both answer alike, in a row", answered.len()), &answered),
     ];
-    Ok(rows.into_iter().map(|row| Row { why: Some(SMALL_WHY), ..row }).collect())
+    Ok(rows.into_iter().map(|row| Row { why: Some(SMALL_WHY.into()), ..row }).collect())
 }
 
 fn table(count: usize, kind: &str, folder: Option<&str>) -> Result<(), String> {
@@ -186,7 +160,10 @@ fn table(count: usize, kind: &str, folder: Option<&str>) -> Result<(), String> {
         question(count, "a reversed chain, 513 passes", &inputs::reversed_chain())?,
         question(count, "variants, n = 255 of 1,024 rows", &inputs::variants())?,
         question(count, "let text with deep sharing", &inputs::sharing())?,
-        adds(count, "1,024 adds into a store")?,
+        stores::adds(count, "1,024 adds into a flat store")?,
+        stores::adds_of_structs(count, "1,024 adds into a store of structs")?,
+        stores::comparing(count, "comparing two chains of 512 terms that differ at their ends", 512)?,
+        stores::sorting(count, "sorting 1,024 terms", 1024)?,
     ]);
     println!("| Input | Answer | Needlevale | Rust | ratio | Rust, file read before | ratio | Needlevale is |");
     println!("|---|---|---|---|---|---|---|---|");
@@ -204,7 +181,7 @@ fn table(count: usize, kind: &str, folder: Option<&str>) -> Result<(), String> {
         let title = format!("Needlevale's time at parts of a limit{}", said(kind));
         write(folder, &format!("growth-{kind}.svg"), &plot::growth(&title, &PARTS.map(|part| part.0), &lines))?;
     }
-    stacks(kind)
+    stacks::table(kind)
 }
 
 fn write(folder: &str, name: &str, text: &str) -> Result<(), String> {
@@ -219,11 +196,16 @@ const PARTS: [(&str, usize); 4] = [("1/8", 1), ("1/4", 2), ("1/2", 4), ("all", 8
 fn growth(count: usize, kind: &str) -> Result<Vec<(String, Vec<f64>)>, String> {
     let mut lines: Vec<(String, Vec<f64>)> = Vec::new();
     let mut cells: Vec<String> = Vec::new();
-    for (part, eighths) in PARTS {
-        for (at, (name, input)) in inputs::growing(eighths).into_iter().enumerate() {
-            let took = question(count, &format!("{name}, {part}"), &input)?.took;
+    for (_, eighths) in PARTS {
+        let mut rows = Vec::new();
+        for (name, input) in inputs::growing(eighths) {
+            rows.push(question(count, name, &input)?);
+        }
+        rows.push(stores::comparing(count, "depth of two chains, compared", 64 * eighths)?);
+        rows.push(stores::sorting(count, "numbers in a list, sorted", 128 * eighths)?);
+        for (at, Row { name, took, .. }) in rows.into_iter().enumerate() {
             if at == lines.len() {
-                lines.push((name.to_string(), Vec::new()));
+                lines.push((name, Vec::new()));
                 cells.push(String::new());
             }
             lines[at].1.push(took[0].seconds);
@@ -235,18 +217,6 @@ fn growth(count: usize, kind: &str) -> Result<Vec<(String, Vec<f64>)>, String> {
     lines.iter().zip(&cells).for_each(|((name, _), cells)| println!("| {name}{} |{cells}", said(kind)));
     println!();
     Ok(lines)
-}
-
-/// The stack of the call on the deepest term, on the longest file and on no input.
-fn stacks(kind: &str) -> Result<(), String> {
-    let deep = inputs::deepest().map(|(mode, input)| (format!("the deepest term, 512 classes: {mode}"), input));
-    let others = [("the longest file", inputs::longest()), ("no input", Vec::new())];
-    println!("| Input | Stack of `needlevale_answer`, bytes |");
-    println!("|---|---|");
-    for (name, input) in deep.into_iter().chain(others.map(|(name, input)| (name.to_string(), input))) {
-        println!("| {name}{} | {} |", said(kind), stack::used(&input)?);
-    }
-    Ok(())
 }
 
 fn main() -> ExitCode {

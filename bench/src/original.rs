@@ -2,6 +2,7 @@
 //!
 //! Assumes inputs that are not refused, NoTerm aside: those of `inputs`.
 
+use crate::inputs::Made;
 use paper::refusal::Refusal;
 use standin::extract::{Extractor, TreeAdditiveCostModel};
 use standin::reader::{Bits, File, read};
@@ -86,6 +87,20 @@ pub fn store(values: &[i64]) -> TermDag {
     let mut dag = TermDag::default();
     for value in values {
         dag.lit(Literal::Int(*value));
+    }
+    dag
+}
+
+/// The store after adding the terms one by one.
+pub fn terms(list: &[Made]) -> TermDag {
+    let mut dag = TermDag::default();
+    for made in list {
+        match made {
+            Made::Literal(value) => dag.lit(Literal::Int(*value)),
+            Made::Application(name, children) => {
+                dag.app(name.clone(), children.iter().map(|child| *child as usize).collect())
+            }
+        };
     }
     dag
 }

@@ -1,7 +1,6 @@
 //! How much stack a call of the library takes: it runs in a thread on a painted stack of ours, and what is not paint any
 //! more after it was used. What an empty thread uses is taken off.
 
-use crate::{ROOM, library};
 use std::ffi::c_void;
 use std::ptr::null_mut;
 
@@ -30,15 +29,10 @@ extern "C" fn nothing(_: *mut c_void) -> *mut c_void {
     null_mut()
 }
 
-struct Call<'a> {
-    input: &'a [u8],
-    output: Vec<u8>,
-}
-
-extern "C" fn answer(given: *mut c_void) -> *mut c_void {
-    // SAFETY: `painted` was handed a `Call` that lives until the thread has been joined.
-    let call = unsafe { &mut *given.cast::<Call>() };
-    library::answer(call.input, &mut call.output);
+extern "C" fn call(given: *mut c_void) -> *mut c_void {
+    // SAFETY: `used` hands over a call that lives until the thread has been joined.
+    let call = unsafe { &mut *given.cast::<&mut dyn FnMut()>() };
+    call();
     null_mut()
 }
 
@@ -62,9 +56,8 @@ fn painted(start: Start, given: *mut c_void) -> Result<usize, String> {
     Ok(SIZE - free)
 }
 
-/// The stack that the library's answer to an input takes, in bytes.
-pub fn used(input: &[u8]) -> Result<usize, String> {
-    let mut call = Call { input, output: vec![0; ROOM] };
-    let whole = painted(answer, (&raw mut call).cast())?;
+/// The stack that a call takes, in bytes.
+pub fn used(mut made: &mut dyn FnMut()) -> Result<usize, String> {
+    let whole = painted(call, (&raw mut made).cast())?;
     Ok(whole.saturating_sub(painted(nothing, null_mut())?))
 }
