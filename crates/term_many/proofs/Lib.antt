@@ -5,4 +5,5 @@ pub mod ManyLaws
 mod StepsLaws
 mod AsksLaws
 mod PromiseLaws
+mod ManyCases
 pub mod Promises
