@@ -15,7 +15,7 @@ use Rattle.table_rows.proofs.LoadLaws.{accepted-of}
 use Rattle.answer_rules.specs.Variants.{VariantsAfter, Lending, variantsRefused, variantsAt}
 use Rattle.variants_root.specs.Several.{literalAnswer, KeyedTable, SomeTable, ClassAnswers}
 use Rattle.extract.proofs.TableLaws.{value-is}
-use Rattle.extract.proofs.KeyedLaws.{arities-length, cells-length, keyed-table}
+use Rattle.extract.proofs.KeyedLaws.{cells-length, keyed-table}
 use Rattle.extract.proofs.VariantRootLaws.{LiteralRoot, ClassRoot, variants-refuse, literal-root, class-root}
 use Rattle.extract.proofs.CallLaws.{standing}
 
@@ -67,27 +67,22 @@ module _
         standing file s v r values labels arities functions cells order flat heads starts children l (root-class
         .table) (root-class .place) (root-class .is)
 
-    pub class-arities : 128 ≡ length arities
-    class-arities =
-        arities-length (root-class .table) known-class s r values labels arities functions cells order flat heads
-        starts children stands-class
-
     pub class-cells : 9216 ≡ length cells
     class-cells =
         cells-length (root-class .table) known-class s r values labels arities functions cells order flat heads starts
         children stands-class
 
     is-keyed :
-        KeyedTable (root-class .table) s n m w order flat heads starts children functions labels values arities cells
+        KeyedTable (root-class .table) s n m w order flat heads starts children functions labels values cells
     is-keyed =
         keyed-table (root-class .table) known-class s r values labels arities functions cells order flat heads starts
         children stands-class c n m w e (root-class .sort)
 
-    pub some-table : SomeTable n m w order flat heads starts children functions labels values arities cells
+    pub some-table : SomeTable n m w order flat heads starts children functions labels values cells
     some-table = record { table = root-class .table; root = s; is = is-keyed }
 
     pub variants-of-class :
         (most : ℕ) (lent : Lending) (a : VariantsAfter) →
-        ClassAnswers n m w order flat heads starts children functions labels values arities cells c most lent a →
+        ClassAnswers n m w order flat heads starts children functions labels values cells c most lent a →
         a ≡ variantsAt file s v most lent
     variants-of-class most lent a q = q (root-class .table) s is-keyed ∙ root-class .answer most lent

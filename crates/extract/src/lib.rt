@@ -159,7 +159,6 @@ pub fn variants(
             &functions,
             &labels,
             &values,
-            &arities,
             &cells,
             c,
             n,

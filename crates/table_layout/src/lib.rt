@@ -53,6 +53,14 @@ pub fn output_of(rows: &[u16], i: usize) -> usize
     wide(rows[i * WIDTH + 2])
 }
 
+// The count of its children.
+pub fn count_of(rows: &[u16], i: usize) -> usize
+    requires { ⌜ HasRow (now rows) i ⌝ }
+    ensures { λ r. ⌜ r ≡ countAt (now (rows .entry)) i ⌝ }
+{
+    wide(rows[i * WIDTH + 3])
+}
+
 // Its children: a number below 512 is a class, 512 + i the literal of index i.
 pub fn children_of(rows: &[u16], i: usize) -> &[u16]
     requires { ⌜ HasRow (now rows) i ⌝ }

@@ -1,6 +1,6 @@
 -- Laws on the kept rows: the first of what is sorted. Assumes nothing.
 use mathlib.Core.Path.{_≡_, refl, sym, ap, subst, _∙_}
-use mathlib.Core.Bool.{Bool, true}
+use mathlib.Core.Bool.{Bool}
 use mathlib.Core.List.{List, _++_}
 use Prim.{Dec, yes, no}
 use Prim.Native.Nat.{ℕ, _+_, _<_, _≤_, min}
@@ -8,7 +8,6 @@ use native.Mathlib.Decide.{decLt}
 use native.Mathlib.Omega.{arith}
 use lib.ListN.{length, getD, take, drop, length-append}
 use lib.Seq.{take-all, take-append-le, length-take-le}
-use Rattle.order.specs.Lawful.{Linear}
 use Rattle.order.specs.Sort.{sorted}
 use Rattle.order.proofs.Sorting.SortLaws.{sorted-length}
 use Rattle.table_rules.specs.Order.{picked}
@@ -38,10 +37,10 @@ take-min most m l e = go (decLt most m)
 
 -- the front of the list that was sorted in part
 module _
-    (prices order functions arities labels cells : List ℕ) (p : ℕ → Bool) (n most m k : ℕ) (list front : List ℕ)
+    (prices rows labels cells : List ℕ) (p : ℕ → Bool) (n most m k : ℕ) (list front : List ℕ)
     (f : Filled list m (picked p 0 n)) (e : k ≡ min most m) where
   abbrev le : ℕ → ℕ → Bool
-  le = noLater (keyIn prices order functions arities labels cells)
+  le = noLater (keyIn prices rows labels cells)
 
   count : length (picked p 0 n) ≡ m
   count = ap (λ (l : List ℕ). length l) (sym (f .held)) ∙ length-take-le m list (f .room)
@@ -65,25 +64,22 @@ module _
       ∙ ap (λ (x : List ℕ). take k (sorted le x)) (f .held)
       ∙ ap (λ (i : ℕ). take i (sorted le (picked p 0 n))) e
       ∙ take-min most m (sorted le (picked p 0 n))
-      (sorted-length le (noLater-linear (keyIn prices order functions arities labels cells)) (picked p 0 n) ∙ count)
+      (sorted-length le (noLater-linear (keyIn prices rows labels cells)) (picked p 0 n) ∙ count)
 
 -- only the number of costs is asked for
 pub keys-of-costs :
-    (prices prices′ order functions arities labels cells : List ℕ) (n : ℕ) →
+    (prices prices′ rows labels cells : List ℕ) (n : ℕ) →
     length prices′ ≡ length prices →
-    KeysIn prices order functions arities labels cells n →
-    KeysIn prices′ order functions arities labels cells n
-keys-of-costs prices prices′ order functions arities labels cells n e v = record {
+    KeysIn prices rows labels cells n →
+    KeysIn prices′ rows labels cells n
+keys-of-costs prices prices′ rows labels cells n e v = record {
   costs-long = omega (arith, v .costs-long);
-  order-long = v .order-long;
   few = v .few;
-  rows = v .rows;
+  long = v .long;
+  name = v .name;
+  name-short = v .name-short;
   cells-long = v .cells-long;
-  function = v .function;
-  names-long = v .names-long;
-  names-short = v .names-short;
   arity = v .arity;
-  arities-few = v .arities-few;
 }
 
 pub parts-of-length :

@@ -17,7 +17,7 @@ fn smaller(a: usize, b: usize) -> usize
 }
 
 // The first `most` rows of class `c` that have a cost, in order, to the front of `list`, and every row's cost into
-// `prices`; how many are kept.
+// `prices`; how many are kept. `rows` has the same rows packed.
 pub fn rows(
     costs: &[u64],
     ranks: &[u64],
@@ -25,9 +25,7 @@ pub fn rows(
     heads: &[u64],
     starts: &[usize],
     children: &[u64],
-    order: &[u64],
-    functions: &[u64],
-    arities: &[u64],
+    rows: &[u16],
     labels: &[u8],
     cells: &[u64],
     c: usize,
@@ -36,26 +34,15 @@ pub fn rows(
     list: &mut [u64],
 ) -> usize
     requires { ⌜ KeptReady (length (now outputs)) (now costs) (now ranks) (now heads) (now starts) (now children)
-        (now order) (now functions) (now arities) (now labels) (now cells) (now prices) (now list) ⌝ }
+        (now rows) (now labels) (now cells) (now prices) (now list) ⌝ }
     ensures { λ r. ⌜ Keeps (now (costs .entry)) (now (ranks .entry)) (now (outputs .entry)) (now (heads .entry))
-        (now (starts .entry)) (now (children .entry)) (now (order .entry)) (now (functions .entry))
-        (now (arities .entry)) (now (labels .entry)) (now (cells .entry)) c most r (now (prices .exit))
-        (now (list .exit)) ⌝ }
+        (now (starts .entry)) (now (children .entry)) (now (rows .entry)) (now (labels .entry)) (now (cells .entry))
+        c most r (now (prices .exit)) (now (list .exit)) ⌝ }
 {
     candidates::price_rows(costs, heads, starts, children, prices);
     let m = candidates::find_rows(ranks, outputs, starts, children, c, list);
     let k = smaller(most, m);
     let n = outputs.len();
-    variant_sort::choose(
-        prices,
-        order,
-        functions,
-        arities,
-        labels,
-        cells,
-        n,
-        &mut list[..m],
-        k,
-    );
+    variant_sort::choose(prices, rows, labels, cells, n, &mut list[..m], k);
     k
 }

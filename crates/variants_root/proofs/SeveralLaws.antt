@@ -167,19 +167,19 @@ module _ (s : Store) (ws ts : List ℕ) (z : ℤ) (formed : wellFormed s ≡ tru
             absurd (omega arith)
 
 pub few-classes :
-    {outputs heads starts children order functions labels : List ℕ} {values : List ℤ} {arities cells : List ℕ} {n : ℕ}
+    {outputs heads starts children order functions labels : List ℕ} {values : List ℤ} {cells : List ℕ} {n : ℕ}
     {s : Store} →
-    VariantsReady outputs heads starts children order functions labels values arities cells n s →
+    VariantsReady outputs heads starts children order functions labels values cells n s →
     n ≤ 512
 few-classes r = omega (arith, r .classes, r .is .is .known .few-classes)
 
 -- The same lists with their own length for the number of classes.
 pub ready-with :
-    {outputs heads starts children order functions labels : List ℕ} {values : List ℤ} {arities cells : List ℕ} {n m :
+    {outputs heads starts children order functions labels : List ℕ} {values : List ℤ} {cells : List ℕ} {n m :
     ℕ}
     {s : Store} →
     n ≡ m →
-    VariantsReady outputs heads starts children order functions labels values arities cells n s →
-    VariantsReady outputs heads starts children order functions labels values arities cells m s
-ready-with {outputs} {heads} {starts} {children} {order} {functions} {labels} {values} {arities} {cells} {s = s} e r =
-    subst (λ (k : ℕ). VariantsReady outputs heads starts children order functions labels values arities cells k s) e r
+    VariantsReady outputs heads starts children order functions labels values cells n s →
+    VariantsReady outputs heads starts children order functions labels values cells m s
+ready-with {outputs} {heads} {starts} {children} {order} {functions} {labels} {values} {cells} {s = s} e r =
+    subst (λ (k : ℕ). VariantsReady outputs heads starts children order functions labels values cells k s) e r

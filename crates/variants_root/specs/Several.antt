@@ -16,7 +16,14 @@ use Rattle.file_rules.specs.Table.{Table}
 use Rattle.table_rules.specs.Rules.Classes.{classCount}
 use Rattle.table_rules.specs.Rules.Choosing.{runOf, pricesFor}
 use Rattle.answer_rules.specs.Answers.{value, refusal}
-use Rattle.answer_rules.specs.Variants.{VariantsAfter, Lending, keptRows, variantLiteral, variantsOfRows, variantsRefused}
+use Rattle.answer_rules.specs.Variants.{
+  VariantsAfter,
+  Lending,
+  keptRows,
+  variantLiteral,
+  variantsOfRows,
+  variantsRefused,
+}
 use Rattle.variants_root.specs.Flat.{VariantTable}
 use Rattle.variant_answers.specs.declared.Variants.{Variants}
 use Rattle.variant_answers.specs.declared.Variants.the-variants.{Kept as KeptRows, TooDear as Dear, NoRoom as Full}
@@ -60,7 +67,7 @@ classAnswer t root c most l =
 -- The lists are those of table t for a root sort: n rows with m children, over w classes.
 pub record KeyedTable
     (t : Table) (root n m w : ℕ) (order flat heads starts children functions labels : List ℕ) (values : List ℤ)
-    (arities cells : List ℕ) : Type 0 where
+    (cells : List ℕ) : Type 0 where
   pub order-room : n ≤ length order
   pub flat-room : n ≤ length flat
   pub heads-room : n ≤ length heads
@@ -69,15 +76,14 @@ pub record KeyedTable
   pub classes-are : w ≡ classCount t
   pub is :
       VariantTable t root (take n flat) (take n heads) (take (n + 1) starts) (take m children) (take n order) functions
-      labels values arities cells
+      labels values cells
 
 -- There is a table and a root of which `KeyedTable` holds.
 pub record SomeTable
-    (n m w : ℕ) (order flat heads starts children functions labels : List ℕ) (values : List ℤ) (arities cells : List
-    ℕ) : Type 0 where
+    (n m w : ℕ) (order flat heads starts children functions labels : List ℕ) (values : List ℤ) (cells : List ℕ) : Type 0 where
   pub table : Table
   pub root : ℕ
-  pub is : KeyedTable table root n m w order flat heads starts children functions labels values arities cells
+  pub is : KeyedTable table root n m w order flat heads starts children functions labels values cells
 
 -- For every table that the lists can be of, the answer for class c and at most `most` variants is the definition's.
 abbrev pub ClassAnswers :
@@ -93,13 +99,12 @@ abbrev pub ClassAnswers :
     List ℕ →
     List ℤ →
     List ℕ →
-    List ℕ →
     ℕ →
     ℕ →
     Lending →
     VariantsAfter →
     Type 0
-ClassAnswers n m w order flat heads starts children functions labels values arities cells c most l a =
+ClassAnswers n m w order flat heads starts children functions labels values cells c most l a =
     (t : Table) (root : ℕ) →
-    KeyedTable t root n m w order flat heads starts children functions labels values arities cells →
+    KeyedTable t root n m w order flat heads starts children functions labels values cells →
     a ≡ classAnswer t root c most l

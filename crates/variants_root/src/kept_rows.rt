@@ -2,10 +2,9 @@
 // (src/extract.rs, extract_variants_with_sort)
 ghost use lib.ListN.{length};
 ghost use Rattle.term_rules.specs.Lent.{store};
-ghost use Rattle.table_layout.specs.Packed.{Packed};
 ghost use Rattle.price.specs.Solved.{Blank};
 ghost use Rattle.variant_answers.specs.Kept.{lending, seen};
-ghost use Rattle.variants_root.specs.Flat.{VariantsReady, VariantsAnswers};
+ghost use Rattle.variants_root.specs.Flat.{KeyedReady, KeyedAnswers};
 use variant_answers::Variants;
 
 // The first `most` variants of class `c`, by packed rows, on lists of one place for each class that are all zero
@@ -15,12 +14,9 @@ pub fn decide(
     heads: &[u64],
     starts: &[usize],
     children: &[u64],
-    order: &[u64],
-    functions: &[u64],
     rows: &[u16],
     labels: &[u8],
     values: &[i64],
-    arities: &[u64],
     cells: &[u64],
     c: usize,
     most: usize,
@@ -35,15 +31,12 @@ pub fn decide(
     paid: &mut [u64],
     found: &mut [u64],
 ) -> Variants
-    requires { ⌜ VariantsReady (now outputs) (now heads) (now starts) (now children) (now order) (now functions)
-        (now labels) (now values) (now arities) (now cells) (length (now ranks))
-        (store (now records) (now literals) (now names) terms symbols) ⌝ }
-    requires { ⌜ Packed (now order) (now functions) (now outputs) (now starts) (now children) (now rows)
-        (length (now outputs)) ⌝ }
+    requires { ⌜ KeyedReady (now outputs) (now heads) (now starts) (now children) (now rows) (now labels) (now values)
+        (now cells) (length (now ranks)) (store (now records) (now literals) (now names) terms symbols) ⌝ }
     requires { ⌜ Blank (length (now ranks)) (now costs) (now ranks) (now edges) ⌝ }
-    ensures { λ r. ⌜ VariantsAnswers (now (outputs .entry)) (now (heads .entry)) (now (starts .entry))
-        (now (children .entry)) (now (order .entry)) (now (functions .entry)) (now (labels .entry))
-        (now (values .entry)) (now (arities .entry)) (now (cells .entry)) (length (now (ranks .entry))) c most
+    ensures { λ r. ⌜ KeyedAnswers (now (outputs .entry)) (now (heads .entry)) (now (starts .entry))
+        (now (children .entry)) (now (rows .entry)) (now (labels .entry)) (now (values .entry)) (now (cells .entry))
+        (length (now (ranks .entry))) c most
         (lending (store (now (records .entry)) (now (literals .entry)) (now (names .entry)) terms symbols)
         (now (paid .entry)) (now (found .entry)))
         (seen r terms symbols (now (records .exit)) (now (literals .exit)) (now (names .exit)) (now (paid .exit))
@@ -59,9 +52,7 @@ pub fn decide(
         heads,
         starts,
         children,
-        order,
-        functions,
-        arities,
+        rows,
         labels,
         cells,
         c,

@@ -88,7 +88,6 @@ fn choose(
     functions: &[u64],
     labels: &[u8],
     values: &[i64],
-    arities: &[u64],
     cells: &[u64],
     c: usize,
     w: usize,
@@ -102,11 +101,11 @@ fn choose(
     found: &mut [u64],
 ) -> VariantsAnswer
     requires { ⌜ VariantsReady (now outputs) (now heads) (now starts) (now children) (now order) (now functions)
-        (now labels) (now values) (now arities) (now cells) w
+        (now labels) (now values) (now cells) w
         (store (now records) (now literals) (now names) terms symbols) ⌝ }
     ensures { λ r. ⌜ VariantsAnswers (now (outputs .entry)) (now (heads .entry)) (now (starts .entry))
         (now (children .entry)) (now (order .entry)) (now (functions .entry)) (now (labels .entry))
-        (now (values .entry)) (now (arities .entry)) (now (cells .entry)) w c most
+        (now (values .entry)) (now (cells .entry)) w c most
         (lending (store (now (records .entry)) (now (literals .entry)) (now (names .entry)) terms symbols)
         (now (paid .entry)) (now (found .entry)))
         (seenVariants r terms symbols (now (records .exit)) (now (literals .exit)) (now (names .exit))
@@ -122,12 +121,9 @@ fn choose(
         heads,
         starts,
         children,
-        order,
-        functions,
         &rows,
         labels,
         values,
-        arities,
         cells,
         c,
         most,
@@ -156,7 +152,6 @@ pub fn of_class(
     functions: &[u64],
     labels: &[u8],
     values: &[i64],
-    arities: &[u64],
     cells: &[u64],
     c: u64,
     n: usize,
@@ -172,10 +167,10 @@ pub fn of_class(
     found: &mut [u64],
 ) -> VariantsAnswer
     requires { ⌜ SomeTable n m w (now order) (now flat) (now heads) (now starts) (now children) (now functions)
-        (now labels) (now values) (now arities) (now cells) ⌝ }
+        (now labels) (now values) (now cells) ⌝ }
     ensures { λ r. ⌜ ClassAnswers n m w (now (order .entry)) (now (flat .entry)) (now (heads .entry))
         (now (starts .entry)) (now (children .entry)) (now (functions .entry)) (now (labels .entry))
-        (now (values .entry)) (now (arities .entry)) (now (cells .entry)) c most
+        (now (values .entry)) (now (cells .entry)) c most
         (lending (store (now (records .entry)) (now (literals .entry)) (now (names .entry)) terms symbols)
         (now (paid .entry)) (now (found .entry)))
         (seenVariants r terms symbols (now (records .exit)) (now (literals .exit)) (now (names .exit))
@@ -193,7 +188,6 @@ pub fn of_class(
         functions,
         labels,
         values,
-        arities,
         cells,
         c as usize,
         w,

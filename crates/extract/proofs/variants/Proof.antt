@@ -13,7 +13,6 @@ use Rattle.extract.proofs.CallLaws.{
 use Rattle.extract.proofs.VariantCallLaws.{
   refused-variants,
   variant-of-literal,
-  class-arities,
   class-cells,
   some-table,
   variants-of-class,
@@ -121,34 +120,15 @@ slice-aggregate-of-class-8 c =
 
 slice-aggregate-of-class-9 : tie.Need-slice-aggregate-of-class-9
 slice-aggregate-of-class-9 c =
-    let a = c .before .before .before .before .before .before .before .before .before .before .before .before .before
-    .before .before .before .before .before .before .before .before .before .before .before .before .before .before
-    .before .before .before .before .before .before .args in
-    let d = c .before .before .before .before .before .before .before .before .before .before .before .before .before
-    .before .before .before .before .load in
-    class-arities (a .file .now) (a .sort) (a .value) (d .result) _ _ _ _ _ _ _ _ _ _ (d .ensures) _ _ _ _ (c .before
-    .before .before .before .before .before .before .before .before .before .loaded3 .given .1)
-
-slice-aggregate-of-class-10 : tie.Need-slice-aggregate-of-class-10
-slice-aggregate-of-class-10 c =
-    let a = c .before .before .before .before .before .before .before .before .before .before .before .before .before
-    .before .before .before .before .before .before .before .before .before .before .before .before .before .before
-    .before .before .before .before .before .before .before .args in
-    let d = c .before .before .before .before .before .before .before .before .before .before .before .before .before
-    .before .before .before .before .before .load in
-    class-cells (a .file .now) (a .sort) (a .value) (d .result) _ _ _ _ _ _ _ _ _ _ (d .ensures) _ _ _ _ (c .before
-    .before .before .before .before .before .before .before .before .before .before .loaded3 .given .1)
+    let a = c .before .before .before .before .before .before .before .before .before .before .before .before .before .before .before .before .before .before .before .before .before .before .before .before .before .before .before .before .before .before .before .before .before .args in
+    let d = c .before .before .before .before .before .before .before .before .before .before .before .before .before .before .before .before .before .load in
+    class-cells (a .file .now) (a .sort) (a .value) (d .result) _ _ _ _ _ _ _ _ _ _ (d .ensures) _ _ _ _ (c .before .before .before .before .before .before .before .before .before .before .loaded3 .given .1)
 
 of-class-requires : tie.Need-of-class-requires
 of-class-requires c κs =
-    let a = c .before .before .before .before .before .before .before .before .before .before .before .before .before
-    .before .before .before .before .before .before .before .before .before .before .before .before .before .before
-    .before .before .before .before .before .before .before .before .before .before .before .before .args in
-    let d = c .before .before .before .before .before .before .before .before .before .before .before .before .before
-    .before .before .before .before .before .before .before .before .before .before .load in
-    some-table (a .file .now) (a .sort) (a .value) (d .result) _ _ _ _ _ _ _ _ _ _ (d .ensures) _ _ _ _ (c .before
-    .before .before .before .before .before .before .before .before .before .before .before .before .before .before
-    .before .loaded3 .given .1)
+    let a = c .before .before .before .before .before .before .before .before .before .before .before .before .before .before .before .before .before .before .before .before .before .before .before .before .before .before .before .before .before .before .before .before .before .before .before .before .before .before .args in
+    let d = c .before .before .before .before .before .before .before .before .before .before .before .before .before .before .before .before .before .before .before .before .before .before .load in
+    some-table (a .file .now) (a .sort) (a .value) (d .result) _ _ _ _ _ _ _ _ _ _ (d .ensures) _ _ _ _ (c .before .before .before .before .before .before .before .before .before .before .before .before .before .before .before .loaded3 .given .1)
 
 returns : tie.Need-returns
 returns c =
@@ -207,16 +187,10 @@ same-length-10 c = search needs
 
 returns-3 : tie.Need-returns-3
 returns-3 c =
-    let a = c .before .before .before .before .before .before .before .before .before .before .before .before .before
-    .before .before .before .before .before .before .before .before .before .before .before .before .before .before
-    .before .before .before .before .before .before .before .before .before .before .before .before .before .before
-    .before .before .before .before .before .before .before .before .args in
-    let d = c .before .before .before .before .before .before .before .before .before .before .before .before .before
-    .before .before .before .before .before .before .before .before .before .before .before .before .before .before
-    .before .before .before .before .before .before .load in
+    let a = c .before .before .before .before .before .before .before .before .before .before .before .before .before .before .before .before .before .before .before .before .before .before .before .before .before .before .before .before .before .before .before .before .before .before .before .before .before .before .before .before .before .before .before .before .before .before .before .before .args in
+    let d = c .before .before .before .before .before .before .before .before .before .before .before .before .before .before .before .before .before .before .before .before .before .before .before .before .before .before .before .before .before .before .before .before .load in
     variants-of-class (a .file .now) (a .sort) (a .value) (d .result) _ _ _ _ _ _ _ _ _ _ (d .ensures) _ _ _ _
-    (c .before .before .before .before .before .before .before .before .before .before .before .before .before
-    .before .before .before .before .before .before .before .before .before .before .before .before .before .loaded3
+    (c .before .before .before .before .before .before .before .before .before .before .before .before .before .before .before .before .before .before .before .before .before .before .before .before .before .loaded3
     .given .1) (a .most)
     (lending (store (a .records .now) (a .literals .now) (a .names .now) (a .terms) (a .symbols)) (a .costs .now)
     (a .found .now)) _ (c .before .before .before .before .before .before .before .before .before .of-class .ensures)
@@ -245,7 +219,6 @@ variants-spec =
     slice-aggregate-of-class-7
     slice-aggregate-of-class-8
     slice-aggregate-of-class-9
-    slice-aggregate-of-class-10
     of-class-requires
     returns
     same-length

@@ -12,20 +12,16 @@ use Rattle.variant_rows.proofs.rows.Tie as tie
 
 price-rows-requires : tie.Need-price-rows-requires
 price-rows-requires c κs =
-    let a = c .before .before .before .before .before .before .before .before .before .before .before .before .before
-    .before .args in
-    let p = c .before .before .before .before .before .before .before .before .before .before .before .before .before
-    .before .pre in (
+    let a = c .before .before .before .before .before .before .before .before .before .before .before .before .args in
+    let p = c .before .before .before .before .before .before .before .before .before .before .before .before .pre in (
       parts-of-length _ _ _ _ (a .starts .now) (a .children .now) refl (sym (p .heads-length)) (p .parts),
       omega (arith, p .heads-length, p .keys .costs-long),
     )
 
 find-rows-requires : tie.Need-find-rows-requires
 find-rows-requires c κs =
-    let a = c .before .before .before .before .before .before .before .before .before .before .before .before .before
-    .before .before .before .before .before .args in
-    let p = c .before .before .before .before .before .before .before .before .before .before .before .before .before
-    .before .before .before .before .before .pre in (
+    let a = c .before .before .before .before .before .before .before .before .before .before .before .before .before .before .before .before .args in
+    let p = c .before .before .before .before .before .before .before .before .before .before .before .before .before .before .before .before .pre in (
       parts-of-length _ _ _ _ (a .starts .now) (a .children .now) (sym (p .ranks-length)) refl (p .parts),
       p
           .list-long,
@@ -44,23 +40,20 @@ slice-aggregate-choose c =
 
 choose-requires : tie.Need-choose-requires
 choose-requires c κs =
-    let a = c .before .before .before .before .before .before .before .before .before .before .before .before .before
-    .before .before .before .before .before .before .before .before .before .before .before .args in
-    let p = c .before .before .before .before .before .before .before .before .before .before .before .before .before
-    .before .before .before .before .before .before .before .before .before .before .before .pre in
+    let a = c .before .before .before .before .before .before .before .before .before .before .before .before .before .before .before .before .before .before .before .before .before .before .args in
+    let p = c .before .before .before .before .before .before .before .before .before .before .before .before .before .before .before .before .before .before .before .before .before .before .pre in
     let f = c .before .before .before .before .before .find-rows in
     let s = c .before .before .smaller in
     let q = isCandidate (a .ranks .now) (a .outputs .now) (a .starts .now) (a .children .now) (a .c) in
     let list = f .last .1 .1 .1 .1 .1 .0 in
     let e = length-take-le (f .result) list (f .ensures .room) in (
       keys-of-costs (a .prices .now) (c .before .before .before .before .before .before .before .before .before
-          .price-rows .last .1 .1 .1 .1 .0) (a .order .now) (a .functions .now)
-          (a .arities .now) (a .labels .now) (a .cells .now) (length (a .outputs .now)) (c .before .before .before
+          .price-rows .last .1 .1 .1 .1 .0) (a .rows .now) (a .labels .now) (a .cells .now) (length (a .outputs .now)) (c .before .before .before
           .before .before .before .before .before .before .price-rows .kept .1 .1 .1 .1 .0) (p .keys),
       (
         omega (arith, e, s .ensures),
         front-below (c .before .before .before .before .before .before .before .before .before .price-rows .last .1
-            .1 .1 .1 .0) (a .order .now) (a .functions .now) (a .arities .now) (a .labels .now)
+            .1 .1 .1 .0) (a .rows .now) (a .labels .now)
             (a .cells .now) q (length (a .outputs .now)) (a .most) (f .result) (s .result) list list (f .ensures) (s
             .ensures),
       ),
@@ -74,34 +67,28 @@ same-length-2 c = search needs
 
 returns : tie.Need-returns
 returns c =
-    let a = c .before .before .before .before .before .before .before .before .before .before .before .before .before
-    .before .before .before .before .before .before .before .before .before .before .before .before .before .before
-    .args in
-    let p = c .before .before .before .before .before .before .before .before .before .before .before .before .before
-    .before .before .before .before .before .before .before .before .before .before .before .before .before .before
-    .pre in
+    let a = c .before .before .before .before .before .before .before .before .before .before .before .before .before .before .before .before .before .before .before .before .before .before .before .before .before .args in
+    let p = c .before .before .before .before .before .before .before .before .before .before .before .before .before .before .before .before .before .before .before .before .before .before .before .before .before .pre in
     let f = c .before .before .before .before .before .before .before .before .find-rows in
     let s = c .before .before .before .before .before .smaller in
     let w = c .before .before .choose in
     let q = isCandidate (a .ranks .now) (a .outputs .now) (a .starts .now) (a .children .now) (a .c) in
     let list = f .last .1 .1 .1 .1 .1 .0 in
-    let front = w .last .1 .1 .1 .1 .1 .1 .1 .0 in
+    let front = w .last .1 .1 .1 .1 .1 .0 in
     let e = length-take-le (f .result) list (f .ensures .room) in
     record {
       priced = λ i h. c .before .before .before .before .before .before .before .before .before .before .before
           .before .price-rows .ensures i (omega (arith, h, p .heads-length));
       room =
           front-room (c .before .before .before .before .before .before .before .before .before .before .before
-          .before .price-rows .last .1 .1 .1 .1 .0) (a .order .now) (a .functions .now) (a .arities .now) (a .labels
-          .now)
+          .before .price-rows .last .1 .1 .1 .1 .0) (a .rows .now) (a .labels .now)
           (a .cells .now) q (length (a .outputs .now)) (a .most) (f .result) (s .result) list front (f .ensures)
-          (s .ensures) (w .kept .1 .1 .1 .1 .1 .1 .1 .0);
+          (s .ensures) (w .kept .1 .1 .1 .1 .1 .0);
       are =
           front-are (c .before .before .before .before .before .before .before .before .before .before .before
-          .before .price-rows .last .1 .1 .1 .1 .0) (a .order .now) (a .functions .now) (a .arities .now) (a .labels
-          .now)
+          .before .price-rows .last .1 .1 .1 .1 .0) (a .rows .now) (a .labels .now)
           (a .cells .now) q (length (a .outputs .now)) (a .most) (f .result) (s .result) list front (f .ensures)
-          (s .ensures) (w .kept .1 .1 .1 .1 .1 .1 .1 .0) (w .ensures);
+          (s .ensures) (w .kept .1 .1 .1 .1 .1 .0) (w .ensures);
     }
 
 pub rows-spec : {M : Type 1} → statement M

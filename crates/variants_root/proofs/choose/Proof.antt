@@ -16,8 +16,7 @@ slice-aggregate-fill c = search needs
 
 fill-requires : tie.Need-fill-requires
 fill-requires c κs =
-    let g = c .before .before .before .before .before .before .before .before .before .before .before .before .before
-    .before in
+    let g = c .before .before .before .before .before .before .before .before .before .before .before .before .before in
     let a = g .args in
     let r = g .pre in
     let n = length-replicate {A = ℕ} 12288 0 in (
@@ -34,8 +33,7 @@ array-borrow-prefix-costs c = search needs
 
 slice-aggregate-decide-2 : tie.Need-slice-aggregate-decide-2
 slice-aggregate-decide-2 c =
-    let g = c .before .before .before .before .before .before .before .before .before .before .before .before .before
-    .before .before .before .before .before in
+    let g = c .before .before .before .before .before .before .before .before .before .before .before .before .before .before .before .before .before in
     take-zeros-length (g .args .w) 512 (few-classes (g .pre))
 
 array-borrow-prefix-ranks : tie.Need-array-borrow-prefix-ranks
@@ -43,8 +41,7 @@ array-borrow-prefix-ranks c = search needs
 
 slice-aggregate-decide-3 : tie.Need-slice-aggregate-decide-3
 slice-aggregate-decide-3 c =
-    let g = c .before .before .before .before .before .before .before .before .before .before .before .before .before
-    .before .before .before .before .before .before in
+    let g = c .before .before .before .before .before .before .before .before .before .before .before .before .before .before .before .before .before .before in
     take-zeros-length (g .args .w) 512 (few-classes (g .pre))
 
 array-borrow-prefix-edges : tie.Need-array-borrow-prefix-edges
@@ -52,21 +49,20 @@ array-borrow-prefix-edges c = search needs
 
 slice-aggregate-decide-4 : tie.Need-slice-aggregate-decide-4
 slice-aggregate-decide-4 c =
-    let g = c .before .before .before .before .before .before .before .before .before .before .before .before .before
-    .before .before .before .before .before .before .before in
+    let g = c .before .before .before .before .before .before .before .before .before .before .before .before .before .before .before .before .before .before .before in
     take-zeros-length (g .args .w) 512 (few-classes (g .pre))
 
 decide-requires : tie.Need-decide-requires
 decide-requires c κs =
-    let g = c .before .before .before .before .before .before .before .before .before .before .before .before .before
-    .before .before .before .before .before .before .before .before .before .before .before .before in
+    let g = c .before .before .before .before .before .before .before .before .before .before .before .before .before .before .before .before .before .before .before .before .before .before .before .before in
     let l = few-classes (g .pre) in (
-      ready-with (take-zeros-length (g .args .w) 512 l) (g .pre),
-      (
-        c .before .before .before .before .before .before .before .before .before .before .fill .ensures,
-        blank-lists
-            (g .args .w) 512 _ refl l,
-      ),
+      record {
+        order = g .args .order .now;
+        functions = g .args .functions .now;
+        packed = c .before .before .before .before .before .before .before .before .before .before .fill .ensures;
+        is = ready-with (take-zeros-length (g .args .w) 512 l) (g .pre);
+      },
+      blank-lists (g .args .w) 512 _ refl l,
     )
 
 answer-from-requires : tie.Need-answer-from-requires
@@ -89,14 +85,13 @@ same-length-5 c = search needs
 
 returns : tie.Need-returns
 returns c t root v e =
-    let g = c .before .before .before .before .before .before .before .before .before .before .before .before .before
-    .before .before .before .before .before .before .before .before .before .before .before .before .before .before
-    .before .before .before .before .before .before .before .before .before .before .before .before in
+    let g = c .before .before .before .before .before .before .before .before .before .before .before .before .before .before .before .before .before .before .before .before .before .before .before .before .before .before .before .before .before .before .before .before .before .before .before .before .before .before in
     let l = few-classes (g .pre) in
     let d = c .before .before .before .before .before .before .before .before .before .before .before .before .before
     .decide in
     answer-seen (d .result) (c .answer-from .result) (g .args .terms) (g .args .symbols) _ _ _ _ _ _
-    (c .answer-from .ensures) (d .ensures t root v (sym (take-zeros-length (g .args .w) 512 l) ∙ e))
+    (c .answer-from .ensures)
+    (d .ensures (g .args .order .now) (g .args .functions .now) (c .before .before .before .before .before .before .before .before .before .before .before .before .before .before .before .before .before .before .before .before .before .before .before .before .fill .ensures) t root v (sym (take-zeros-length (g .args .w) 512 l) ∙ e))
 
 pub choose-spec : {M : Type 1} → statement M
 choose-spec =

@@ -89,13 +89,13 @@ built-is t root p prices rows l e f (full me rs ls ns) = refl
 
 module _
     (t : Table) (root : ℕ) (outputs heads starts children order functions labels : List ℕ) (values : List ℤ)
-    (arities cells : List ℕ)
-    (v : VariantTable t root outputs heads starts children order functions labels values arities cells)
+    (cells : List ℕ)
+    (v : VariantTable t root outputs heads starts children order functions labels values cells)
     (costs ranks edges : List ℕ) (passes last : ℕ) (long : length ranks ≡ classCount t)
     (w : Solved (classCount t) passes last outputs heads starts children costs ranks edges)
     (packed : List ℕ) (pk : Packed order functions outputs starts children packed (length outputs))
     (prices : List ℕ) (p : Prices costs heads starts children (length outputs) prices) (c most : ℕ) (rows : List ℕ)
-    (are : rows ≡ keptIn prices ranks outputs starts children order functions arities labels cells c most) where
+    (are : rows ≡ keptIn prices ranks outputs starts children packed labels cells c most) where
   from :
       (j : ℕ) →
       j < length rows →
@@ -105,21 +105,21 @@ module _
       (λ (x : List ℕ).
       (j : ℕ) → j < length x → Passes (isCandidate ranks outputs starts children c) (getD x j 0) 0 (length outputs))
       (sym are)
-      (kept-from t root outputs heads starts children order functions labels values arities cells v costs ranks edges passes last long w prices p c most)
+      (kept-from t root outputs heads starts children order functions labels values cells v costs ranks edges passes last long w prices p packed pk c most)
 
   kept-below : AllBelow (length outputs) rows
   kept-below j h = omega (arith, from j h .high)
 
   price : (i : ℕ) → i < length outputs → getD prices i 0 ≡ costFor t (pricesFor t root) i
   price =
-      cost-is t root outputs heads starts children order functions labels values arities cells v costs ranks edges passes last long w prices p
+      cost-is t root outputs heads starts children order functions labels values cells v costs ranks edges passes last long w prices p
 
   -- the kept rows can be built if none is too dear
   all-listed : dearIn prices rows ≡ false → AllListed (buildRank (pricesFor t root)) packed ranks labels values rows
   all-listed e j h =
       let i : ℕ = getD rows j 0 in
       let b : i < length outputs = kept-below j h in
-      listed t root outputs heads starts children order functions labels values arities cells v costs ranks edges
+      listed t root outputs heads starts children order functions labels values cells v costs ranks edges
       passes last long w i b (and-cases (eqb (getD outputs i 0) c) (allOf (priced ranks) (map
       flatChild (partOf starts children i))) (from j h .passes) .1) (subst (λ (x : ℕ). x < top) (p i b) (not-dear
       prices rows e j h)) packed pk
@@ -160,7 +160,7 @@ module _
 
     depth-enough : Deep ranks (depthFor (pricesFor t root))
     depth-enough =
-        deep t root outputs heads starts children order functions labels values arities cells v costs ranks edges passes last long w
+        deep t root outputs heads starts children order functions labels values cells v costs ranks edges passes last long w
 
     when-dear :
         dearIn prices rows ≡ true →
@@ -188,11 +188,11 @@ module _
         let d : anyDear t (pricesFor t root) rows ≡ false = sym (dear-is t root (length outputs) prices price rows kept-below) ∙ e in
         rw (e, r, answerIn) (rw (d, r, variantsOfRows)
         (built-is t root passes prices rows l
-        (passes-are t root outputs heads starts children order functions labels values arities cells v costs ranks edges passes last long w) (costs-are t root (length outputs) prices price rows kept-below)
+        (passes-are t root outputs heads starts children order functions labels values cells v costs ranks edges passes last long w) (costs-are t root (length outputs) prices price rows kept-below)
         built
         ∙ ap (variantsBuilt t (pricesFor t root) (runOf t root .passes) l rows)
         (sym
-        (variants-are t root outputs heads starts children order functions labels values arities cells v costs ranks edges passes last long w packed pk depth depth-enough rows kept-below (all-listed e) (state (replicate 512 0) (l
+        (variants-are t root outputs heads starts children order functions labels values cells v costs ranks edges passes last long w packed pk depth depth-enough rows kept-below (all-listed e) (state (replicate 512 0) (l
         .store)) []))))
 
     of-rows : answerIn passes prices rows l (wholly (l .store) built) ≡ variantsOfRows t (pricesFor t root) (runOf t root .passes) l rows
@@ -206,7 +206,7 @@ module _
         of-rows
         ∙ ap (variantsOfRows t (pricesFor t root) (runOf t root .passes) l)
         (are
-        ∙ kept-is t root outputs heads starts children order functions labels values arities cells v costs ranks edges passes last long w prices p c most)
+        ∙ kept-is t root outputs heads starts children order functions labels values cells v costs ranks edges passes last long w prices p packed pk c most)
 
     -- an answer that is right at every depth is the definition's
     pub answer-told :

@@ -44,8 +44,8 @@ below-min M h s l = omega arith
 
 module _
     (t : Table) (root : ℕ) (outputs heads starts children order functions labels : List ℕ) (values : List ℤ)
-    (arities cells : List ℕ)
-    (v : VariantTable t root outputs heads starts children order functions labels values arities cells)
+    (cells : List ℕ)
+    (v : VariantTable t root outputs heads starts children order functions labels values cells)
     (costs ranks edges : List ℕ) (passes last : ℕ) (long : length ranks ≡ classCount t)
     (w : Solved (classCount t) passes last outputs heads starts children costs ranks edges)
   where
@@ -53,7 +53,7 @@ module _
     f = v .is
 
     many : length order ≡ length outputs
-    many = rows-many t root outputs heads starts children order functions labels values arities cells v
+    many = rows-many t root outputs heads starts children order functions labels values cells v
 
     -- the definition's depth is enough
     pub deep : Deep ranks (depthFor (pricesFor t root))
@@ -144,7 +144,7 @@ module _
                 omega (
                   arith,
                   ap length (row .children-are),
-                  few-kids t root outputs heads starts children order functions labels values arities cells v i h,
+                  few-kids t root outputs heads starts children order functions labels values cells v i h,
                 );
             each =
                 subst

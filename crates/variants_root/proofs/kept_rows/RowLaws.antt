@@ -7,12 +7,15 @@ use Prim.Native.Nat.{ℕ, _+_, _*_, _-_, _<_, _≤_}
 use native.Mathlib.Omega.{arith}
 use lib.Dec.{eqb}
 use lib.IntN.{ℤ}
-use lib.ListN.{length, getD, take, drop, length-take}
+use lib.ListN.{length, getD, take, drop, length-take, length-drop}
 use Rattle.name.specs.Entries.{nameAt}
 use Rattle.choice_rules.specs.Rows.{Row, rowAt}
 use Rattle.choice_rules.specs.Run.{Run, rowPriced, rowCost}
-use Rattle.price_passes.specs.Flat.{rowOf, partOf, ranTo}
+use Rattle.table_layout.specs.Rows.{width, fileRowAt, functionAt, countAt}
+use Rattle.table_layout.specs.Packed.{Packed}
+use Rattle.price_passes.specs.Flat.{rowOf, partOf, ranTo, childOf}
 use Rattle.price_passes.proofs.FlatLaws.{rows-length, rows-get}
+use Rattle.choice_rules.proofs.Demand.OrderLaws.{map-length}
 use Rattle.price.specs.Solved.{Solved}
 use Rattle.file_rules.specs.Table.{Table}
 use Rattle.table_rules.specs.Rules.Classes.{classCount}
@@ -20,6 +23,8 @@ use Rattle.table_rules.specs.Rules.Rows.{tableRowOf}
 use Rattle.table_rules.specs.Rules.Order.{scanned}
 use Rattle.table_rules.specs.Rules.Choosing.{limit, runOf, pricesFor}
 use Rattle.table_rules.specs.Rules.Terms.{nameOf}
+use Rattle.table_rules.specs.Rules.Facts.{arityOf}
+use Rattle.table_rules.proofs.Rules.CoverLaws.{children-length}
 use Rattle.table_rules.specs.Order.{picked}
 use Rattle.table_rules.proofs.PickedLaws.{Passes, picked-same}
 use Rattle.variant_order.specs.Keys.{noLater}
@@ -27,7 +32,7 @@ use Rattle.order.specs.Sort.{sorted}
 use Rattle.variant_order.specs.Arrays.{cellsIn, keyIn, KeysIn}
 use Rattle.answer_rules.specs.Variants.{fileRow, costFor, isVariant, variantRows, keyFor, keptRows}
 use Rattle.best_class.specs.Flat.{FlatTable}
-use Rattle.best_class.proofs.SolvedLaws.{order-length, order-below, run-is}
+use Rattle.best_class.proofs.SolvedLaws.{order-length, order-below, part-children, run-is}
 use Rattle.variant_rows.specs.Candidates.{PartsIn, priceOf, Prices, isCandidate}
 use Rattle.variant_rows.specs.Kept.{KeptReady, keptIn}
 use Rattle.variant_rows.proofs.KeptLaws.{picked-below}
@@ -36,8 +41,8 @@ use Rattle.variants_root.proofs.kept_rows.SortLaws.{sorted-by-keys, kep
 
 module _
     (t : Table) (root : ℕ) (outputs heads starts children order functions labels : List ℕ) (values : List ℤ)
-    (arities cells : List ℕ)
-    (v : VariantTable t root outputs heads starts children order functions labels values arities cells) where
+    (cells : List ℕ)
+    (v : VariantTable t root outputs heads starts children order functions labels values cells) where
   abbrev f : FlatTable t root outputs heads starts children order functions labels values
   f = v .is
 
@@ -69,51 +74,11 @@ module _
     kids = λ i h l. omega (arith, e, f .flat .children-in i h l);
   }
 
-  keys :
-      (prices : List ℕ) →
-      length outputs ≤ length prices →
-      KeysIn prices order functions arities labels cells (length outputs)
-  keys prices l = record {
-    costs-long = l;
-    order-long = omega (arith, rows-many);
-    few = f .functions-few;
-    rows = λ i h. omega (arith, below i h, f .functions-long);
-    cells-long = v .cells-long;
-    function = λ i h. v .function (getD order i 0) (below i h);
-    names-long = v .labels-long;
-    names-short = v .labels-short;
-    arity = v .arity;
-    arities-few = v .arities-few;
-  }
-
-  -- all that is asked to find the kept rows
-  pub kept-ready :
-      (costs ranks prices list : List ℕ) →
-      length costs ≡ classCount t →
-      length costs ≡ length ranks →
-      1024 ≤ length prices →
-      1024 ≤ length list →
-      KeptReady (length outputs) costs ranks heads starts children order functions arities labels cells prices list
-  kept-ready costs ranks prices list e q a b = record {
-    parts = parts (length costs) e;
-    ranks-length = sym q;
-    heads-length = f .flat .heads-length;
-    keys = keys prices (omega (arith, a, f .flat .few-rows));
-    list-long = omega (arith, b, f .flat .few-rows);
-  }
-
   pub name-is :
       (i : ℕ) →
       i < length outputs →
       nameAt labels (getD functions (getD order i 0) 0) ≡ nameOf t (fileRow (pricesFor t root) i)
   name-is i h = f .label (getD order i 0) (below i h) ∙ ap (nameOf t) (file-row i)
-
-  cells-is :
-      (i : ℕ) →
-      i < length outputs →
-      cellsIn cells (getD order i 0) (getD arities (getD functions (getD order i 0) 0) 0) ≡ tableRowOf t (fileRow (pricesFor t root) i)
-      .cells
-  cells-is i h = v .cells-are (getD order i 0) (below i h) ∙ ap (λ (r : ℕ). tableRowOf t r .cells) (file-row i)
 
   pub few-kids : (i : ℕ) → i < length outputs → length (partOf starts children i) ≤ 8
   few-kids i h =
@@ -123,6 +88,71 @@ module _
         a,
         length-take (getD starts (i + 1) 0 - getD starts i 0) (drop (getD starts i 0) children),
       )
+
+  -- a row has as many children as its function has arguments
+  kids-many : (i : ℕ) → i < length outputs → length (partOf starts children i) ≡ arityOf t (getD order i 0)
+  kids-many i h =
+      sym (map-length childOf (partOf starts children i))
+      ∙ ap length
+      (part-children t root outputs heads starts children order functions labels values f i
+      (omega (arith, h, rows-many)))
+      ∙ children-length t (f .known) (getD order i 0) (below i h)
+
+  module _ (packed : List ℕ) (pk : Packed order functions outputs starts children packed (length outputs)) where
+    count-is : (i : ℕ) → i < length outputs → countAt packed i ≡ arityOf t (getD order i 0)
+    count-is i h =
+        omega (
+          arith,
+          h,
+          pk .long,
+          pk .each i h .few,
+          ap length (pk .each i h .children-are),
+          length-take (countAt packed i) (drop (i * width + 4) packed),
+          length-drop (i * width + 4) packed,
+          kids-many i h,
+        )
+
+    keys : (prices : List ℕ) → length outputs ≤ length prices → KeysIn prices packed labels cells (length outputs)
+    keys prices l = record {
+      costs-long = l;
+      few = f .flat .few-rows;
+      long = pk .long;
+      name = λ i h. rw (pk .each i h .function) (f .label-place (getD order i 0) (below i h));
+      name-short = λ i h. rw (pk .each i h .function) (f .label-short (getD order i 0) (below i h));
+      cells-long = λ i h.
+          omega (arith, pk .each i h .file-row, below i h, f .functions-long, v .cells-long);
+      arity = λ i h. pk .each i h .few;
+    }
+
+    -- all that is asked to find the kept rows
+    pub kept-ready :
+        (costs ranks prices list : List ℕ) →
+        length costs ≡ classCount t →
+        length costs ≡ length ranks →
+        1024 ≤ length prices →
+        1024 ≤ length list →
+        KeptReady (length outputs) costs ranks heads starts children packed labels cells prices list
+    kept-ready costs ranks prices list e q a b = record {
+      parts = parts (length costs) e;
+      ranks-length = sym q;
+      heads-length = f .flat .heads-length;
+      keys = keys prices (omega (arith, a, f .flat .few-rows));
+      list-long = omega (arith, b, f .flat .few-rows);
+    }
+
+    name-packed :
+        (i : ℕ) → i < length outputs → nameAt labels (functionAt packed i) ≡ nameOf t (fileRow (pricesFor t root) i)
+    name-packed i h = ap (nameAt labels) (pk .each i h .function) ∙ name-is i h
+
+    cells-packed :
+        (i : ℕ) →
+        i < length outputs →
+        cellsIn cells (fileRowAt packed i) (countAt packed i) ≡ tableRowOf t (fileRow (pricesFor t root) i) .cells
+    cells-packed i h =
+        ap (λ (r : ℕ). cellsIn cells r (countAt packed i)) (pk .each i h .file-row)
+        ∙ ap (cellsIn cells (getD order i 0)) (count-is i h)
+        ∙ v .cells-are (getD order i 0) (below i h)
+        ∙ ap (λ (r : ℕ). tableRowOf t r .cells) (file-row i)
 
   module _
       (costs ranks edges : List ℕ) (passes last : ℕ) (long : length ranks ≡ classCount t)
@@ -169,33 +199,34 @@ module _
       pub cost-is : (i : ℕ) → i < length outputs → getD prices i 0 ≡ costFor t (pricesFor t root) i
       cost-is i h = p i h ∙ price-is i h
 
-      key-is : (i : ℕ) → i < length outputs → keyIn prices order functions arities labels cells i ≡ keyFor t (pricesFor t root) i
-      unfolding keyIn keyFor
-      key-is i h =
-          let a = cost-is i h in
-          let b = name-is i h in
-          let d = cells-is i h in
-          λ j. record { cost = a j; name = b j; cells = d j }
+      module _ (packed : List ℕ) (pk : Packed order functions outputs starts children packed (length outputs)) where
+        key-is : (i : ℕ) → i < length outputs → keyIn prices packed labels cells i ≡ keyFor t (pricesFor t root) i
+        unfolding keyIn keyFor
+        key-is i h =
+            let a = cost-is i h in
+            let b = name-packed packed pk i h in
+            let d = cells-packed packed pk i h in
+            λ j. record { cost = a j; name = b j; cells = d j }
 
-      pub kept-is :
-          (c most : ℕ) →
-          keptIn prices ranks outputs starts children order functions arities labels cells c most ≡ keptRows t (pricesFor t root) c
-          most
-      unfolding keptRows
-      kept-is c most =
-          ap (take most)
-          (sorted-by-keys (length outputs) (keyIn prices order functions arities labels cells) (keyFor t (pricesFor t root)) key-is
-          (picked (isCandidate ranks outputs starts children c) 0 (length outputs))
-          (picked-below (isCandidate ranks outputs starts children c) (length outputs))
-          ∙ ap (sorted (noLater (keyFor t (pricesFor t root)))) (rows-are c))
+        pub kept-is :
+            (c most : ℕ) →
+            keptIn prices ranks outputs starts children packed labels cells c most
+            ≡ keptRows t (pricesFor t root) c most
+        unfolding keptRows
+        kept-is c most =
+            ap (take most)
+            (sorted-by-keys (length outputs) (keyIn prices packed labels cells) (keyFor t (pricesFor t root)) key-is
+            (picked (isCandidate ranks outputs starts children c) 0 (length outputs))
+            (picked-below (isCandidate ranks outputs starts children c) (length outputs))
+            ∙ ap (sorted (noLater (keyFor t (pricesFor t root)))) (rows-are c))
 
-      -- a kept row is one of the class, and each of its children has a cost
-      pub kept-from :
-          (c most j : ℕ) →
-          j < length (keptIn prices ranks outputs starts children order functions arities labels cells c most) →
-          Passes (isCandidate ranks outputs starts children c)
-          (getD (keptIn prices ranks outputs starts children order functions arities labels cells c most) j 0) 0
-          (length outputs)
-      kept-from c most j h =
-          kept-passes (keyIn prices order functions arities labels cells) (isCandidate ranks outputs starts children c)
-          (length outputs) most j h
+        -- a kept row is one of the class, and each of its children has a cost
+        pub kept-from :
+            (c most j : ℕ) →
+            j < length (keptIn prices ranks outputs starts children packed labels cells c most) →
+            Passes (isCandidate ranks outputs starts children c)
+            (getD (keptIn prices ranks outputs starts children packed labels cells c most) j 0) 0
+            (length outputs)
+        kept-from c most j h =
+            kept-passes (keyIn prices packed labels cells) (isCandidate ranks outputs starts children c)
+            (length outputs) most j h

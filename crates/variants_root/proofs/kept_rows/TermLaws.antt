@@ -55,8 +55,8 @@ module _ (rank : ℕ → ℕ) (ranks : List ℕ) (values : List ℤ) (d : ℕ) (
 
 module _
     (t : Table) (root : ℕ) (outputs heads starts children order functions labels : List ℕ) (values : List ℤ)
-    (arities cells : List ℕ)
-    (v : VariantTable t root outputs heads starts children order functions labels values arities cells)
+    (cells : List ℕ)
+    (v : VariantTable t root outputs heads starts children order functions labels values cells)
     (costs ranks edges : List ℕ) (passes last : ℕ) (long : length ranks ≡ classCount t)
     (w : Solved (classCount t) passes last outputs heads starts children costs ranks edges)
     (packed : List ℕ) (pk : Packed order functions outputs starts children packed (length outputs))
@@ -70,13 +70,13 @@ module _
   name-agrees : (i : ℕ) → i < length outputs → nameIn labels packed i ≡ nameOf t (fileRow (pricesFor t root) i)
   name-agrees i h =
       ap (nameAt labels) (pk .each i h .function)
-      ∙ name-is t root outputs heads starts children order functions labels values arities cells v i h
+      ∙ name-is t root outputs heads starts children order functions labels values cells v i h
 
   kids-are : (i : ℕ) → i < length outputs → planChildren t (fileRow (pricesFor t root) i) ≡ childrenOf packed values i
   unfolding planChildren
   kids-are i h =
       let m : i < length order =
-      omega (arith, h, rows-many t root outputs heads starts children order functions labels values arities cells v) in
+      omega (arith, h, rows-many t root outputs heads starts children order functions labels values cells v) in
       sym
       (ap (map (childOf values)) (pk .each i h .children-are)
       ∙ number-children t values (f .value) (partOf starts children i)
@@ -84,7 +84,7 @@ module _
       ∙ ap (map (planChild t))
       (part-children t root outputs heads starts children order functions labels values f i m)
       ∙ ap (λ (r : ℕ). map (planChild t) (rowAt (tableRows t) r .children))
-      (file-row t root outputs heads starts children order functions labels values arities cells v i))
+      (file-row t root outputs heads starts children order functions labels values cells v i))
 
   variant-is :
       (i : ℕ) →

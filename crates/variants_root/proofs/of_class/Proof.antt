@@ -25,22 +25,19 @@ same-length-3 c = search needs
 
 returns : tie.Need-returns
 returns c t root v =
-    let a = c .before .before .before .before .before .before .before .before .before .before .before .before .before
-    .before .before .before .before .before .args in
+    let a = c .before .before .before .before .before .before .before .before .before .before .before .before .before .before .before .before .before .args in
     unformed-refuses
     (lending (store (a .records .now) (a .literals .now) (a .names .now) (a .terms) (a .symbols)) (a .paid .now)
     (a .found .now)) _ (sym (c .before .check .ensures) ∙ not-true _ (c .if1 .taken))
 
 slice-aggregate-choose : tie.Need-slice-aggregate-choose
 slice-aggregate-choose c =
-    let g = c .before .before .before .before .before .before .before .before .before .before .before .before .before
-    .before .before .before .before .before .before in
+    let g = c .before .before .before .before .before .before .before .before .before .before .before .before .before .before .before .before .before .before in
     sym (length-take-le (g .args .n) (g .args .flat .now) (g .pre .is .flat-room))
 
 slice-aggregate-choose-2 : tie.Need-slice-aggregate-choose-2
 slice-aggregate-choose-2 c =
-    let g = c .before .before .before .before .before .before .before .before .before .before .before .before .before
-    .before .before .before .before .before .before .before in
+    let g = c .before .before .before .before .before .before .before .before .before .before .before .before .before .before .before .before .before .before .before in
     sym (length-take-le (g .args .n) (g .args .heads .now) (g .pre .is .heads-room))
 
 add-choose : tie.Need-add-choose
@@ -48,28 +45,23 @@ add-choose c = search needs
 
 slice-aggregate-choose-3 : tie.Need-slice-aggregate-choose-3
 slice-aggregate-choose-3 c =
-    let g = c .before .before .before .before .before .before .before .before .before .before .before .before .before
-    .before .before .before .before .before .before .before .before in
+    let g = c .before .before .before .before .before .before .before .before .before .before .before .before .before .before .before .before .before .before .before .before in
     let l = g .pre .is .starts-room in
     sym (length-take-le (g .args .n + 1) (g .args .starts .now) (omega (arith, l)))
 
 slice-aggregate-choose-4 : tie.Need-slice-aggregate-choose-4
 slice-aggregate-choose-4 c =
-    let g = c .before .before .before .before .before .before .before .before .before .before .before .before .before
-    .before .before .before .before .before .before .before .before .before in
+    let g = c .before .before .before .before .before .before .before .before .before .before .before .before .before .before .before .before .before .before .before .before .before in
     sym (length-take-le (g .args .m) (g .args .children .now) (g .pre .is .children-room))
 
 slice-aggregate-choose-5 : tie.Need-slice-aggregate-choose-5
 slice-aggregate-choose-5 c =
-    let g = c .before .before .before .before .before .before .before .before .before .before .before .before .before
-    .before .before .before .before .before .before .before .before .before .before in
+    let g = c .before .before .before .before .before .before .before .before .before .before .before .before .before .before .before .before .before .before .before .before .before .before in
     sym (length-take-le (g .args .n) (g .args .order .now) (g .pre .is .order-room))
 
 choose-requires : tie.Need-choose-requires
 choose-requires c κs =
-    let p = c .before .before .before .before .before .before .before .before .before .before .before .before .before
-    .before .before .before .before .before .before .before .before .before .before .before .before .before .before
-    .before .pre in
+    let p = c .before .before .before .before .before .before .before .before .before .before .before .before .before .before .before .before .before .before .before .before .before .before .before .before .before .before .before .pre in
     record {
       table = p .table;
       root = p .root;
@@ -97,9 +89,7 @@ same-length-8 c = search needs
 
 returns-2 : tie.Need-returns-2
 returns-2 c t root v =
-    let a = c .before .before .before .before .before .before .before .before .before .before .before .before .before
-    .before .before .before .before .before .before .before .before .before .before .before .before .before .before
-    .before .before .before .before .before .before .before .before .before .before .before .args in
+    let a = c .before .before .before .before .before .before .before .before .before .before .before .before .before .before .before .before .before .before .before .before .before .before .before .before .before .before .before .before .before .before .before .before .before .before .before .before .before .args in
     c .before .before .before .before .before .before .before .before .before .choose .ensures t root (v .is) (v
     .classes-are)
     ∙ formed-is

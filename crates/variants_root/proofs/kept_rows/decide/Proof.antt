@@ -16,13 +16,10 @@ use Rattle.variants_root.proofs.kept_rows.decide.Tie as tie
 
 solve-requires : tie.Need-solve-requires
 solve-requires c κs =
-    let g = c .before .before .before .before .before .before .before .before .before .before .before .before .before
-    .before .before .before .before .before .before .before .args in
-    let a = c .before .before .before .before .before .before .before .before .before .before .before .before .before
-    .before .before .before .before .before .before .before .pre in (
-      subst (λ (n : ℕ). FlatOk n (g .outputs .now) (g .heads .now) (g .starts .now) (g .children .now)) (sym (a .0
-          .classes)) (a .0 .is .is .flat),
-      a .1 .1,
+    let g = c .before .before .before .before .before .before .before .before .before .before .before .before .before .before .before .before .before .args in
+    let a = c .before .before .before .before .before .before .before .before .before .before .before .before .before .before .before .before .before .pre in (
+      subst (λ (n : ℕ). FlatOk n (g .outputs .now) (g .heads .now) (g .starts .now) (g .children .now)) (sym (a .0 .is .classes)) (a .0 .is .is .is .flat),
+      a .1,
     )
 
 slice-aggregate-rows : tie.Need-slice-aggregate-rows
@@ -33,20 +30,17 @@ slice-aggregate-rows-2 c = search needs
 
 rows-requires : tie.Need-rows-requires
 rows-requires c κs =
-    let g = c .before .before .before .before .before .before .before .before .before .before .before .before .before
-    .before .before .before .before .before .before .before .before .before .before .before .before .before .before
-    .before .before .before .before .args in
-    let a = c .before .before .before .before .before .before .before .before .before .before .before .before .before
-    .before .before .before .before .before .before .before .before .before .before .before .before .before .before
-    .before .before .before .before .pre in
+    let g = c .before .before .before .before .before .before .before .before .before .before .before .before .before .before .before .before .before .before .before .before .before .before .before .before .before .before .before .before .args in
+    let a = c .before .before .before .before .before .before .before .before .before .before .before .before .before .before .before .before .before .before .before .before .before .before .before .before .before .before .before .before .pre in
     let k = c .before .before .before .before .before .before .before .before .before .before .solve .kept .1 .1 .1
     .1 in
     let u = c .before .before .before .before .before .before .before .before .before .before .solve .last .1 .1 .1
     .1 in
     let n = length-replicate {A = ℕ} 1024 0 in
-    kept-ready (a .0 .table) (a .0 .root) (g .outputs .now) (g .heads .now) (g .starts .now) (g .children .now)
-    (g .order .now) (g .functions .now) (g .labels .now) (g .values .now) (g .arities .now) (g .cells .now) (a .0 .is)
-    (u .0) (u .1 .0) _ _ (k .0 ∙ a .1 .1 .fresh .long ∙ a .0 .classes) (k .0 ∙ a .1 .1 .fresh .long ∙ sym (k .1 .0))
+    kept-ready (a .0 .is .table) (a .0 .is .root) (g .outputs .now) (g .heads .now) (g .starts .now) (g .children .now)
+    (a .0 .order) (a .0 .functions) (g .labels .now) (g .values .now) (g .cells .now) (a .0 .is .is)
+    (g .rows .now) (a .0 .packed)
+    (u .0) (u .1 .0) _ _ (k .0 ∙ a .1 .fresh .long ∙ a .0 .is .classes) (k .0 ∙ a .1 .fresh .long ∙ sym (k .1 .0))
     (omega (arith, n)) (omega (arith, n))
 
 slice-aggregate-answer : tie.Need-slice-aggregate-answer
@@ -58,39 +52,33 @@ array-share-prefix-list c = search needs
 slice-aggregate-answer-2 : tie.Need-slice-aggregate-answer-2
 slice-aggregate-answer-2 c =
     let r = c .before .before .before .before .before .before .rows in
-    sym (length-take-le (r .result) (r .last .1 .1 .1 .1 .1 .1 .1 .1 .1 .1 .1 .1 .1 .1 .0) (r .ensures .room))
+    sym (length-take-le (r .result) (r .last .1 .1 .1 .1 .1 .1 .1 .1 .1 .1 .1 .1 .0) (r .ensures .room))
 
 answer-requires : tie.Need-answer-requires
 answer-requires c κs =
-    let g = c .before .before .before .before .before .before .before .before .before .before .before .before .before
-    .before .before .before .before .before .before .before .before .before .before .before .before .before .before
-    .before .before .before .before .before .before .before .before .before .before .before .before .before .before
-    .before .before .args in
-    let a = c .before .before .before .before .before .before .before .before .before .before .before .before .before
-    .before .before .before .before .before .before .before .before .before .before .before .before .before .before
-    .before .before .before .before .before .before .before .before .before .before .before .before .before .before
-    .before .before .pre in
+    let g = c .before .before .before .before .before .before .before .before .before .before .before .before .before .before .before .before .before .before .before .before .before .before .before .before .before .before .before .before .before .before .before .before .before .before .before .before .before .before .before .before .args in
+    let a = c .before .before .before .before .before .before .before .before .before .before .before .before .before .before .before .before .before .before .before .before .before .before .before .before .before .before .before .before .before .before .before .before .before .before .before .before .before .before .before .before .pre in
     let q = c .before .before .before .before .before .before .before .before .before .before .before .before .before
     .before .before .before .before .before .before .before .before .before .solve in
     let k = q .kept .1 .1 .1 .1 in
     let u = q .last .1 .1 .1 .1 in
     let r = c .before .before .before .before .before .before .before .before .before .before .before .rows in
     let e = r .ensures in
-    let o = r .last .1 .1 .1 .1 .1 .1 .1 .1 .1 .1 .1 .1 .1 in
-    let z = r .kept .1 .1 .1 .1 .1 .1 .1 .1 .1 .1 .1 .1 .1 in
+    let o = r .last .1 .1 .1 .1 .1 .1 .1 .1 .1 .1 .1 in
+    let z = r .kept .1 .1 .1 .1 .1 .1 .1 .1 .1 .1 .1 in
     let n = length-replicate {A = ℕ} 1024 0 in
     let w =
     subst
     (λ (m : ℕ).
     Solved m (q .result .passes) (q .result .last) (g .outputs .now) (g .heads .now) (g .starts .now)
     (g .children .now) (u .0) (u .1 .0) (u .1 .1 .0))
-    (a .0 .classes) (q .ensures) in
-    answer-ready (a .0 .table) (a .0 .root) (g .outputs .now) (g .heads .now) (g .starts .now) (g .children .now)
-    (g .order .now) (g .functions .now) (g .labels .now) (g .values .now) (g .arities .now) (g .cells .now) (a .0 .is)
-    (u .0) (u .1 .0) (u .1 .1 .0) (q .result .passes) (q .result .last) (k .1 .0 ∙ a .0 .classes) w (g .rows .now)
-    (a .1 .0) (o .0) (e .priced) (g .c) (g .most)
+    (a .0 .is .classes) (q .ensures) in
+    answer-ready (a .0 .is .table) (a .0 .is .root) (g .outputs .now) (g .heads .now) (g .starts .now) (g .children .now)
+    (a .0 .order) (a .0 .functions) (g .labels .now) (g .values .now) (g .cells .now) (a .0 .is .is)
+    (u .0) (u .1 .0) (u .1 .1 .0) (q .result .passes) (q .result .last) (k .1 .0 ∙ a .0 .is .classes) w (g .rows .now)
+    (a .0 .packed) (o .0) (e .priced) (g .c) (g .most)
     (take (r .result) (o .1 .0)) (e .are)
-    (store (g .records .now) (g .literals .now) (g .names .now) (g .terms) (g .symbols)) (a .0 .formed)
+    (store (g .records .now) (g .literals .now) (g .names .now) (g .terms) (g .symbols)) (a .0 .is .formed)
     (omega (arith, n, z .0)) (omega (arith, n, z .1 .0, e .room, length-take-le (r .result) (o .1 .0) (e .room)))
 
 same-length : tie.Need-same-length
@@ -122,15 +110,8 @@ same-length-8 : tie.Need-same-length-8
 same-length-8 c = search needs
 
 returns : tie.Need-returns
-returns c = λ t root vt cs.
-    let g = c .before .before .before .before .before .before .before .before .before .before .before .before .before
-    .before .before .before .before .before .before .before .before .before .before .before .before .before .before
-    .before .before .before .before .before .before .before .before .before .before .before .before .before .before
-    .before .before .before .before .before .before .before .before .before .before .before .before .args in
-    let a = c .before .before .before .before .before .before .before .before .before .before .before .before .before
-    .before .before .before .before .before .before .before .before .before .before .before .before .before .before
-    .before .before .before .before .before .before .before .before .before .before .before .before .before .before
-    .before .before .before .before .before .before .before .before .before .before .before .before .pre in
+returns c = λ order functions pk t root vt cs.
+    let g = c .before .before .before .before .before .before .before .before .before .before .before .before .before .before .before .before .before .before .before .before .before .before .before .before .before .before .before .before .before .before .before .before .before .before .before .before .before .before .before .before .before .before .before .before .before .before .before .before .before .before .args in
     let q = c .before .before .before .before .before .before .before .before .before .before .before .before .before
     .before .before .before .before .before .before .before .before .before .before .before .before .before .before
     .before .before .before .before .before .solve in
@@ -139,7 +120,7 @@ returns c = λ t root vt cs.
     let r = c .before .before .before .before .before .before .before .before .before .before .before .before .before
     .before .before .before .before .before .before .before .before .rows in
     let e = r .ensures in
-    let o = r .last .1 .1 .1 .1 .1 .1 .1 .1 .1 .1 .1 .1 .1 in
+    let o = r .last .1 .1 .1 .1 .1 .1 .1 .1 .1 .1 .1 in
     let w =
     subst
     (λ (m : ℕ).
@@ -147,8 +128,8 @@ returns c = λ t root vt cs.
     (g .children .now) (u .0) (u .1 .0) (u .1 .1 .0))
     cs (q .ensures) in
     answer-told t root (g .outputs .now) (g .heads .now) (g .starts .now) (g .children .now)
-    (g .order .now) (g .functions .now) (g .labels .now) (g .values .now) (g .arities .now) (g .cells .now) vt
-    (u .0) (u .1 .0) (u .1 .1 .0) (q .result .passes) (q .result .last) (k .1 .0 ∙ cs) w (g .rows .now) (a .1 .0)
+    order functions (g .labels .now) (g .values .now) (g .cells .now) vt
+    (u .0) (u .1 .0) (u .1 .1 .0) (q .result .passes) (q .result .last) (k .1 .0 ∙ cs) w (g .rows .now) pk
     (o .0) (e .priced) (g .c) (g .most)
     (take (r .result) (o .1 .0)) (e .are)
     (lending (store (g .records .now) (g .literals .now) (g .names .now) (g .terms) (g .symbols)) (g .paid .now)
