@@ -1,27 +1,26 @@
-/* Needlevale as a C library: the program's answer, and calls on a term store of the caller's (x86-64 Linux). Installed,
- * it is linked by the words of `pkg-config --cflags --libs needlevale`; else with the archive of
- * `rt staticlib needlevale_c`. The rules are in docs/RULES.md. Paths are those of the sources.
+/* Needlevale as a C library: the program's answer, a term store of the caller's with its calls, the texts of terms,
+ * and best and variants of a table file (x86-64 Linux). Installed, it is linked by the words of `pkg-config
+ * --cflags --libs needlevale`; else with the archive of `rt staticlib needlevale_c`. The rules are in
+ * docs/RULES.md; R-order-4 and the like are its names. Paths are those of the sources.
  *
- * Proved, for every content of the buffers: a call returns, reads and writes nothing outside them, and gives exactly
- * the answer that the definitions written from the rules give (`replied` of crates/program_rules/specs/Reply.antt;
- * `addLiteral` of crates/term/specs/Calls.antt; `plainTold` and `letTold` of crates/text/specs; `bestAt` and
- * `variantsAt` of crates/answer_rules/specs; on structs of `lentStore` of crates/lent/specs/Records.antt). A refusal
- * changes no buffer and comes back as one of -1 to -17, and bytes past a text's length stay: these and the rest in
- * crates/needlevale_c/specs/Promises.antt, and of each definition on the page of its crate.
+ * Proved of every call, for every content of the buffers and every number: it returns; it reads and writes nothing
+ * but its buffers, and of those that are const it writes nothing; what comes back and what the buffers hold then is
+ * exactly what the definitions written from the rules say (each call names its own; `lentStore` of
+ * crates/lent/specs/Records.antt makes a store of two arrays); a refusal comes back as one of -1 to -17, is the
+ * first of the call's order that holds, and changes no buffer. The statements are in crates/needlevale_c/src, what
+ * follows from them in crates/needlevale_c/specs/Promises.antt and on the page of each definition's crate.
  *
  * Not proved, and the caller's part:
- * - each pointer stands for as many readable elements as its length says, and those that are not const are writable;
+ * - each pointer stands for as many readable elements as its length says, and those that are not const are
+ *   writable;
  * - no two buffers of a call overlap;
  * - a null pointer goes with length 0, and no length in bytes is over 2^63-1;
- * - there is stack for the call. needlevale_answer took 380,920 bytes for no input and 636,512 for a term 512 deep, the
- *   most that was seen: measured on x86-64 on 2026-11-15, before rows were marked for pricing. Since then, under an
- *   emulator, that term took 16 bytes more, and the longest file 415,680. No bound is proved.
- *   needlevale_add_literal_flat took 14,704 bytes for a store of 1,023 terms, measured under an emulator. A thread with
- *   less ends with a fault at its guard page. On structs, of every fortieth recorded case and under an emulator, best
- *   took at most 692,568 bytes, variants 717,336, plain text 238,360 and let text 262,072.
+ * - there is stack for the call: NEEDLEVALE_STACK_ and the call's name below. A thread with less ends with a fault
+ *   at its guard page.
  * Not proved either: this header, the C compiler, the linker, and the C library's memory functions.
  *
- * A call keeps nothing between calls and may run in several threads at once, on buffers of their own. */
+ * A call keeps nothing between calls and may run in several threads at once, on buffers of their own; const ones
+ * they may share. */
 #ifndef NEEDLEVALE_H
 #define NEEDLEVALE_H
 
@@ -84,31 +83,65 @@ enum needlevale_refusal {
 /* The longest input that is not refused: three bytes of query, then the longest table file. */
 #define NEEDLEVALE_LONGEST_INPUT (3 + 21385)
 
-/* The stack of a thread that is to make a call, in bytes, with 80 KiB for the rest of it. Tested, not proved. */
-#define NEEDLEVALE_STACK 720896
-
-/* The same for the calls on term structs. */
-#define NEEDLEVALE_STRUCTS_STACK (4 * 1024 * 1024)
-
 /* The room that the program has for its output. The call itself takes any. */
 #define NEEDLEVALE_PROGRAM_OUTPUT 16384
 
-/* A store: numbers of a record (kind, symbol, count, eight children), bytes of a name (length, bytes, zeros). It has
- * room for as many terms and names as its lent lengths hold, at most 1,024 and 128. */
+/* Numbers of a record in the flat form (kind, symbol, count, eight children), and bytes of a name (length, bytes,
+ * zeros). */
 #define NEEDLEVALE_RECORD 11
 #define NEEDLEVALE_NAME 32
 
-/* The answer to the query and table file at input: its text, without a zero at the end, is put at the start
- * of output and its length is returned; or minus a refusal's number. The term store is the call's own and starts empty,
- * with room for 1,024 terms and 128 names. NoRoom is given exactly when that store or output_length is too small. The
- * order of refusals: the query's 1 and 16, the file's, 10, 11, 12, 13. */
+/* The most terms and names that a store can have. */
+#define NEEDLEVALE_MOST_TERMS 1024
+#define NEEDLEVALE_MOST_NAMES 128
+
+/* The stack of a thread that is to make a call, in bytes: what the call took at most on its deepest inputs (a term
+ * 1,024 deep, a table 512 classes deep, the longest file, a full store), a tenth more, and 12 KiB for the thread
+ * itself. Measured and tested, not proved: scripts/stacks measures and writes these lines, and holds them to the
+ * library. A call from a thread that goes on needs as much of its stack to be free. */
+#define NEEDLEVALE_STACK_ANSWER 815104
+#define NEEDLEVALE_STACK_READ 139264
+#define NEEDLEVALE_STACK_ADD_LITERAL_FLAT 32768
+#define NEEDLEVALE_STACK_BEST 983040
+#define NEEDLEVALE_STACK_VARIANTS 1011712
+#define NEEDLEVALE_STACK_PLAIN_TEXT 630784
+#define NEEDLEVALE_STACK_LET_TEXT 544768
+#define NEEDLEVALE_STACK_SIZE 253952
+#define NEEDLEVALE_STACK_GET 253952
+#define NEEDLEVALE_STACK_COMPARE 253952
+#define NEEDLEVALE_STACK_SORT 282624
+#define NEEDLEVALE_STACK_FIND_LITERAL 253952
+#define NEEDLEVALE_STACK_FIND_VARIABLE 253952
+#define NEEDLEVALE_STACK_FIND_APPLICATION 356352
+#define NEEDLEVALE_STACK_ADD_LITERAL 360448
+#define NEEDLEVALE_STACK_ADD_VARIABLE 360448
+#define NEEDLEVALE_STACK_ADD_APPLICATION 360448
+
+/* The same for every call. */
+#define NEEDLEVALE_STACK 1011712
+
+/* ---- The program */
+
+/* The answer to the query and table file at input: its text, without a zero at the end, is put at the start of
+ * output and its length is returned; or minus a refusal's number. Bytes past the text stay. The term store is the
+ * call's own and starts empty, with room for 1,024 terms and 128 names. NoRoom is given exactly when that store or
+ * output_length is too small. Equal to `replied` of crates/program_rules/specs/Reply.antt. Refusals, in order
+ * (R-order-1): the query's 1 and 16, the file's first fault (1 to 9), 10, 11 (best only), 12, 13. */
 int64_t needlevale_answer(const uint8_t *input, size_t input_length, uint8_t *output, size_t output_length);
 
-/* The number of a literal's term in a lent store of so many terms and symbols, added if it is not there; or minus a
- * refusal's number, 17 before 13. Where the number is terms, the store has one term more after the call. Lengths count
- * elements: NEEDLEVALE_RECORD numbers and one literal a term, NEEDLEVALE_NAME bytes a symbol. */
-int64_t needlevale_add_literal_flat(uint64_t *records, size_t records_length, int64_t *literals, size_t literals_length,
-                               const uint8_t *names, size_t names_length, size_t terms, size_t symbols, int64_t value);
+/* ---- A table file */
+
+/* Status 0 and how many sorts, literals, functions and rows there are; or minus a refusal's number, and zeros. */
+typedef struct needlevale_shape {
+    int64_t status;
+    size_t sorts, literals, functions, rows;
+} needlevale_shape;
+
+/* Whether a table file is accepted, and how much it holds. Equal to `shapeOf` of crates/c_told/specs/Files.antt, of
+ * `tableAt` of crates/file_rules/specs/File.antt. Refusals (R-order-2): the file's first fault, 1 to 9. */
+needlevale_shape needlevale_read(const uint8_t *file, size_t file_length);
+
+/* ---- A term store of the caller's */
 
 /* A term record: its kind (0 literal, 1 variable, 2 application), the number of its symbol, the count of its children,
  * its literal, and child numbers. What its kind does not use is zero. */
@@ -123,10 +156,98 @@ typedef struct needlevale_entry {
     uint8_t bytes[NEEDLEVALE_NAME];
 } needlevale_entry;
 
-/* A store of the caller's is an array of term records and an array of name entries, and how many of each are in use:
- * terms, terms_length, names, names_length, term_count and name_count of a call. Of a longer array the records past
- * 1,024 and the entries past 128 are no part of it. A store with nothing in use is well formed, whatever the arrays
- * hold, and so is what the calls leave of one. Each call copies both arrays, so it takes time and stack for them. */
+/* A store is an array of term records and an array of name entries, and how many of each are in use: terms,
+ * terms_length, names, names_length, term_count and name_count of a call. It has room for as many terms and names
+ * as the arrays are long, at most 1,024 and 128; of a longer array the rest is no part of it and stays. What the
+ * records and entries past the counts hold is free, and stays where a call does not use it. A store with nothing in
+ * use is well formed, whatever the arrays hold, and so is what the calls leave of one; a store of the caller's own
+ * making is, if R-term-6 holds. Every call looks at the whole store first, and gives 17 where it is not well
+ * formed. */
+
+/* Status 0 and a count or a term's number; or minus a refusal's number, and 0. */
+typedef struct needlevale_number {
+    int64_t status;
+    size_t number;
+} needlevale_number;
+
+/* Status 0 and a term's number; or minus a refusal's number, and 0. Then the counts of the store after the call, which
+ * are those before it where it was refused: they can be taken over in any case. */
+typedef struct needlevale_added {
+    int64_t status;
+    size_t term, term_count, name_count;
+} needlevale_added;
+
+/* Status 0 and a term's record; or minus a refusal's number, and a record of zeros. */
+typedef struct needlevale_got {
+    int64_t status;
+    needlevale_term term;
+} needlevale_got;
+
+/* Status 0, and -1, 0 or 1 as the first term is less than the second, the same or more; or minus a refusal's number,
+ * and 0. */
+typedef struct needlevale_order {
+    int64_t status, order;
+} needlevale_order;
+
+/* The number of a literal's term, which is added if it is not there. If it is there, that needs no room. Equal to
+ * `addLiteral` of crates/term/specs/Calls.antt. Refusals, in order (R-order-6): 17, 13. */
+needlevale_added needlevale_add_literal(needlevale_term *terms, size_t terms_length, const needlevale_entry *names,
+                                        size_t names_length, size_t term_count, size_t name_count, int64_t literal);
+
+/* The number of a variable's term, which is added if it is not there, with its name if that is new. Equal to
+ * `addVariable` there. Refusals, in order (R-order-5): 17, 4, 13. */
+needlevale_added needlevale_add_variable(needlevale_term *terms, size_t terms_length, needlevale_entry *names,
+                                         size_t names_length, size_t term_count, size_t name_count,
+                                         const uint8_t *name, size_t name_length);
+
+/* The number of an application's term, likewise: its head's name, and the numbers of its children, 0 to 8. Equal to
+ * `addApplication` there. Refusals, in order (R-order-4): 17, 4, 3, 14, 13. */
+needlevale_added needlevale_add_application(needlevale_term *terms, size_t terms_length, needlevale_entry *names,
+                                            size_t names_length, size_t term_count, size_t name_count,
+                                            const uint8_t *name, size_t name_length, const uint64_t *children,
+                                            size_t children_length);
+
+/* The number of a literal's term that is there. Equal to `findLiteral` there. Refusals, in order (R-order-9): 17,
+ * 15. */
+needlevale_number needlevale_find_literal(const needlevale_term *terms, size_t terms_length,
+                                          const needlevale_entry *names, size_t names_length, size_t term_count,
+                                          size_t name_count, int64_t literal);
+
+/* The number of a variable's term that is there. Equal to `findVariable` there. Refusals, in order (R-order-8): 17, 4,
+ * 15. */
+needlevale_number needlevale_find_variable(const needlevale_term *terms, size_t terms_length,
+                                           const needlevale_entry *names, size_t names_length, size_t term_count,
+                                           size_t name_count, const uint8_t *name, size_t name_length);
+
+/* The number of an application's term that is there. Equal to `findApplication` there. Refusals, in order (R-order-7):
+ * 17, 4, 3, 14, 15. */
+needlevale_number needlevale_find_application(const needlevale_term *terms, size_t terms_length,
+                                              const needlevale_entry *names, size_t names_length, size_t term_count,
+                                              size_t name_count, const uint8_t *name, size_t name_length,
+                                              const uint64_t *children, size_t children_length);
+
+/* How many terms there are, once the store is found well formed. Equal to `sizeOf` there. Refusals (R-order-10):
+ * 17. */
+needlevale_number needlevale_size(const needlevale_term *terms, size_t terms_length, const needlevale_entry *names,
+                                  size_t names_length, size_t term_count, size_t name_count);
+
+/* The record of a term. Equal to `getTerm` there. Refusals, in order (R-order-11): 17, 14. */
+needlevale_got needlevale_get(const needlevale_term *terms, size_t terms_length, const needlevale_entry *names,
+                              size_t names_length, size_t term_count, size_t name_count, size_t term);
+
+/* How two terms stand in the order of terms (R-term-14). Equal to `compareTerms` there. Refusals, in order
+ * (R-order-11): 17, 14. */
+needlevale_order needlevale_compare(const needlevale_term *terms, size_t terms_length, const needlevale_entry *names,
+                                    size_t names_length, size_t term_count, size_t name_count, size_t first,
+                                    size_t second);
+
+/* Sorts a list of term numbers into that order, and keeps repeats: 0, or minus a refusal's number. Equal to
+ * `sortTerms` there. Refusals, in order (R-order-11): 17, 14. */
+int64_t needlevale_sort(const needlevale_term *terms, size_t terms_length, const needlevale_entry *names,
+                        size_t names_length, size_t term_count, size_t name_count, uint64_t *list,
+                        size_t list_length);
+
+/* ---- The texts of a term */
 
 /* The length of a let text, or minus a refusal's number; and the next unused count, or 0. */
 typedef struct needlevale_let_length {
@@ -134,8 +255,26 @@ typedef struct needlevale_let_length {
     uint64_t next;
 } needlevale_let_length;
 
+/* The plain text of a term, without a zero at the end, at the start of output: its length, or minus a refusal's
+ * number. Bytes past the text stay. Equal to `plainTold` of crates/text/specs/Told.antt. Refusals, in order
+ * (R-order-12): 17, 14, 13. */
+int64_t needlevale_plain_text(const needlevale_term *terms, size_t terms_length, const needlevale_entry *names,
+                              size_t names_length, size_t term_count, size_t name_count, size_t term, uint8_t *output,
+                              size_t output_length);
+
+/* The let text of a term, likewise. A let name is the prefix, which may be empty, the hint and a count from start on;
+ * where bare is true, count 0 is not printed. Equal to `letTold` of crates/text/specs/LetTold.antt. Refusals, in order
+ * (R-order-13): 17, 14, 4 of the prefix, 4 of the hint, 3 of start, 13. */
+needlevale_let_length needlevale_let_text(const needlevale_term *terms, size_t terms_length,
+                                          const needlevale_entry *names, size_t names_length, size_t term_count,
+                                          size_t name_count, size_t term, const uint8_t *prefix, size_t prefix_length,
+                                          const uint8_t *hint, size_t hint_length, uint64_t start, bool bare,
+                                          uint8_t *output, size_t output_length);
+
+/* ---- Best and variants of a table file */
+
 /* Status 0, the cost, the term's number and the passes; or minus a refusal's number, and zeros. Then the counts of the
- * store after the call, which are those before it where it was refused: they can be taken over in any case. */
+ * store, as above. */
 typedef struct needlevale_best_term {
     int64_t status;
     uint64_t cost;
@@ -153,88 +292,31 @@ typedef struct needlevale_kept {
     size_t term_count, name_count;
 } needlevale_kept;
 
-/* The plain text of a term, at the start of output: its length, or minus a refusal's number: 17, 14, 13. */
-int64_t needlevale_plain_text(const needlevale_term *terms, size_t terms_length, const needlevale_entry *names,
-                              size_t names_length, size_t term_count, size_t name_count, size_t term, uint8_t *output,
-                              size_t output_length);
-
-/* The let text of a term, at the start of output. A let name is the prefix, the hint and a count from start on; where
- * bare is true, count 0 is not printed. The order of refusals: 17, 14, 4 of the prefix, 4 of the hint, 3, 13. */
-needlevale_let_length needlevale_let_text(const needlevale_term *terms, size_t terms_length,
-                                          const needlevale_entry *names, size_t names_length, size_t term_count,
-                                          size_t name_count, size_t term, const uint8_t *prefix, size_t prefix_length,
-                                          const uint8_t *hint, size_t hint_length, uint64_t start, bool bare,
-                                          uint8_t *output, size_t output_length);
-
-/* The best term of a root of the table file at file, built in the store. The order of refusals: the file's, 10, 17, 11,
+/* The best term of a root of the table file at file, built in the store. Equal to `bestAt` of
+ * crates/answer_rules/specs/Best.antt. Refusals, in order (R-order-3): the file's first fault (1 to 9), 10, 17, 11,
  * 12, 13. */
 needlevale_best_term needlevale_best(const uint8_t *file, size_t file_length, uint64_t sort, uint64_t value,
                                      needlevale_term *terms, size_t terms_length, needlevale_entry *names,
                                      size_t names_length, size_t term_count, size_t name_count);
 
-/* At most `most` variants of a root of the table file at file, built in the store: their costs and term numbers at the
- * start of costs and found. A base root has one, whatever `most` is. The order of refusals: the file's, 10, 17, 12,
- * 13. */
+/* At most `most` variants of a root of the table file at file, built in the store: their costs and term numbers at
+ * the start of costs and found, the cheapest first; what is past them stays. A base root has one, whatever `most`
+ * is. Equal to `variantsAt` of crates/answer_rules/specs/Variants.antt. Refusals, in order (R-order-3): the file's
+ * first fault (1 to 9), 10, 17, 12, 13, which is given too where costs or found is too short. */
 needlevale_kept needlevale_variants(const uint8_t *file, size_t file_length, uint64_t sort, uint64_t value, size_t most,
                                     needlevale_term *terms, size_t terms_length, needlevale_entry *names,
                                     size_t names_length, size_t term_count, size_t name_count, uint64_t *costs,
                                     size_t costs_length, uint64_t *found, size_t found_length);
 
-/* Status 0 and a count or a term's number; or minus a refusal's number, and 0. */
-typedef struct needlevale_number {
-    int64_t status;
-    size_t number;
-} needlevale_number;
+/* ---- The flat form of a store (R-term-7) */
 
-/* Status 0 and a term's number; or minus a refusal's number, and 0. Then the counts, as above. */
-typedef struct needlevale_added {
-    int64_t status;
-    size_t term, term_count, name_count;
-} needlevale_added;
-
-/* Status 0, and -1, 0 or 1 as the first term is less than the second, the same or more; or minus a refusal's number,
- * and 0. */
-typedef struct needlevale_order {
-    int64_t status, order;
-} needlevale_order;
-
-/* How many terms there are, once the store is found well formed: else 17. */
-needlevale_number needlevale_size(const needlevale_term *terms, size_t terms_length, const needlevale_entry *names,
-                                  size_t names_length, size_t term_count, size_t name_count);
-
-/* How two terms stand in the order of terms. The order of refusals: 17, 14. */
-needlevale_order needlevale_compare(const needlevale_term *terms, size_t terms_length, const needlevale_entry *names,
-                                    size_t names_length, size_t term_count, size_t name_count, size_t first,
-                                    size_t second);
-
-/* Sorts a list of term numbers, and keeps repeats: 0, or minus a refusal's number: 17, 14. */
-int64_t needlevale_sort(const needlevale_term *terms, size_t terms_length, const needlevale_entry *names,
-                        size_t names_length, size_t term_count, size_t name_count, uint64_t *list,
-                        size_t list_length);
-
-/* The number of a literal's, a variable's or an application's term. The order of refusals: 17, of a name 4, of children
- * 3 and 14, 15. */
-needlevale_number needlevale_find_literal(const needlevale_term *terms, size_t terms_length,
-                                          const needlevale_entry *names, size_t names_length, size_t term_count,
-                                          size_t name_count, int64_t literal);
-needlevale_number needlevale_find_variable(const needlevale_term *terms, size_t terms_length,
-                                           const needlevale_entry *names, size_t names_length, size_t term_count,
-                                           size_t name_count, const uint8_t *name, size_t name_length);
-needlevale_number needlevale_find_application(const needlevale_term *terms, size_t terms_length,
-                                              const needlevale_entry *names, size_t names_length, size_t term_count,
-                                              size_t name_count, const uint8_t *name, size_t name_length,
-                                              const uint64_t *children, size_t children_length);
-
-/* The same, and the term is added, with its name if that is new, where it is not there. 13 comes in the place of 15. */
-needlevale_added needlevale_add_literal(needlevale_term *terms, size_t terms_length, const needlevale_entry *names,
-                                        size_t names_length, size_t term_count, size_t name_count, int64_t literal);
-needlevale_added needlevale_add_variable(needlevale_term *terms, size_t terms_length, needlevale_entry *names,
-                                         size_t names_length, size_t term_count, size_t name_count,
-                                         const uint8_t *name, size_t name_length);
-needlevale_added needlevale_add_application(needlevale_term *terms, size_t terms_length, needlevale_entry *names,
-                                            size_t names_length, size_t term_count, size_t name_count,
-                                            const uint8_t *name, size_t name_length, const uint64_t *children,
-                                            size_t children_length);
+/* The number of a literal's term in a flat store of so many terms and symbols, added if it is not there; or minus a
+ * refusal's number. Where the number is terms, the store has one term more after the call. Lengths count elements:
+ * NEEDLEVALE_RECORD numbers and one literal a term, NEEDLEVALE_NAME bytes a symbol. Equal to `addLiteral` of
+ * crates/term/specs/Calls.antt. Refusals, in order (R-order-6): 17, 13. */
+int64_t needlevale_add_literal_flat(uint64_t *records, size_t records_length, int64_t *literals, size_t literals_length,
+                                    const uint8_t *names, size_t names_length, size_t terms, size_t symbols,
+                                    int64_t value);
 
 /* The name of a refusal, for what a call returned below 0. */
 static inline const char *needlevale_name(int64_t returned)

@@ -4,6 +4,8 @@
 //! in the header; the crate `needlevale` keeps that part, so that its own callers need no `unsafe`.
 #![no_std]
 
+use core::mem::size_of;
+
 /// The longest input that is not refused: three bytes of query, then the longest table file.
 pub const LONGEST_INPUT: usize = 3 + LONGEST_FILE;
 
@@ -13,9 +15,33 @@ pub const LONGEST_FILE: usize = 21_385;
 /// The room that document 01's program has for its output. The call itself takes any.
 pub const PROGRAM_OUTPUT: usize = 16_384;
 
-/// The stack of a thread that is to make a call on term structs, in bytes, with room for the rest of it. Tested, not
-/// proved.
-pub const STRUCTS_STACK: usize = 4 * 1024 * 1024;
+/// The most terms that a store can have.
+pub const MOST_TERMS: usize = 1_024;
+
+/// The most names that a store can have.
+pub const MOST_NAMES: usize = 128;
+
+/// The stack of a thread that is to make a call, in bytes, by the call's name: the header's `NEEDLEVALE_STACK_`.
+/// Measured and tested, not proved; `scripts/stacks write` writes these lines.
+pub mod stack {
+    pub const ANSWER: usize = 815104;
+    pub const READ: usize = 139264;
+    pub const ADD_LITERAL_FLAT: usize = 32768;
+    pub const BEST: usize = 983040;
+    pub const VARIANTS: usize = 1011712;
+    pub const PLAIN_TEXT: usize = 630784;
+    pub const LET_TEXT: usize = 544768;
+    pub const SIZE: usize = 253952;
+    pub const GET: usize = 253952;
+    pub const COMPARE: usize = 253952;
+    pub const SORT: usize = 282624;
+    pub const FIND_LITERAL: usize = 253952;
+    pub const FIND_VARIABLE: usize = 253952;
+    pub const FIND_APPLICATION: usize = 356352;
+    pub const ADD_LITERAL: usize = 360448;
+    pub const ADD_VARIABLE: usize = 360448;
+    pub const ADD_APPLICATION: usize = 360448;
+}
 
 /// Numbers of a store's record: kind, symbol, count, eight children.
 pub const RECORD: usize = 11;
@@ -79,6 +105,25 @@ pub struct Number {
     pub number: usize,
 }
 
+/// Status 0 and a term's record; or minus a refusal's number, and a record of zeros.
+#[repr(C)]
+#[derive(Clone, Copy, Debug, PartialEq, Eq)]
+pub struct Got {
+    pub status: i64,
+    pub term: Term,
+}
+
+/// Status 0 and how many sorts, literals, functions and rows there are; or minus a refusal's number, and zeros.
+#[repr(C)]
+#[derive(Clone, Copy, Debug, PartialEq, Eq)]
+pub struct Shape {
+    pub status: i64,
+    pub sorts: usize,
+    pub literals: usize,
+    pub functions: usize,
+    pub rows: usize,
+}
+
 /// Status 0 and a term's number; or minus a refusal's number, and 0. Then the store's counts.
 #[repr(C)]
 #[derive(Clone, Copy, Debug, PartialEq, Eq)]
@@ -98,6 +143,13 @@ pub struct Order {
     pub order: i64,
 }
 
+// The sizes that tests/c/calls.c holds the header's structs to.
+const _: () = assert!(size_of::<Term>() == 96 && size_of::<Entry>() == 32);
+const _: () = assert!(size_of::<Got>() == 104 && size_of::<Shape>() == 40);
+const _: () = assert!(size_of::<BestTerm>() == 48 && size_of::<Kept>() == 40);
+const _: () = assert!(size_of::<Added>() == 32 && size_of::<Number>() == 16);
+const _: () = assert!(size_of::<Order>() == 16 && size_of::<LetLength>() == 16);
+
 extern "C" {
     /// The version as one number: the first * 1,000,000 + the second * 1,000 + the third.
     ///
@@ -112,8 +164,15 @@ extern "C" {
     /// # Safety
     ///
     /// Each pointer stands for as many readable bytes as its length says, `output` for writable ones; the two buffers do
-    /// not overlap; no length is over 2^63-1; the thread has some 640 KiB of stack left.
+    /// not overlap; no length is over 2^63-1; the thread has [`stack::ANSWER`] bytes of stack.
     pub fn needlevale_answer(input: *const u8, input_length: usize, output: *mut u8, output_length: usize) -> i64;
+
+    /// Whether a table file is accepted, and how much it holds.
+    ///
+    /// # Safety
+    ///
+    /// As above, with the call's own stack.
+    pub fn needlevale_read(file: *const u8, file_length: usize) -> Shape;
 
     /// The number of a literal's term in a lent store, added if it is not there; or minus a refusal's number.
     ///
@@ -137,7 +196,7 @@ extern "C" {
     ///
     /// # Safety
     ///
-    /// As above; the thread has `STRUCTS_STACK` bytes of stack left.
+    /// As above, with the call's own stack.
     pub fn needlevale_plain_text(
         terms: *const Term,
         terms_length: usize,
@@ -228,6 +287,21 @@ extern "C" {
         term_count: usize,
         name_count: usize,
     ) -> Number;
+
+    /// The record of a term.
+    ///
+    /// # Safety
+    ///
+    /// As above.
+    pub fn needlevale_get(
+        terms: *const Term,
+        terms_length: usize,
+        names: *const Entry,
+        names_length: usize,
+        term_count: usize,
+        name_count: usize,
+        term: usize,
+    ) -> Got;
 
     /// How two terms stand in the order of terms.
     ///

@@ -1,6 +1,7 @@
-//! Questions to the proved library as document 01's program answers them. Its one `unsafe` is in [`call`].
+//! Questions to the proved library as document 01's program answers them, and its verdict on a file.
 
 use crate::refusal::Refusal;
+use needlevale_sys::stack;
 use std::fmt;
 
 /// The longest table file: 21,385 bytes.
@@ -8,9 +9,8 @@ pub use needlevale_sys::LONGEST_FILE;
 /// The room that document 01's program has for its output: 16,384 bytes.
 pub use needlevale_sys::PROGRAM_OUTPUT;
 
-/// The stack that a call gets: what the header names for the calls on structs, the deepest. A caller's thread may have
-/// less.
-const STACK: usize = needlevale_sys::STRUCTS_STACK;
+/// What a thread of Rust's may need beside what the header names for the call: its names, its result, its end.
+const THREAD: usize = 64 * 1024;
 
 /// What is asked.
 #[derive(Clone, Copy, PartialEq, Eq, Debug)]
@@ -123,7 +123,7 @@ pub fn ask(file: &[u8], query: Query, room: usize) -> Result<Answer, Error> {
     // One byte over the longest file tells a longer one: what follows changes no answer.
     input.extend(file.iter().take(LONGEST_FILE + 1));
     let mut output = vec![0; room];
-    let returned = with_stack(|| call(&input, &mut output))?;
+    let returned = with_stack(stack::ANSWER, || call(&input, &mut output))?;
     output.truncate(told(returned)?);
     let output = String::from_utf8(output).map_err(|_| Error::Unknown("bytes that are no text".to_string()))?;
     Ok(Answer { output })
@@ -137,10 +137,10 @@ pub(crate) fn told(returned: i64) -> Result<usize, Error> {
     })
 }
 
-/// Runs a call of the library in a thread that has the stack for it.
-pub(crate) fn with_stack<T: Send>(call: impl FnOnce() -> T + Send) -> Result<T, Error> {
+/// Runs a call of the library in a thread that has the stack for it: a caller's own may have less.
+pub(crate) fn with_stack<T: Send>(stack: usize, call: impl FnOnce() -> T + Send) -> Result<T, Error> {
     std::thread::scope(|scope| {
-        let thread = std::thread::Builder::new().name("needlevale".to_string()).stack_size(STACK);
+        let thread = std::thread::Builder::new().name("needlevale".to_string()).stack_size(stack + THREAD);
         let running = thread.spawn_scoped(scope, call).map_err(Error::Thread)?;
         running.join().map_err(|_| Error::Unknown("no result".to_string()))
     })
@@ -261,7 +261,41 @@ pub fn variants(file: &[u8], root: Root, n: u8) -> Result<Variants, Error> {
     ask(file, Query::new(Mode::Variants(n), root), PROGRAM_OUTPUT)?.variants()
 }
 
-/// The proved reader's own verdict on a file: nothing where it is accepted, or its refusal.
+/// How much a table file holds.
+#[derive(Clone, Copy, PartialEq, Eq, Debug)]
+#[non_exhaustive]
+pub struct Shape {
+    /// The number of sorts.
+    pub sorts: usize,
+    /// The number of literals.
+    pub literals: usize,
+    /// The number of functions.
+    pub functions: usize,
+    /// The number of rows.
+    pub rows: usize,
+}
+
+/// The proved reader's own verdict on a file: how much it holds where it is accepted, or its first fault.
+///
+/// ```
+/// use needlevale::{read, Error, Refusal};
+/// let table = std::fs::read(concat!(env!("CARGO_MANIFEST_DIR"), "/../../examples/worked/table.bin"))?;
+/// let shape = read(&table)?;
+/// assert_eq!((shape.sorts, shape.literals, shape.functions, shape.rows), (2, 1, 2, 3));
+/// assert!(matches!(read(&table[1..]), Err(Error::Refused(Refusal::BadVersion))));
+/// # Ok::<(), Box<dyn std::error::Error>>(())
+/// ```
+pub fn read(file: &[u8]) -> Result<Shape, Error> {
+    let shape = with_stack(stack::READ, || {
+        // SAFETY: as in `call`.
+        unsafe { needlevale_sys::needlevale_read(file.as_ptr(), file.len()) }
+    })?;
+    told(shape.status)?;
+    let needlevale_sys::Shape { sorts, literals, functions, rows, .. } = shape;
+    Ok(Shape { sorts, literals, functions, rows })
+}
+
+/// The refusal of a file that is not accepted.
 ///
 /// ```
 /// use needlevale::{verdict, Refusal};
@@ -270,12 +304,9 @@ pub fn variants(file: &[u8], root: Root, n: u8) -> Result<Variants, Error> {
 /// # Ok::<(), needlevale::Error>(())
 /// ```
 pub fn verdict(file: &[u8]) -> Result<Option<Refusal>, Error> {
-    // Sort 31 is never below the number of sorts, so an accepted file is refused for its root, and for nothing else.
-    let query = Query::new(Mode::Variants(0), Root { sort: 31, value: 0 });
-    match ask(file, query, 0) {
-        Err(Error::Refused(Refusal::BadRoot)) => Ok(None),
+    match read(file) {
+        Ok(_) => Ok(None),
         Err(Error::Refused(refusal)) => Ok(Some(refusal)),
         Err(other) => Err(other),
-        Ok(answer) => Err(Error::Unknown(format!("the text {:?}", answer.output))),
     }
 }

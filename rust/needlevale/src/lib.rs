@@ -1,10 +1,9 @@
 //! Needlevale in Rust: tables made, read and shown, and the proved library's answers about them.
 //!
-//! What [`best`], [`plain`], [`variants`], [`verdict`] and a [`Store`] give comes from `libneedlevale_c.a`, whose
+//! What [`best`], [`plain`], [`variants`], [`read`], [`verdict`] and a [`Store`] give comes from `libneedlevale_c.a`, whose
 //! functions are proved (`include/needlevale.h` says what). Everything else here is plain Rust, tested and not proved:
-//! the table file's bytes and
-//! the place of a fault ([`Table`], [`Fault`]), the text form ([`text`]), and what is computed for pictures and counts
-//! ([`compute`]).
+//! the table file's bytes and the place of a fault ([`Table`], [`Fault`]), the text form ([`text`]), and what is computed
+//! for pictures and counts ([`compute`]).
 //!
 //! ```
 //! use needlevale::{best, text, Root};
@@ -37,7 +36,8 @@ mod store;
 mod table;
 pub mod text;
 
-pub use ask::{ask, best, plain, variants, verdict, Answer, Best, Error, Mode, Query, Root, Variant, Variants};
+pub use ask::{ask, best, plain, read, variants, verdict};
+pub use ask::{Answer, Best, Error, Mode, Query, Root, Shape, Variant, Variants};
 pub use ask::{LONGEST_FILE, PROGRAM_OUTPUT};
 pub use fault::{Fault, Place};
 pub use layout::{
@@ -45,5 +45,5 @@ pub use layout::{
 };
 pub use names::{Named, Names};
 pub use refusal::Refusal;
-pub use store::{Chosen, Lets, Naming, Store, MOST_NAMES, MOST_TERMS};
+pub use store::{Chosen, Entry, Kept, Lets, Naming, Parts, Record, Store, Term, MOST_NAMES, MOST_TERMS};
 pub use table::{Draft, Function, Reading, Row, Sort, Table};

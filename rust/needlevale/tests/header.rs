@@ -60,5 +60,35 @@ fn numbers_are_the_headers() {
     assert_eq!(defined("NEEDLEVALE_LONGEST_INPUT"), needlevale::LONGEST_FILE);
     assert_eq!(defined("NEEDLEVALE_PROGRAM_OUTPUT"), needlevale::PROGRAM_OUTPUT);
     assert!(header.contains("#define NEEDLEVALE_LONGEST_INPUT (3 + 21385)"));
-    assert!(header.contains("#define NEEDLEVALE_STRUCTS_STACK (4 * 1024 * 1024)"));
+    assert_eq!(defined("NEEDLEVALE_MOST_TERMS"), needlevale::MOST_TERMS);
+    assert_eq!(defined("NEEDLEVALE_MOST_NAMES"), needlevale::MOST_NAMES);
+}
+
+/// The names and numbers of the stacks, and the names of the functions, in the order of the header.
+#[test]
+fn declarations_are_the_headers() {
+    let header = header();
+    let sys = concat!(env!("CARGO_MANIFEST_DIR"), "/../needlevale-sys/src/lib.rs");
+    let sys = std::fs::read_to_string(sys).expect("the declarations");
+    let stacks: Vec<String> = header
+        .lines()
+        .filter_map(|line| line.strip_prefix("#define NEEDLEVALE_STACK_"))
+        .map(|line| format!("    pub const {};", line.replace(' ', ": usize = ")))
+        .collect();
+    let ours: Vec<&str> = sys.lines().filter(|line| line.starts_with("    pub const ")).collect();
+    assert_eq!(ours, stacks);
+    let mut functions: Vec<&str> = header
+        .lines()
+        .filter(|line| line.starts_with(|first: char| first.is_ascii_lowercase()) && !line.starts_with("static "))
+        .filter_map(|line| line.split_once('(')?.0.rsplit([' ', '*']).next())
+        .filter(|name| name.starts_with("needlevale_"))
+        .collect();
+    let mut declared: Vec<&str> = sys
+        .lines()
+        .filter_map(|line| line.trim().strip_prefix("pub fn ")?.split_once('(').map(|parts| parts.0))
+        .collect();
+    functions.sort_unstable();
+    declared.sort_unstable();
+    assert_eq!(declared, functions);
+    assert_eq!(stacks.len(), functions.len() - 1);
 }
