@@ -35,7 +35,7 @@ extern "C" {
 /* The version, here and nowhere else: the Makefile reads these lines. While the first number is 0, the second goes up
  * with every change that a caller must follow, and programs built for one do not run with another. */
 #define NEEDLEVALE_VERSION_MAJOR 0
-#define NEEDLEVALE_VERSION_MINOR 1
+#define NEEDLEVALE_VERSION_MINOR 2
 #define NEEDLEVALE_VERSION_PATCH 0
 
 /* The same as a text: three numbers with a dot between. */

@@ -128,7 +128,7 @@ setup() { cd "$BATS_TEST_TMPDIR" && cp "$house/examples/worked/table.bin" .; }
 }
 
 @test "help, version, completions and the manual" {
-  says "needlevale 0.1.0" needlevale --version
+  says "needlevale 0.2.0" needlevale --version
   needlevale --help | grep -q '^Usage: needlevale <COMMAND>'
   for shell in bash zsh fish; do needlevale completions $shell | grep -q leave-out; done
   needlevale completions bash >completions.bash
@@ -180,7 +180,7 @@ setup() { cd "$BATS_TEST_TMPDIR" && cp "$house/examples/worked/table.bin" .; }
 }
 
 @test "./run needs no kit where all is built, and says so where it is not" {
-  says "needlevale 0.1.0" env PATH=/usr/bin:/bin "$house/run" --version
+  says "needlevale 0.2.0" env PATH=/usr/bin:/bin "$house/run" --version
   mkdir -p made && cp -r "$house/run" "$house/scripts" "$house/crates.txt" "$house/kit.txt" made && mkdir made/crates
   run -4 env PATH=/usr/bin:/bin made/run --version
   [ "${lines[-1]}" = "run: the library is not built of these sources, and the Rattle kit's 'rt', which builds it, is not on the PATH" ]
