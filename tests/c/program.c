@@ -1,13 +1,14 @@
 /* Replays the program's recorded answers through the calls of needlevale.h.
  *
- *   program FILE..       files of examples/recorded, replay-*.bin, whose README gives their form
+ *   program EVERY FILE..     files of examples/recorded, replay-*.bin, whose README gives their form
  *
- * Each case is asked of needlevale_answer, its file of needlevale_read, and its answer is put together here from
- * best or variants and the texts of their terms, in a store that starts empty. Then once more in a store with just
- * the room that was used, which must answer alike, and in one with one record less and one with one name less,
- * which is NoRoom. The calls are made on watched memory (calls.h), by turns at the front and at the back edge. Two
- * threads share the cases, on memory of their own. Prints one line, status 0; at the first difference, one
- * sentence, status 1; wrong usage is 2. Assumes a 64-bit Linux. */
+ * Each case is asked of needlevale_answer, its file of needlevale_read, and its answer is put together here from best
+ * or variants and the texts of their terms, in a store that starts empty. Of every so-many-th case of a thread that is
+ * answered, then once more in a store with just the room that was used, which must answer alike, and in one with one
+ * record less and one with one name less, which is NoRoom; texts and lists likewise. The calls are made on watched
+ * memory (calls.h), by turns at the front and at the back edge. Two threads share the cases, on memory of their own.
+ * Prints one line, status 0; at the first difference, one sentence, status 1; wrong usage is 2. Assumes a 64-bit
+ * Linux. */
 #define _DEFAULT_SOURCE
 #include <inttypes.h>
 #include <pthread.h>
@@ -28,6 +29,14 @@ struct worker {
     char made[OUTPUT_ROOM];
     size_t length;
 };
+
+static uint64_t every;
+
+/* Whether the case is one that is asked for with other rooms too. */
+static bool varied(const struct worker *at)
+{
+    return at->watch.number / THREADS % every == 0;
+}
 
 static enum edge turn(const struct worker *at)
 {
@@ -54,8 +63,8 @@ static int64_t add_line(struct worker *at, const char *word, uint64_t a, uint64_
     return add(at, line, (size_t)length + 1);
 }
 
-/* Adds a term's text, plain or let, and a newline. The text is asked for with the program's room, with its own length
- * and with one byte less. */
+/* Adds a term's text, plain or let, and a newline. The text is asked for with the program's room, and where it is so
+ * said with its own length and with one byte less. */
 static int64_t add_text(struct worker *at, const struct store *store, size_t term, bool lets)
 {
     struct question q = about(lets ? LET_TEXT : PLAIN_TEXT, store);
@@ -65,12 +74,14 @@ static int64_t add_text(struct worker *at, const struct store *store, size_t ter
     struct told whole = ask(&at->watch, &q, turn(at));
     if (whole.status < 0)
         return whole.status;
-    lend(&q, OUTPUT, at->room, (size_t)whole.status - 1);
-    expect(&at->watch, ask(&at->watch, &q, turn(at)).status == -NEEDLEVALE_NO_ROOM, "no NoRoom with one byte less");
-    lend(&q, OUTPUT, at->room, (size_t)whole.status);
-    struct told fits = ask(&at->watch, &q, turn(at));
-    expect(&at->watch, !memcmp(&fits, &whole, sizeof fits), "another result with just the room");
-    int64_t status = add(at, at->watch.lent[OUTPUT], (size_t)fits.status);
+    if (varied(at)) {
+        lend(&q, OUTPUT, at->room, (size_t)whole.status - 1);
+        expect(&at->watch, ask(&at->watch, &q, turn(at)).status == -NEEDLEVALE_NO_ROOM, "no NoRoom with one byte less");
+        lend(&q, OUTPUT, at->room, (size_t)whole.status);
+        struct told fits = ask(&at->watch, &q, turn(at));
+        expect(&at->watch, !memcmp(&fits, &whole, sizeof fits), "another result with just the room");
+    }
+    int64_t status = add(at, at->watch.lent[OUTPUT], (size_t)whole.status);
     return status < 0 ? status : add(at, "\n", 1);
 }
 
@@ -89,6 +100,8 @@ static int64_t variants(struct worker *at, struct question *q, struct store *sto
     if (count) {
         memcpy(costs, at->watch.lent[COSTS], count * sizeof *costs);
         memcpy(found, at->watch.lent[FOUND], count * sizeof *found);
+    }
+    if (count && varied(at)) {
         lend(q, COSTS, at->costs, count - 1);
         expect(&at->watch, ask(&at->watch, q, turn(at)).status == -NEEDLEVALE_NO_ROOM, "no NoRoom of too few costs");
         lend(q, COSTS, at->costs, places);
@@ -185,7 +198,7 @@ static void one_case(struct worker *at, const uint8_t *input, size_t length, con
     free_store(&store);
     if (status < 0)
         at->refused++;
-    if (status < 0 || !terms)
+    if (status < 0 || !terms || !varied(at))
         return;
     as_recorded(at, with_room(at, input, length, &store, terms, names), wanted, wanted_length);
     expect(&at->watch, store.term_count == terms && store.name_count == names, "other counts with just the room");
@@ -228,14 +241,15 @@ int main(int count, char **words)
     static struct worker workers[THREADS];
     pthread_attr_t attributes;
     uint64_t cases = 0, calls = 0, refused = 0;
-    if (count < 2) {
-        fputs("program: give recorded files, such as examples/recorded/replay-*.bin\n", stderr);
+    every = count < 3 ? 0 : strtoull(words[1], NULL, 10);
+    if (!every) {
+        fputs("program: give a number above 0 and recorded files, such as examples/recorded/replay-*.bin\n", stderr);
         return 2;
     }
     for (uint64_t k = 0; k < THREADS; k++) {
         watch_begins(&workers[k].watch, "program");
         workers[k].mine = k;
-        workers[k].paths = words + 1;
+        workers[k].paths = words + 2;
     }
     expect(&workers->watch, needlevale_version() == NEEDLEVALE_VERSION_NUMBER,
            "the library is of another version than the header");
