@@ -11,7 +11,7 @@ use lib.ListN.{length, getD, take, replicate}
 use lib.Seq.{paste, length-take-le}
 use Rattle.refusal.specs.declared.Refusal.the-variants.{TooDear, NoRoom}
 use Rattle.term_rules.specs.Lent.{Store, store}
-use Rattle.build.specs.Copied.{copied}
+use Rattle.copies.specs.Copied.{copied}
 use Rattle.choice_rules.proofs.Demand.OrderLaws.{map-length}
 use Rattle.build.specs.Plan.{Child, Plan}
 use Rattle.build.specs.Building.{state, Out, done, full}

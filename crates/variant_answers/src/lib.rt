@@ -10,7 +10,6 @@ ghost use Rattle.variant_order.specs.Arrays.{AllBelow};
 ghost use Rattle.variant_terms.specs.Turned.{nameIn};
 ghost use Rattle.variant_answers.specs.Kept.{lending, seen, dearIn, pricesOf, ResultsFit, Results};
 ghost use Rattle.variant_answers.specs.Kept.{AnswerReady, Answers};
-use build::copies;
 use variant_terms::Turned;
 
 // How many are kept, the passes and the counts of terms and symbols then; or the refusal.
