@@ -1,13 +1,14 @@
 -- The levels of `level_rules` over packed rows, for 512 classes and costs up to 2^64-1, and how they lie in slices.
 -- Assumes nothing: definitions.
 use mathlib.Core.Path.{_≡_}
-use mathlib.Core.Bool.{cond, _||_}
+use mathlib.Core.Bool.{Bool, true}
 use mathlib.Core.List.{List, map}
-use Prim.Native.Nat.{ℕ, suc, _+_, _-_, _*_, _^_, _<_, _≤_}
-use lib.ListN.{length, getD, set, take, drop}
-use lib.Dec.{ltb, eqb}
-use Rattle.table_layout.specs.Rows.{HasRow, rowsIn, RowOk, RowsOk}
-use Rattle.level_rules.specs.Levels.{Level, levelAt, sweep}
+use Prim.Native.Nat.{ℕ, suc, _-_, _*_, _^_, _<_}
+use lib.ListN.{length, take, drop}
+use Rattle.choice_rules.specs.Rows.{Row}
+use Rattle.choice_rules.specs.Run.{rowCost}
+use Rattle.table_layout.specs.Rows.{HasRow, rowsIn, RowOk}
+use Rattle.level_rules.specs.Levels.{Level, takes, levelAt}
 
 -- The number at which costs saturate.
 abbrev pub top : ℕ
@@ -32,12 +33,10 @@ pub record OfferReady (heads rows : List ℕ) (i : ℕ) : Type 0 where
   pub whole : HasRow rows i
   pub ok : RowOk 512 heads rows i
 
--- A level after row i, of class c and this cost, was taken where it is the first of its class or strictly cheaper.
-unfoldable pub keep : Level → ℕ → ℕ → ℕ → Level
-keep w c i cost =
-    cond (eqb (getD (w .entries) c 0) 0 || ltb cost (getD (w .costs) c 0))
-    (levelOf (set (w .costs) c cost) (set (w .entries) c (suc i)))
-    w
+-- What weighing a row over level d, which is v, against w told: whether it is taken, and its cost where it is.
+pub record Weighs (d : ℕ) (v w : Level) (r : Row) (told : Bool) (cost : ℕ) : Type 0 where
+  pub is-taken : takes top d v w r ≡ told
+  pub cost-is : told ≡ true → cost ≡ rowCost top (v .costs) r
 
 -- The rows of the classes that have an entry: an entry is one more than the place of its row.
 abbrev pub placesOf : List ℕ → List ℕ

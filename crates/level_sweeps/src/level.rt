@@ -4,26 +4,59 @@ ghost use Prim.Native.Nat.{_<_};
 ghost use lib.ListN.{length};
 ghost use Rattle.table_layout.specs.Rows.{rowIn, rowsIn, RowsOk};
 ghost use Rattle.level_rules.specs.Levels.{bare, offer, sweep};
-ghost use Rattle.level_sweeps.specs.Swept.{top, levelOf, Long, OfferReady, keep};
+ghost use Rattle.level_sweeps.specs.Swept.{top, levelOf, Long, OfferReady, Weighs};
 use super::row;
 
-// Takes row `i`, of class `c` and this cost, where it is the first of its class or strictly cheaper.
-fn keep(costs: &mut [u64], entries: &mut [u16], c: usize, i: usize, cost: u64)
-    requires { ⌜ Long (now costs) (now entries) ⌝ }
-    requires { ⌜ (c < 512) × (i < 1024) ⌝ }
-    ensures { λ _. ⌜
-        levelOf (now (costs .exit)) (now (entries .exit))
-        ≡ keep (levelOf (now (costs .entry)) (now (entries .entry))) c i cost
+// Whether a row is taken, and its cost where it is.
+pub struct Weighed {
+    pub takes: bool,
+    pub cost: u64,
+}
+
+// Weighs row `i` over level `below`, of which `paid` and `known` are the costs and entries, against what the next level
+// has so far.
+fn weigh(
+    rows: &[u16],
+    heads: &[u64],
+    i: usize,
+    below: usize,
+    paid: &[u64],
+    known: &[u16],
+    costs: &[u64],
+    entries: &[u16],
+) -> Weighed
+    requires { ⌜ OfferReady (now heads) (now rows) i ⌝ }
+    requires { ⌜ Long (now paid) (now known) × Long (now costs) (now entries) ⌝ }
+    ensures { λ r. ⌜
+        Weighs below (levelOf (now (paid .entry)) (now (known .entry)))
+        (levelOf (now (costs .entry)) (now (entries .entry)))
+        (rowIn (now (heads .entry)) (now (rows .entry)) i)
+        (r .takes) (r .cost)
         ⌝ }
 {
-    if entries[c] == 0 || cost < costs[c] {
-        costs[c] = cost;
-        entries[c] = i as u16 + 1;
+    let kids = table_layout::children_of(rows, i);
+    if !row::reaches(known, below, kids) {
+        return Weighed {
+            takes: false,
+            cost: 0,
+        };
+    }
+    let f = table_layout::function_of(rows, i);
+    let cost = row::cost(paid, heads[f], kids);
+    let c = table_layout::output_of(rows, i);
+    if entries[c] == 0 {
+        return Weighed {
+            takes: true,
+            cost: cost,
+        };
+    }
+    Weighed {
+        takes: cost < costs[c],
+        cost: cost,
     }
 }
 
-// Takes row `i` into the level, or passes it by; `paid` and `known` are the costs and entries
-// of level `below`.
+// Takes row `i` into the level, or passes it by.
 fn offer(
     rows: &[u16],
     heads: &[u64],
@@ -43,14 +76,12 @@ fn offer(
         (rowIn (now (heads .entry)) (now (rows .entry)) i)
         ⌝ }
 {
-    let kids = table_layout::children_of(rows, i);
-    if !row::reaches(known, below, kids) {
-        return;
+    let w = weigh(rows, heads, i, below, paid, known, costs, entries);
+    if w.takes {
+        let c = table_layout::output_of(rows, i);
+        costs[c] = w.cost;
+        entries[c] = i as u16 + 1;
     }
-    let f = table_layout::function_of(rows, i);
-    let cost = row::cost(paid, heads[f], kids);
-    let c = table_layout::output_of(rows, i);
-    keep(costs, entries, c, i, cost);
 }
 
 // Offers all rows, in scan order, to a level that is still bare.
