@@ -42,3 +42,32 @@ deeper-is-cheaper = refl
 pub first-of-equals : entryAt M table 2 3 0 ≡ 3
 unfolding levelAt sweep offer takes reaches rowCost sumOf allOf childCost
 first-of-equals = refl
+
+-- Wrap(0)->0 cost 0, then Leaf()->0 cost 1
+abbrev wrap-leaf : List Row
+wrap-leaf = row 0 (class 0 ∷ []) 0 ∷ row 0 [] 1 ∷ []
+
+-- "Here a class may be met again down a path, at a lower level": within 2 the two rows cost the same, and Wrap is first
+pub leaf-alone : entryAt M wrap-leaf 1 1 0 ≡ 2
+unfolding levelAt sweep offer takes reaches rowCost sumOf allOf childCost
+leaf-alone = refl
+
+pub class-met-again : entryAt M wrap-leaf 1 2 0 ≡ 1
+unfolding levelAt sweep offer takes reaches rowCost sumOf allOf childCost
+class-met-again = refl
+
+pub at-no-higher-cost : toldWithin M wrap-leaf 1 2 0 ≡ best 1
+unfolding answerOf levelAt sweep offer takes reaches rowCost sumOf allOf childCost
+at-no-higher-cost = refl
+
+-- within 1 there is no term; the one within 2 costs 2^64 and is too dear
+abbrev dear : List Row
+dear = row 0 (class 1 ∷ []) M ∷ row 1 [] 1 ∷ []
+
+pub dear-without-term : toldWithin M dear 2 1 0 ≡ noTerm
+unfolding answerOf levelAt sweep offer takes reaches rowCost sumOf allOf childCost
+dear-without-term = refl
+
+pub dear-is-too-dear : toldWithin M dear 2 2 0 ≡ tooDear
+unfolding answerOf levelAt sweep offer takes reaches rowCost sumOf allOf childCost
+dear-is-too-dear = refl
