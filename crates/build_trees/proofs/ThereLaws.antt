@@ -56,6 +56,7 @@ module _ (s : Store) (formed : wellFormed s ≡ true) where
 
   mutual
     unfolding addTree addTrees addOwn
+
     pub tree-there : (t : Tree) (i : ℕ) → i < s .terms → Means s i t → addTree s t ≡ at i s
     tree-there (number z) i h m = add-there i _ h (says s m)
     tree-there (named n) i h m = add-there i _ h (says s m)
