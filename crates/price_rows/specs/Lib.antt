@@ -1,0 +1,3 @@
+-- The definitions of the crate `price_rows`: the lists that a run fills.
+pub mod States
+pub mod Scanned
