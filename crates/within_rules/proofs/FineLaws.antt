@@ -24,14 +24,19 @@ module _ (t : Table) (k : Known t) where
 
   mutual
     unfolding Derives DeriveAll termOf termsOf
+
     pub fine-term : (u : Tree) (x : Child) → Derives (tableRows t) u x → Fine (termOf t u)
     fine-term (leaf i) x d = tt
     fine-term (node r f) (literal j) d = absurd d
     fine-term (node r f) (class c) d =
         let l : r < length (t .rows) = omega (arith, d .0, tableRows-length t) in (
           k .name (tableRowOf t r .function) (k .function r l),
-          omega (arith, count-terms f (rowAt (tableRows t) r .children) (d .2), children-length t k r l,
-          k .arity (tableRowOf t r .function) (k .function r l)),
+          omega (
+            arith,
+            count-terms f (rowAt (tableRows t) r .children) (d .2),
+            children-length t k r l,
+            k .arity (tableRowOf t r .function) (k .function r l),
+          ),
           fine-terms f (rowAt (tableRows t) r .children) (d .2),
         )
 

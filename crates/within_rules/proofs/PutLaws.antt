@@ -174,6 +174,7 @@ module _
 
   mutual
     unfolding addTree addTrees
+
     pub put-tree :
         (u : Tree) (s : Store) → wellFormed s ≡ true → Fine u → Need u → G s → PutGood s u (addTree s u)
     put-tree (number z) s f v n k =

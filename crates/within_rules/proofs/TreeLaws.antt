@@ -43,6 +43,7 @@ module _ (rows : List Row) (level : ℕ → Level) where
   module _ (empty : Empty level) where
     mutual
       unfolding Held
+
       pub held-tree : (t : Tree) (d c : ℕ) → Held rows level d t (class c) → treeAt rows level d c ≡ t
       held-tree (leaf i) d c h = absurd h
       held-tree (node i f) zero c h = absurd (omega (arith, h .0, empty c))
