@@ -6,3 +6,4 @@ pub mod ChoiceLaws
 pub mod PutLaws
 pub mod FineLaws
 pub mod KeptLaws
+pub mod AtLaws
