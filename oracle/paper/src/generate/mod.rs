@@ -4,6 +4,7 @@ mod chains;
 mod faulty;
 mod limits;
 pub mod make;
+pub mod orders;
 mod rng;
 mod scripts;
 mod shapes;
