@@ -132,6 +132,6 @@ impl<'a> Priced<'a> {
     }
 }
 
-fn output(row: &Row) -> usize {
+pub fn output(row: &Row) -> usize {
     row.cells[row.cells.len() - 1]
 }

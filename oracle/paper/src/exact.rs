@@ -5,7 +5,7 @@
 use crate::table::{Sort, Table};
 
 /// Far beyond every cost that can be told from 'too dear', and far from overflowing.
-const ENOUGH: u128 = 1 << 100;
+pub const ENOUGH: u128 = 1 << 100;
 
 /// The least cost of a deriving term of the class, at most `ENOUGH`; nothing if no term derives it.
 pub fn least(table: &Table, sort: usize, class: usize) -> Option<u128> {

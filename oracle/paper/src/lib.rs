@@ -15,3 +15,4 @@ pub mod store;
 pub mod stream;
 pub mod table;
 pub mod text;
+pub mod within;

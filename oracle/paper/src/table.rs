@@ -130,3 +130,10 @@ pub fn input(query: &Query, table: &Table) -> Vec<u8> {
     table.write(1, &mut out);
     out.bytes()
 }
+
+/// A table as a file.
+pub fn file(table: &Table) -> Vec<u8> {
+    let mut out = Writer::default();
+    table.write(1, &mut out);
+    out.bytes()
+}

@@ -2,6 +2,7 @@
 
 mod chains;
 mod faulty;
+pub mod levels;
 mod limits;
 pub mod make;
 mod rng;

@@ -1,0 +1,3 @@
+-- The laws of the crate `build_trees`.
+pub mod ThereLaws
+pub mod AgreeLaws

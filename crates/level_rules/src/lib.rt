@@ -1,0 +1,1 @@
+// The cheapest terms within a depth: definitions in specs/, theorems in proofs/. No code.

@@ -1,0 +1,2 @@
+-- The definitions of the crate `level_sweeps`.
+pub mod Swept

@@ -1,0 +1,1 @@
+// The cheapest term of a root within a depth: definitions in specs/, theorems in proofs/. No code.
