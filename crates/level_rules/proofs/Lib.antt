@@ -2,6 +2,7 @@
 pub mod OfferLaws
 pub mod SweepLaws
 pub mod LeastLaws
+pub mod WiderLaws
 pub mod HeldLaws
 pub mod ChosenLaws
 pub mod AnswerLaws

@@ -1,0 +1,3 @@
+-- The laws of the crate `within_class`.
+pub mod TreeLaws
+pub mod LevelLaws
