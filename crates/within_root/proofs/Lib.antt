@@ -1,0 +1,2 @@
+-- The laws of the crate `within_root`.
+pub mod SingleLaws
