@@ -85,7 +85,8 @@ literal-bare z d s e = rw (e, ifAllowed) (go (wellFormed s))
 
 -- What best answers for a literal, as the answer within a depth.
 pub literal-seen :
-    (b : BestAnswer) (r : WithinAnswer) (rs : List ℕ) (ls : List ℤ) (ns : List ℕ) (n m : ℕ) (z : ℤ) (d : ℕ) (s : Store) →
+    (b : BestAnswer) (r : WithinAnswer) (rs : List ℕ) (ls : List ℤ) (ns : List ℕ) (n m : ℕ) (z : ℤ) (d : ℕ)
+    (s : Store) →
     isDepth d ≡ true →
     r ≡ withoutPasses b →
     seenBest b rs ls ns n m ≡ literalAnswer z s →

@@ -1,0 +1,3 @@
+-- The definitions of the crate `within`.
+pub mod Told
+pub mod Promises
