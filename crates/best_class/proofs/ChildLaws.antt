@@ -9,7 +9,7 @@ use lib.ListN.{length, getD}
 use Rattle.order.proofs.OrderLaws.{cases}
 use Rattle.choice_rules.specs.Rows.{Child, literal, class, rowAt, childAt}
 use Rattle.price_passes.specs.Flat.{childOf as flatChild}
-use Rattle.build.specs.Plan.{value, childOf as planNumber}
+use Rattle.build.specs.Plan.{value, childBy, childOf as planNumber}
 use Rattle.file_rules.specs.Table.{Table}
 use Rattle.table_rules.specs.Rules.Classes.{sortOf, childOf, rangeOf}
 use Rattle.table_rules.specs.Rules.Rows.{functionOf, tableRowOf, tableRows}
@@ -47,10 +47,10 @@ module _
     (t : Table) (values : List ℤ) (same : (i : ℕ) → i < length (t .literals) → getD values i (pos 0) ≡ literalOf t i)
   where
     number-child : (x : ℕ) → InTable t (flatChild x) → planNumber values x ≡ planChild t (flatChild x)
-    unfolding planNumber flatChild planChild
+    unfolding childBy flatChild planChild
     number-child x i =
-        cases (ltb x 512) (λ e. rw (e, planNumber) refl)
-        (λ e. rw (e, planNumber) (ap value (same (x - 512) (rw e at i))))
+        cases (ltb x 512) (λ e. rw (e, childBy) refl)
+        (λ e. rw (e, childBy) (ap value (same (x - 512) (rw e at i))))
 
     pub number-children :
         (xs : List ℕ) →

@@ -2,5 +2,6 @@
 pub mod StandingLaws
 pub mod BuildingLaws
 pub mod PlanLaws
+pub mod KeyLaws
 pub mod TurnLaws
 pub mod OwnLaws

@@ -2,6 +2,7 @@
 -- nothing.
 use Prim.Native.Nat.{ℕ, zero, suc, _+_, _-_, _≤_, _<_}
 use mathlib.Core.Path.{_≡_, refl, sym, ap, subst, _∙_}
+use mathlib.Core.Logic.{_⊎_}
 use mathlib.Core.List.{List, [], _∷_, _++_, map}
 use Prim.{Dec, yes, no}
 use native.Mathlib.Decide.{ℕ-discrete}
@@ -13,13 +14,14 @@ use lib.IntN.{ℤ}
 use borrow.Author.Tests.{lt-ltb, le-ltb}
 use Rattle.term_rules.specs.Nodes.{literal}
 use Rattle.term_rules.specs.Adding.{add}
-use Rattle.build.specs.Plan.{Child, class, value, Plan, childOf}
+use Rattle.build.specs.Plan.{Child, class, value, Plan, keyAt, keyUnder}
 use Rattle.build.specs.Building.{State, Out, done, full, added, childIn, childrenIn, ownIn, buildIn}
 use Rattle.build.specs.Standing.{Tracks}
 use Rattle.build.specs.Ready.{seen, Ranked, Exact}
 use Rattle.build.specs.declared.Built.{Built}
 use Rattle.build.proofs.BuildingLaws.{Right, build-right, child-right}
 use Rattle.build.proofs.PlanLaws.{children-next, children-end}
+use Rattle.build.proofs.KeyLaws.{under-is}
 
 module _ (g : State → ℕ → Out ℕ) (s : State) where
   pub childIn-class : (c : ℕ) → childIn g s (class c) ≡ g s c
@@ -80,7 +82,19 @@ module _ (p : Plan) (s : State) (c : ℕ) where
     exact-of-children o z e (suc f) h = buildIn-when-new f z ∙ e f (omega arith)
     exact-of-children o z e zero h = absurd (omega arith)
 
--- The child x of class c is built, by a call or as a literal.
+-- a child class is built by a call one level lower
+pub exact-under :
+    (p : Plan) (s : State) (o : Out ℕ) (stride level c x low : ℕ) →
+    (stride ≡ 0) ⊎ (stride ≡ 512) →
+    c < 512 →
+    Exact p low s (keyAt low stride x) o →
+    low ≡ level - 1 →
+    Exact p (level - 1) s (keyUnder stride (keyAt level stride c) x) o
+exact-under p s o stride level c x low h l e g =
+    subst (λ (k : ℕ). Exact p (level - 1) s k o) (sym (under-is stride level c x h l))
+    (subst (λ (n : ℕ). Exact p n s (keyAt n stride x) o) g e)
+
+-- The child x of key c is built, by a call or as a literal.
 pub record Made (p : Plan) (r : ℕ) (s : State) (x : Child) (o : Out ℕ) : Type 0 where
   pub same : (f : ℕ) → r ≤ f → childIn (buildIn p f) s x ≡ o
   pub right : Right p s x o
@@ -112,10 +126,10 @@ pub record Arrives
   pub literals : length ls ≡ length (at .lent .literals)
   pub names : length ns ≡ length (at .lent .names)
 
--- The loop over the children of class c, whose numbers are `kids`: those before j are built, in their order, and the
+-- The loop over the children of key c, whose numbers are `kids`: those before j are built, in their order, and the
 -- state is as the definition's.
 pub record Turn
-    (p : Plan) (level : ℕ) (values : List ℤ) (kids : List ℕ) (first at : State) (ks : List ℕ) (j : ℕ) : Type 0 where
+    (p : Plan) (level : ℕ) (child : ℕ → Child) (kids : List ℕ) (first at : State) (ks : List ℕ) (j : ℕ) : Type 0 where
   pub within : j ≤ length kids
   pub long : length ks ≡ 8
   pub memo : length (at .memo) ≡ length (first .memo)
@@ -127,17 +141,17 @@ pub record Turn
   pub same :
       (f : ℕ) →
       level ≤ f →
-      childrenIn (buildIn p f) first [] (map (childOf values) kids)
-      ≡ childrenIn (buildIn p f) at (take j ks) (drop j (map (childOf values) kids))
+      childrenIn (buildIn p f) first [] (map child kids)
+      ≡ childrenIn (buildIn p f) at (take j ks) (drop j (map child kids))
 
 module _
-    (p : Plan) (level : ℕ) (values : List ℤ) (kids : List ℕ) (few : length kids ≤ 8) (first at : State) (ks : List ℕ)
-    (j : ℕ) (turn : Turn p level values kids first at ks j) where
+    (p : Plan) (level : ℕ) (child : ℕ → Child) (kids : List ℕ) (few : length kids ≤ 8) (first at : State) (ks : List ℕ)
+    (j : ℕ) (turn : Turn p level child kids first at ks j) where
   abbrev xs : List Child
-  xs = map (childOf values) kids
+  xs = map child kids
 
   abbrev x : Child
-  x = childOf values (getD kids j 0)
+  x = child (getD kids j 0)
 
   below-set :
       (t m : ℕ) →
@@ -161,7 +175,7 @@ module _
       length (s′ .lent .records) ≡ length (at .lent .records) →
       length (s′ .lent .literals) ≡ length (at .lent .literals) →
       length (s′ .lent .names) ≡ length (at .lent .names) →
-      Turn p level values kids first s′ (set ks j t) (j + 1)
+      Turn p level child kids first s′ (set ks j t) (j + 1)
   turn-go h t s′ made em er el en =
       let inside : j < length ks = omega (arith, turn .long) in
       record {
@@ -177,7 +191,7 @@ module _
             (ℕ-discrete i j) q;
         same = λ f q.
             turn .same f q
-            ∙ ap (childrenIn (buildIn p f) at (take j ks)) (children-next values kids j h)
+            ∙ ap (childrenIn (buildIn p f) at (take j ks)) (children-next child kids j h)
             ∙ childrenIn-go (buildIn p f) at (take j ks) x (drop (j + 1) xs) t s′ (made .same f q)
             ∙ ap (λ (ms : List ℕ). childrenIn (buildIn p f) s′ ms (drop (j + 1) xs))
             (sym (ap (λ (i : ℕ). take i (set ks j t)) (add-one j) ∙ take-suc-set ks j t inside));
@@ -195,7 +209,7 @@ module _
         ap (ownIn (p .name c) c)
         (ap (childrenIn (buildIn p f) first []) are
         ∙ turn .same f q
-        ∙ ap (childrenIn (buildIn p f) at (take j ks)) (children-next values kids j h)
+        ∙ ap (childrenIn (buildIn p f) at (take j ks)) (children-next child kids j h)
         ∙ childrenIn-stop (buildIn p f) at (take j ks) x (drop (j + 1) xs) me rs ls ns (made .same f q))
         ∙ ownIn-full (p .name c) c me rs ls ns)
 
@@ -207,5 +221,5 @@ module _
         ap (ownIn (p .name c) c)
         (ap (childrenIn (buildIn p f) first []) are
         ∙ turn .same f q
-        ∙ ap (childrenIn (buildIn p f) at (take j ks)) (children-end values kids j l)
+        ∙ ap (childrenIn (buildIn p f) at (take j ks)) (children-end child kids j l)
         ∙ childrenIn-end (buildIn p f) at (take j ks)))

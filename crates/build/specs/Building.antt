@@ -11,7 +11,7 @@ use Rattle.term_rules.specs.Nodes.{literal, application}
 use Rattle.term_rules.specs.Adding.{Adds, at, noRoom, add}
 use Rattle.build.specs.Plan.{Child, class, value, Plan}
 
--- what was built so far: of each class 0, or one more than its term's number; and the store
+-- what was built so far: of each key 0, or one more than its term's number; and the store
 pub record State : Type 0 where
   pub memo : List ℕ
   pub lent : Store
@@ -33,7 +33,7 @@ unfoldable pub added : State → Adds → Out ℕ
 added s (at t lent) = done t (state (s .memo) lent)
 added s noRoom = noMore (s .memo) (s .lent)
 
--- class c has its term
+-- key c has its term
 unfoldable pub kept : ℕ → Out ℕ → Out ℕ
 kept c (done t s) = done t (state (set (s .memo) c (t + 1)) (s .lent))
 kept c (full me rs ls ns) = full me rs ls ns
@@ -52,13 +52,13 @@ childrenIn g s ks (x ∷ xs) =
       | full me rs ls ns ↦ full me rs ls ns
     ]
 
--- "then the term itself": that of class c, by name
+-- "then the term itself": that of key c, by name
 unfoldable pub ownIn : List ℕ → ℕ → Out (List ℕ) → Out ℕ
 ownIn name c (done ks s) = kept c (added s (add (s .lent) (application name ks)))
 ownIn name c (full me rs ls ns) = full me rs ls ns
 
 -- "The term is built children first, left to right, then the term itself, once per sort and class." The number f
--- bounds the depth; a class's rank is enough.
+-- bounds the depth; a key's rank is enough.
 unfoldable pub buildIn : Plan → ℕ → State → ℕ → Out ℕ
 buildIn p zero s c = noMore (s .memo) (s .lent)
 buildIn p (suc f) s c =

@@ -4,3 +4,4 @@ pub mod Building
 pub mod Standing
 pub mod Ready
 pub mod Whole
+pub mod Levels

@@ -2,6 +2,7 @@
 use Prim.Native.Nat.{ℕ, _+_, _*_, _-_, _≤_, _<_}
 use mathlib.Core.Path.{_≡_}
 use mathlib.Core.Bool.{true}
+use mathlib.Core.Logic.{_⊎_}
 use mathlib.Core.List.{List, [], _∷_}
 use lib.ListN.{length, getD}
 use lib.IntN.{ℤ}
@@ -12,7 +13,7 @@ use Rattle.term_rules.specs.Lent.{Store, store}
 use Rattle.term_rules.specs.WellFormed.{wellFormed}
 use Rattle.term_rules.specs.Nodes.{literal}
 use Rattle.term_rules.specs.Adding.{add}
-use Rattle.build.specs.Plan.{Child, class, value, Plan, planOf}
+use Rattle.build.specs.Plan.{Child, class, value, Plan, planBy, keyAt, keyUnder}
 use Rattle.build.specs.Building.{State, state, Out, done, full, added, buildIn}
 use Rattle.build.specs.Standing.{Tracks}
 use Rattle.build.specs.declared.Built.{Built}
@@ -45,29 +46,37 @@ pub record ChildBelow (rank : ℕ → ℕ) (r : ℕ) (values : List ℤ) (x : �
   pub falls : x < 512 → rank x < r
   pub known : 512 ≤ x → x - 512 < length values
 
--- the same of class c in packed rows: its row, all of its numbers in their places
-pub record Planned (rank : ℕ → ℕ) (rows edges labels : List ℕ) (values : List ℤ) (c : ℕ) : Type 0 where
-  pub place : c < length edges
-  pub whole : HasRow rows (getD edges c 0)
-  pub label : Label labels (functionAt rows (getD edges c 0))
-  pub few : countAt rows (getD edges c 0) ≤ 8
+-- the same of key k in packed rows, where `key` gives the keys of child classes: its row, all of its numbers in their
+-- places
+pub record PlannedBy
+    (key : ℕ → ℕ → ℕ) (rank : ℕ → ℕ) (rows edges labels : List ℕ) (values : List ℤ) (k : ℕ) : Type 0 where
+  pub place : k < length edges
+  pub whole : HasRow rows (getD edges k 0)
+  pub label : Label labels (functionAt rows (getD edges k 0))
+  pub few : countAt rows (getD edges k 0) ≤ 8
   pub child :
       (j : ℕ) →
-      j < length (childrenAt rows (getD edges c 0)) →
-      ChildBelow rank (rank c) values (getD (childrenAt rows (getD edges c 0)) j 0)
+      j < length (childrenAt rows (getD edges k 0)) →
+      ChildBelow (λ (x : ℕ). rank (key k x)) (rank k) values (getD (childrenAt rows (getD edges k 0)) j 0)
 
--- what building class c asks: ranks, none of which is above the level for c, by which every class with a rank has a
--- row; and a memo with a place for each that tells the truth of a well-formed store
+-- every class is its own key
+abbrev pub Planned : (ℕ → ℕ) → List ℕ → List ℕ → List ℕ → List ℤ → ℕ → Type 0
+Planned rank rows edges labels values c = PlannedBy (λ (k x : ℕ). x) rank rows edges labels values c
+
+-- what building class c at a level asks: ranks, by which every key with a rank has a row, and that of c is not above
+-- the level; and a memo with a place for each that tells the truth of a well-formed store
 pub record Ready
-    (rows edges labels : List ℕ) (values : List ℤ) (me : List ℕ) (s : Store) (level c : ℕ) : Type 0 where
+    (rows edges labels : List ℕ) (values : List ℤ) (me : List ℕ) (s : Store) (level stride c : ℕ) : Type 0 where
   pub rank : ℕ → ℕ
-  pub planned : (k : ℕ) → 0 < rank k → Planned rank rows edges labels values k
+  pub planned : (k : ℕ) → 0 < rank k → PlannedBy (keyUnder stride) rank rows edges labels values k
   pub inside : (k : ℕ) → 0 < rank k → k < length me
-  pub tracks : Tracks (planOf rows edges labels values) (state me s)
-  pub ranked : 0 < rank c
-  pub enough : rank c ≤ level
+  pub tracks : Tracks (planBy (keyUnder stride) rows edges labels values) (state me s)
+  pub strides : (stride ≡ 0) ⊎ (stride ≡ 512)
+  pub small : c < 512
+  pub ranked : 0 < rank (keyAt level stride c)
+  pub enough : rank (keyAt level stride c) ≤ level
 
--- what a class's own term asks: a function with a name, and children in the store
+-- what the own term of key c asks: a function with a name, and children in the store
 pub record OwnReady (labels me : List ℕ) (s : Store) (c f : ℕ) (ks : List ℕ) : Type 0 where
   pub entry : f * 32 + 32 ≤ length labels
   pub short : lengthAt labels f ≤ 31

@@ -33,9 +33,13 @@ left s (done t s′) = record {
 left s (full me rs ls ns) =
     record { answer = Full; records = s .records; literals = s .literals; names = s .names }
 
+-- the term of a key of this rank, by a memo
+abbrev pub wholeBy : Plan → ℕ → List ℕ → Store → ℕ → Left
+wholeBy p rank me s k = left s (buildIn p (rank + 1) (state me s) k)
+
 -- the term of a class of this rank, by a memo that names no class
 unfoldable pub whole : Plan → ℕ → Store → ℕ → Left
-whole p rank s c = left s (buildIn p (rank + 1) (state (replicate 512 0) s) c)
+whole p rank s c = wholeBy p rank (replicate 512 0) s c
 
 -- what it asks: as `build`, with a memo of 512 places that names no class
 pub record Ready (rows edges labels : List ℕ) (values : List ℤ) (s : Store) (level c : ℕ) : Type 0 where

@@ -1,5 +1,5 @@
-// The builder of best terms: a class's term is built into a lent store by a function that calls itself on each child
-// class.
+// The builder of best terms and of terms within a depth: a class's term is built into a lent store by a function that
+// calls itself on each child class.
 ghost use mathlib.Core.Path.{_≡_};
 ghost use Prim.Native.Nat.{ℕ, _+_, _*_, _<_, _≤_};
 ghost use mathlib.Core.Bool.{true};
@@ -8,11 +8,12 @@ ghost use lib.IntN.{pos};
 ghost use Rattle.name.specs.Entries.{nameAt};
 ghost use Rattle.term_rules.specs.Lent.{store};
 ghost use Rattle.term_rules.specs.WellFormed.{wellFormed};
-ghost use Rattle.build.specs.Plan.{planOf};
+ghost use Rattle.build.specs.Plan.{planBy, keyAt, keyUnder};
 ghost use Rattle.build.specs.Building.{state, done, ownIn};
 ghost use Rattle.build.specs.Ready.{Ready, OwnReady, Exact, LiteralExact, seen};
 use term_add::Added;
 
+pub mod levels; // levels.rt: a class's term within a depth as one call: all or nothing
 pub mod whole; // whole.rt: a class's best term as one call: all or nothing
 
 // The term's number and the counts of terms and symbols then; or that the store has no room for a term.
@@ -53,7 +54,7 @@ pub fn literal_term(
     Built::Done(t, n, k)
 }
 
-// The term of class `c`, of function `f` over its children's terms, kept in the memo.
+// The term of key `c`, of function `f` over its children's terms, kept in the memo.
 fn own_term(
     labels: &[u8],
     memo: &mut [u16],
@@ -96,9 +97,10 @@ fn own_term(
     Built::Done(t, n, k)
 }
 
-// The term of class `c`: its children first, left to right, then the term itself, once per class (src/extract.rs,
-// reconstruct_termdag_node_helper). The row of a class is the one that its edge names. Each call inside is on a class
-// of a lower rank, so `level`, which no rank is above, falls with each.
+// The term of class `c` at a level: its children first, left to right, then the term itself, once per key
+// (src/extract.rs, reconstruct_termdag_node_helper). The keys of a level stand `stride` after those of the level below:
+// 512 for terms within a depth, 0 for best terms, where a class is its own key. The row of a key is the one that its
+// edge names. Each call inside is one level lower, on a key of a lower rank, and no rank is above its level.
 pub fn build(
     rows: &[u16],
     edges: &[u16],
@@ -111,25 +113,30 @@ pub fn build(
     terms: usize,
     symbols: usize,
     level: usize,
+    stride: usize,
     c: usize,
 ) -> Built
     requires { ⌜
         Ready (now rows) (now edges) (now labels) (now values) (now memo)
         (store (now records) (now literals) (now names) terms symbols)
-        level c
+        level stride c
         ⌝ }
     ensures { λ r. ⌜
-        Exact (planOf (now (rows .entry)) (now (edges .entry)) (now (labels .entry)) (now (values .entry))) level
+        Exact
+        (planBy (keyUnder stride) (now (rows .entry)) (now (edges .entry)) (now (labels .entry)) (now (values .entry)))
+        level
         (state (now (memo .entry))
         (store (now (records .entry)) (now (literals .entry)) (now (names .entry)) terms symbols))
-        c (seen r (now (memo .exit)) (now (records .exit)) (now (literals .exit)) (now (names .exit)))
+        (keyAt level stride c)
+        (seen r (now (memo .exit)) (now (records .exit)) (now (literals .exit)) (now (names .exit)))
         ⌝ }
 {
-    let m = memo[c];
+    let key = (level - 1) * stride + c;
+    let m = memo[key];
     if 0 < m {
         return Built::Done(table_layout::wide(m) - 1, terms, symbols);
     }
-    let i = table_layout::wide(edges[c]);
+    let i = table_layout::wide(edges[key]);
     let kids = table_layout::children_of(rows, i);
     let mut children = [0u64; 8];
     let mut n = terms;
@@ -150,6 +157,7 @@ pub fn build(
                 n,
                 k,
                 level - 1,
+                stride,
                 x,
             )
         } else {
@@ -172,7 +180,7 @@ pub fn build(
         names,
         n,
         k,
-        c,
+        key,
         f,
         &children[..j],
     )

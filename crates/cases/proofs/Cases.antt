@@ -94,7 +94,7 @@ use Rattle.table_rules.specs.Rules.Classes.{flatClass, childOf, rangeOf, isRoot
 use Rattle.table_rules.specs.Rules.Order.{viewOf, scanOrder, scanned}
 use Rattle.table_rules.specs.Rules.Rows.{headCost, childrenOf, rowBy, tableRows, usableFunction, usable}
 use Rattle.build.specs.Building.{added, kept, childIn, childrenIn, ownIn, buildIn}
-use Rattle.build.specs.Plan.{childOf as childOf-build-Plan}
+use Rattle.build.specs.Plan.{childBy}
 use Rattle.build.specs.Whole.{left, whole}
 use Rattle.answer_rules.specs.Best.{bestLiteral, bestBuilt, bestClass, bestOf, bestAt}
 use Rattle.answer_rules.specs.Plan.{planChild, planChildren, planFor}
@@ -182,7 +182,7 @@ unfolding queryAt emptyStore emptyLending numberText bestLine variantsLine varia
     rowsInOrder answerOf treeCost forestCost childRank isEdge firstRow sumOf allOf tabulate childCost priced rowCost
     improves relax pass passes runFrom run given inOrder numbers lists count insert sorted keyIn compareKeys compareRows
     runOver answerFor edgeFor edgeRow flatClass childOf rangeOf isRoot viewOf scanOrder scanned headCost childrenOf rowBy
-    tableRows usableFunction usable added kept childIn childrenIn ownIn buildIn childOf-build-Plan
+    tableRows usableFunction usable added kept childIn childrenIn ownIn buildIn childBy
     left whole bestLiteral bestBuilt bestClass bestOf bestAt planChild planChildren planFor costFor isVariant
     variantRows keyFor keptRows anyDear ownVariant variantIn variantsIn variantsKept roomForResults variantLiteral
     variantsBuilt variantsOfRows variantsOf variantsAt digitsIn digits literalText find toBind bind meetIn bindings

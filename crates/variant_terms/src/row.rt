@@ -82,6 +82,7 @@ fn child_term(
             terms,
             symbols,
             level,
+            0,
             x,
         );
     }

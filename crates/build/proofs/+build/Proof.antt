@@ -12,12 +12,14 @@ use lib.Seq.{length-take-le, getD-take}
 use lib.IntN.{pos}
 use Rattle.table_layout.specs.Rows.{childrenAt}
 use Rattle.term_rules.specs.Lent.{store}
-use Rattle.build.specs.Plan.{Plan, childOf, planOf}
+use Rattle.build.specs.Plan.{Plan, childBy, planBy, keyAt, keyUnder}
 use Rattle.build.specs.Building.{State, state}
-use Rattle.build.proofs.PlanLaws.{childOf-class, childOf-value, children-few, ranked-of-planned}
+use Rattle.build.proofs.PlanLaws.{childBy-class, childBy-value, children-few, ranked-by}
+use Rattle.build.proofs.KeyLaws.{under-is}
 use Rattle.build.proofs.TurnLaws.{
   Arrives,
   exact-of-kept,
+  exact-under,
   made-of-class,
   made-of-value,
   Turn,
@@ -64,18 +66,19 @@ claims t = (
 )
 
 abbrev build-Inv-loop : build-lts.InvT-loop
-build-Inv-loop rows edges labels values memo₀ records₀ literals₀ names₀ terms symbols level c m i kids children₀ n₀
-    k₀ j₀
+build-Inv-loop rows edges labels values memo₀ records₀ literals₀ names₀ terms symbols level stride c key m i kids
+    children₀ n₀ k₀ j₀
     memo records literals names children n k j =
-    (i ≡ getD edges c 0)
-    × ((kids ≡ childrenAt rows (getD edges c 0))
-    × Turn (planOf rows edges labels values) level values (childrenAt rows (getD edges c 0))
+    (i ≡ getD edges (keyAt level stride c) 0)
+    × ((kids ≡ childrenAt rows (getD edges (keyAt level stride c) 0))
+    × Turn (planBy (keyUnder stride) rows edges labels values) level
+    (childBy (keyUnder stride (keyAt level stride c)) values) (childrenAt rows (getD edges (keyAt level stride c) 0))
     (state memo₀ (store records₀ literals₀ names₀ terms symbols)) (state memo (store records literals names n k))
     children j)
 
 abbrev build-μ-loop : build-lts.MeasureT-loop
-build-μ-loop rows edges labels values memo₀ records₀ literals₀ names₀ terms symbols level c m i kids children₀ n₀ k₀
-    j₀
+build-μ-loop rows edges labels values memo₀ records₀ literals₀ names₀ terms symbols level stride c key m i kids
+    children₀ n₀ k₀ j₀
     memo records literals names children n k j =
     length kids - j
 
@@ -84,22 +87,26 @@ build-child :
     (t : ℕ) (c : build-lts.Joined2 (claims t) (build-at t) build.Post build-Inv-loop build-μ-loop) →
     let a = c .before .before .before .before .before .before .before .before .before .before .before .before .before
     .before .before .before .args in
+    let key : ℕ = keyAt (a .level) (a .stride) (a .c) in
     let l = c .before .before .before .before .loop in
-    Arrives (planOf (a .rows .now) (a .edges .now) (a .labels .now) (a .values .now)) (a .level)
+    Arrives (planBy (keyUnder (a .stride)) (a .rows .now) (a .edges .now) (a .labels .now) (a .values .now)) (a
+    .level)
     (state (l .memo) (store (l .records) (l .literals) (l .names) (l .n) (l .k)))
-    (childOf (a .values .now) (getD (childrenAt (a .rows .now) (getD (a .edges .now) (a .c) 0)) (l .j) 0)) (c .if2 .r)
+    (childBy (keyUnder (a .stride) key) (a .values .now) (getD (childrenAt (a .rows .now) (getD (a .edges .now) key
+    0)) (l .j) 0)) (c .if2 .r)
     (c .if2 .memo) (c .if2 .records) (c .if2 .literals) (c .if2 .names)
 build-child t c =
     let s = c .before .before .before .before .before .before .before .before .before .before .before .before .before
     .before .before .before in
     let a = s .args in
+    let key : ℕ = keyAt (a .level) (a .stride) (a .c) in
     let ready = s .pre .1 in
     let p = ready .planned _ (ready .ranked) in
     let l = c .before .before .before .before .loop in
     let at : State = state (l .memo) (store (l .records) (l .literals) (l .names) (l .n) (l .k)) in
-    let q : Plan = planOf (a .rows .now) (a .edges .now) (a .labels .now) (a .values .now) in
-    let x : ℕ = getD (childrenAt (a .rows .now) (getD (a .edges .now) (a .c) 0)) (l .j) 0 in
-    let h : l .j < length (childrenAt (a .rows .now) (getD (a .edges .now) (a .c) 0)) = omega (
+    let q : Plan = planBy (keyUnder (a .stride)) (a .rows .now) (a .edges .now) (a .labels .now) (a .values .now) in
+    let x : ℕ = getD (childrenAt (a .rows .now) (getD (a .edges .now) key 0)) (l .j) 0 in
+    let h : l .j < length (childrenAt (a .rows .now) (getD (a .edges .now) key 0)) = omega (
       arith,
       c .before .before .before .loop-test .taken,
       ap length (l .inv .1 .0),
@@ -108,16 +115,19 @@ build-child t c =
     ∙ ap (λ (ks : List ℕ). getD ks (l .j) 0) (l .inv .1 .0) in
     let d = p .child (l .j) h in
     let ranked =
-    ranked-of-planned (ready .rank) (a .rows .now) (a .edges .now) (a .labels .now) (a .values .now) (ready .planned)
+    ranked-by (keyUnder (a .stride)) (ready .rank) (a .rows .now) (a .edges .now) (a .labels .now) (a .values .now)
+    (ready .planned)
     in
     ⊎-elim
     (λ w.
     let u : x < 512 = rw e at (w .0 .taken) in
-    rw (w .13, w .14, w .15, w .16, w .17, childOf-class (a .values .now) x u)
+    rw (w .13, w .14, w .15, w .16, w .17, childBy-class (keyUnder (a .stride) key) (a .values .now) x u)
     (record {
       made =
-          made-of-class q (ready .rank) ranked (a .level) at (l .inv .1 .1 .tracks) _ x (d .ranked u)
-          (omega (arith, d .falls u, ready .enough)) (rw e at (w .5 .ensures));
+          made-of-class q (ready .rank) ranked (a .level) at (l .inv .1 .1 .tracks) _ (keyUnder (a .stride) key x)
+          (d .ranked u) (omega (arith, d .falls u, ready .enough))
+          (exact-under q at _ (a .stride) (a .level) (a .c) x _ (ready .strides) (ready .small)
+          (rw e at (w .5 .ensures)) (omega (arith, d .falls u, ready .enough)));
       memo = w .5 .kept .1 .1 .1 .1 .0;
       records = w .5 .kept .1 .1 .1 .1 .1 .0;
       literals = w .5 .kept .1 .1 .1 .1 .1 .1 .0;
@@ -125,7 +135,7 @@ build-child t c =
     }))
     (λ w.
     let u : 512 ≤ x = rw e at (w .0 .left) in
-    rw (w .8, w .9, w .10, w .11, w .12, childOf-value (a .values .now) x u)
+    rw (w .8, w .9, w .10, w .11, w .12, childBy-value (keyUnder (a .stride) key) (a .values .now) x u)
     (record {
       made =
           made-of-value q (ready .rank) ranked (a .level) at (l .inv .1 .1 .tracks) _
@@ -136,6 +146,21 @@ build-child t c =
       names = refl;
     }))
     (c .if2 .came)
+
+build-sub-key : (t : ℕ) → build-lts.Need-sub-key (claims t) (build-at t) build.Post build-Inv-loop build-μ-loop
+build-sub-key t c =
+    let s = c .before .before .before .before .before .before in
+    omega (arith, s .pre .1 .ranked, s .pre .1 .enough)
+
+build-mul-key : (t : ℕ) → build-lts.Need-mul-key (claims t) (build-at t) build.Post build-Inv-loop build-μ-loop
+build-mul-key t c =
+    let s = c .before .before .before .before .before .before in
+    omega (arith, s .pre .1 .inside _ (s .pre .1 .ranked), s .good)
+
+build-add-key : (t : ℕ) → build-lts.Need-add-key (claims t) (build-at t) build.Post build-Inv-loop build-μ-loop
+build-add-key t c =
+    let s = c .before .before .before .before .before .before in
+    omega (arith, s .pre .1 .inside _ (s .pre .1 .ranked), s .good)
 
 build-mul-m : (t : ℕ) → build-lts.Need-mul-m (claims t) (build-at t) build.Post build-Inv-loop build-μ-loop
 build-mul-m t c =
@@ -152,16 +177,17 @@ build-wide-requires : (t : ℕ) → build-lts.Need-wide-requires (claims t) (bui
     build-μ-loop
 build-wide-requires t c κs = search needs
 
-build-sub-t31 : (t : ℕ) → build-lts.Need-sub-t31 (claims t) (build-at t) build.Post build-Inv-loop build-μ-loop
-build-sub-t31 t c = search needs
+build-sub-t34 : (t : ℕ) → build-lts.Need-sub-t34 (claims t) (build-at t) build.Post build-Inv-loop build-μ-loop
+build-sub-t34 t c = search needs
 
 build-returns : (t : ℕ) → build-lts.Need-returns (claims t) (build-at t) build.Post build-Inv-loop build-μ-loop
 build-returns t c =
     let a = c .before .before .before .before .before .before .before .before .before .args in
+    let key : ℕ = keyAt (a .level) (a .stride) (a .c) in
     rw (c .wide .ensures)
-    (exact-of-kept (planOf (a .rows .now) (a .edges .now) (a .labels .now) (a .values .now))
+    (exact-of-kept (planBy (keyUnder (a .stride)) (a .rows .now) (a .edges .now) (a .labels .now) (a .values .now))
     (state (a .memo .now) (store (a .records .now) (a .literals .now) (a .names .now) (a .terms) (a .symbols)))
-    (a .c) (a .level) (c .before .if1 .taken))
+    key (a .level) (c .before .if1 .taken))
 
 build-mul-wide : (t : ℕ) → build-lts.Need-mul-wide (claims t) (build-at t) build.Post build-Inv-loop build-μ-loop
 build-mul-wide t c =
@@ -216,7 +242,8 @@ build-mul-wide-2 t c =
       arith,
       c .loop-test .taken,
       ap length (l .inv .1 .0),
-      children-few (s .args .rows .now) (getD (s .args .edges .now) (s .args .c) 0),
+      children-few (s .args .rows .now) (getD (s .args .edges .now) (keyAt (s .args .level) (s .args .stride) (s
+          .args .c)) 0),
       p .few,
     )
 
@@ -234,9 +261,10 @@ build-sub-build t c =
     let s = c .before .before .before .before .before .before .before .before .before .before .before .before .before
     .before .before .before .before .before .before .before in
     let a = s .args in
+    let key : ℕ = keyAt (a .level) (a .stride) (a .c) in
     let p = s .pre .1 .planned _ (s .pre .1 .ranked) in
     let l = c .before .before .before .before .before .before .before .before .loop in
-    let h : l .j < length (childrenAt (a .rows .now) (getD (a .edges .now) (a .c) 0)) = omega (
+    let h : l .j < length (childrenAt (a .rows .now) (getD (a .edges .now) key 0)) = omega (
       arith,
       c .before .before .before .before .before .before .before .loop-test .taken,
       ap length (l .inv .1 .0),
@@ -253,9 +281,10 @@ build-build-requires t c κs =
     let s = c .before .before .before .before .before .before .before .before .before .before .before .before .before
     .before .before .before .before .before .before .before in
     let a = s .args in
+    let key : ℕ = keyAt (a .level) (a .stride) (a .c) in
     let p = s .pre .1 .planned _ (s .pre .1 .ranked) in
     let l = c .before .before .before .before .before .before .before .before .loop in
-    let h : l .j < length (childrenAt (a .rows .now) (getD (a .edges .now) (a .c) 0)) = omega (
+    let h : l .j < length (childrenAt (a .rows .now) (getD (a .edges .now) key 0)) = omega (
       arith,
       c .before .before .before .before .before .before .before .loop-test .taken,
       ap length (l .inv .1 .0),
@@ -263,7 +292,10 @@ build-build-requires t c κs =
     let e = c .before .before .before .before .before .wide3 .ensures ∙ ap (λ (ks : List ℕ). getD ks (l .j) 0) (l
     .inv .1 .0) in
     let d = p .child (l .j) h in
-    let u = rw e at (c .before .before .before .before .if2 .taken) in (
+    let x : ℕ = getD (childrenAt (a .rows .now) (getD (a .edges .now) key 0)) (l .j) 0 in
+    let u : x < 512 = rw e at (c .before .before .before .before .if2 .taken) in
+    let g : keyUnder (a .stride) key x ≡ keyAt (a .level - 1) (a .stride) x =
+    under-is (a .stride) (a .level) (a .c) x (s .pre .1 .strides) (s .pre .1 .small) in (
       omega (arith, d .falls u, s .pre .1 .enough, s .pre .0),
       rw e
           (record {
@@ -271,8 +303,10 @@ build-build-requires t c κs =
             planned = s .pre .1 .planned;
             inside = λ i q. rw (l .inv .1 .1 .memo) (s .pre .1 .inside i q);
             tracks = l .inv .1 .1 .tracks;
-            ranked = d .ranked u;
-            enough = omega (arith, d .falls u, s .pre .1 .enough);
+            strides = s .pre .1 .strides;
+            small = u;
+            ranked = rw (← g) (d .ranked u);
+            enough = rw (← g) (omega (arith, d .falls u, s .pre .1 .enough));
           }),
     )
 
@@ -282,9 +316,10 @@ build-literal-term-requires t c κs =
     let s = c .before .before .before .before .before .before .before .before .before .before .before .before .before
     .before .before .before .before .before .before in
     let a = s .args in
+    let key : ℕ = keyAt (a .level) (a .stride) (a .c) in
     let p = s .pre .1 .planned _ (s .pre .1 .ranked) in
     let l = c .before .before .before .before .before .before .before .loop in
-    let h : l .j < length (childrenAt (a .rows .now) (getD (a .edges .now) (a .c) 0)) = omega (
+    let h : l .j < length (childrenAt (a .rows .now) (getD (a .edges .now) key 0)) = omega (
       arith,
       c .before .before .before .before .before .before .loop-test .taken,
       ap length (l .inv .1 .0),
@@ -329,22 +364,24 @@ build-returns-2 t c =
     let s = c .before .before .before .before .before .before .before .before .before .before .before .before .before
     .before .before .before .before .before in
     let a = s .args in
+    let key : ℕ = keyAt (a .level) (a .stride) (a .c) in
     let p = s .pre .1 .planned _ (s .pre .1 .ranked) in
     let l = c .before .before .before .before .before .before .loop in
-    let few : length (childrenAt (a .rows .now) (getD (a .edges .now) (a .c) 0)) ≤ 8 = omega (
+    let few : length (childrenAt (a .rows .now) (getD (a .edges .now) key 0)) ≤ 8 = omega (
       arith,
-      children-few (a .rows .now) (getD (a .edges .now) (a .c) 0),
+      children-few (a .rows .now) (getD (a .edges .now) key 0),
       p .few,
     ) in
-    let h : l .j < length (childrenAt (a .rows .now) (getD (a .edges .now) (a .c) 0)) = omega (
+    let h : l .j < length (childrenAt (a .rows .now) (getD (a .edges .now) key 0)) = omega (
       arith,
       c .before .before .before .before .before .loop-test .taken,
       ap length (l .inv .1 .0),
     ) in
     let w = rw (c .enum-told .given .1) at (build-child t (c .before .before)) in
-    turn-stop (planOf (a .rows .now) (a .edges .now) (a .labels .now) (a .values .now)) (a .level) (a .values .now)
-    (childrenAt (a .rows .now) (getD (a .edges .now) (a .c) 0)) few
-    _ _ (l .children) (l .j) (l .inv .1 .1) (a .c) refl (c .before .before .before .before .before .before .before
+    turn-stop (planBy (keyUnder (a .stride)) (a .rows .now) (a .edges .now) (a .labels .now) (a .values .now)) (a
+    .level) (childBy (keyUnder (a .stride) key) (a .values .now))
+    (childrenAt (a .rows .now) (getD (a .edges .now) key 0)) few
+    _ _ (l .children) (l .j) (l .inv .1 .1) key refl (c .before .before .before .before .before .before .before
     .before .before .before .if1 .left) h _ _ _ _ (w .made)
 
 build-mul-children : (t : ℕ) → build-lts.Need-mul-children (claims t) (build-at t) build.Post build-Inv-loop
@@ -353,11 +390,12 @@ build-mul-children t c =
     let s = c .before .before .before .before .before .before .before .before .before .before .before .before .before
     .before .before .before .before .before .before in
     let a = s .args in
+    let key : ℕ = keyAt (a .level) (a .stride) (a .c) in
     let p = s .pre .1 .planned _ (s .pre .1 .ranked) in
     let l = c .before .before .before .before .before .before .before .loop in
-    let few : length (childrenAt (a .rows .now) (getD (a .edges .now) (a .c) 0)) ≤ 8 = omega (
+    let few : length (childrenAt (a .rows .now) (getD (a .edges .now) key 0)) ≤ 8 = omega (
       arith,
-      children-few (a .rows .now) (getD (a .edges .now) (a .c) 0),
+      children-few (a .rows .now) (getD (a .edges .now) key 0),
       p .few,
     ) in
     omega (arith, few, c .before .before .before .before .before .before .loop-test .taken, ap length (l .inv .1 .0))
@@ -368,11 +406,12 @@ build-array-write-children t c =
     let s = c .before .before .before .before .before .before .before .before .before .before .before .before .before
     .before .before .before .before .before .before in
     let a = s .args in
+    let key : ℕ = keyAt (a .level) (a .stride) (a .c) in
     let p = s .pre .1 .planned _ (s .pre .1 .ranked) in
     let l = c .before .before .before .before .before .before .before .loop in
-    let few : length (childrenAt (a .rows .now) (getD (a .edges .now) (a .c) 0)) ≤ 8 = omega (
+    let few : length (childrenAt (a .rows .now) (getD (a .edges .now) key 0)) ≤ 8 = omega (
       arith,
-      children-few (a .rows .now) (getD (a .edges .now) (a .c) 0),
+      children-few (a .rows .now) (getD (a .edges .now) key 0),
       p .few,
     ) in
     omega (arith, few, c .before .before .before .before .before .before .loop-test .taken, ap length (l .inv .1 .0))
@@ -382,11 +421,12 @@ build-add-j t c =
     let s = c .before .before .before .before .before .before .before .before .before .before .before .before .before
     .before .before .before .before .before .before in
     let a = s .args in
+    let key : ℕ = keyAt (a .level) (a .stride) (a .c) in
     let p = s .pre .1 .planned _ (s .pre .1 .ranked) in
     let l = c .before .before .before .before .before .before .before .loop in
-    let few : length (childrenAt (a .rows .now) (getD (a .edges .now) (a .c) 0)) ≤ 8 = omega (
+    let few : length (childrenAt (a .rows .now) (getD (a .edges .now) key 0)) ≤ 8 = omega (
       arith,
-      children-few (a .rows .now) (getD (a .edges .now) (a .c) 0),
+      children-few (a .rows .now) (getD (a .edges .now) key 0),
       p .few,
     ) in
     omega (arith, few, c .before .before .before .before .before .before .loop-test .taken, ap length (l .inv .1 .0))
@@ -399,14 +439,15 @@ build-loop-again t c =
     let s = c .before .before .before .before .before .before .before .before .before .before .before .before .before
     .before .before .before .before .before .before in
     let a = s .args in
+    let key : ℕ = keyAt (a .level) (a .stride) (a .c) in
     let p = s .pre .1 .planned _ (s .pre .1 .ranked) in
     let l = c .before .before .before .before .before .before .before .loop in
-    let few : length (childrenAt (a .rows .now) (getD (a .edges .now) (a .c) 0)) ≤ 8 = omega (
+    let few : length (childrenAt (a .rows .now) (getD (a .edges .now) key 0)) ≤ 8 = omega (
       arith,
-      children-few (a .rows .now) (getD (a .edges .now) (a .c) 0),
+      children-few (a .rows .now) (getD (a .edges .now) key 0),
       p .few,
     ) in
-    let h : l .j < length (childrenAt (a .rows .now) (getD (a .edges .now) (a .c) 0)) = omega (
+    let h : l .j < length (childrenAt (a .rows .now) (getD (a .edges .now) key 0)) = omega (
       arith,
       c .before .before .before .before .before .before .loop-test .taken,
       ap length (l .inv .1 .0),
@@ -415,8 +456,9 @@ build-loop-again t c =
       l .inv .0,
       (
         l .inv .1 .0,
-        turn-go (planOf (a .rows .now) (a .edges .now) (a .labels .now) (a .values .now)) (a .level) (a .values .now)
-            (childrenAt (a .rows .now) (getD (a .edges .now) (a .c) 0)) few
+        turn-go (planBy (keyUnder (a .stride)) (a .rows .now) (a .edges .now) (a .labels .now) (a .values .now)) (a
+            .level) (childBy (keyUnder (a .stride) key) (a .values .now))
+            (childrenAt (a .rows .now) (getD (a .edges .now) key 0)) few
             _ _ (l .children) (l .j) (l .inv .1 .1) h _ _ (w .made) (w .memo) (w .records) (w .literals) (w .names),
       ),
     )
@@ -434,11 +476,12 @@ build-array-share-prefix-children t c =
     let s = c .before .before .before .before .before .before .before .before .before .before .before .before .before
     .before .before .before .before .before in
     let a = s .args in
+    let key : ℕ = keyAt (a .level) (a .stride) (a .c) in
     let p = s .pre .1 .planned _ (s .pre .1 .ranked) in
     let l = c .before .before .before .before .before .before .loop in
-    let few : length (childrenAt (a .rows .now) (getD (a .edges .now) (a .c) 0)) ≤ 8 = omega (
+    let few : length (childrenAt (a .rows .now) (getD (a .edges .now) key 0)) ≤ 8 = omega (
       arith,
-      children-few (a .rows .now) (getD (a .edges .now) (a .c) 0),
+      children-few (a .rows .now) (getD (a .edges .now) key 0),
       p .few,
     ) in
     omega (arith, few, l .inv .1 .1 .within, l .inv .1 .1 .long)
@@ -449,11 +492,12 @@ build-slice-aggregate-own-term t c =
     let s = c .before .before .before .before .before .before .before .before .before .before .before .before .before
     .before .before .before .before .before .before in
     let a = s .args in
+    let key : ℕ = keyAt (a .level) (a .stride) (a .c) in
     let p = s .pre .1 .planned _ (s .pre .1 .ranked) in
     let l = c .before .before .before .before .before .before .before .loop in
-    let few : length (childrenAt (a .rows .now) (getD (a .edges .now) (a .c) 0)) ≤ 8 = omega (
+    let few : length (childrenAt (a .rows .now) (getD (a .edges .now) key 0)) ≤ 8 = omega (
       arith,
-      children-few (a .rows .now) (getD (a .edges .now) (a .c) 0),
+      children-few (a .rows .now) (getD (a .edges .now) key 0),
       p .few,
     ) in
     sym (length-take-le (l .j) (l .children) (omega (arith, few, l .inv .1 .1 .within, l .inv .1 .1 .long)))
@@ -464,11 +508,12 @@ build-own-term-requires t c κs =
     let s = c .before .before .before .before .before .before .before .before .before .before .before .before .before
     .before .before .before .before .before .before in
     let a = s .args in
+    let key : ℕ = keyAt (a .level) (a .stride) (a .c) in
     let p = s .pre .1 .planned _ (s .pre .1 .ranked) in
     let l = c .before .before .before .before .before .before .before .loop in
-    let few : length (childrenAt (a .rows .now) (getD (a .edges .now) (a .c) 0)) ≤ 8 = omega (
+    let few : length (childrenAt (a .rows .now) (getD (a .edges .now) key 0)) ≤ 8 = omega (
       arith,
-      children-few (a .rows .now) (getD (a .edges .now) (a .c) 0),
+      children-few (a .rows .now) (getD (a .edges .now) key 0),
       p .few,
     ) in
     let e = length-take-le (l .j) (l .children) (omega (arith, few, l .inv .1 .1 .within, l .inv .1 .1 .long)) in
@@ -506,21 +551,23 @@ build-returns-3 t c =
     let s = c .before .before .before .before .before .before .before .before .before .before .before .before .before
     .before .before .before .before .before .before .before .before .before .before .before .before .before .before in
     let a = s .args in
+    let key : ℕ = keyAt (a .level) (a .stride) (a .c) in
     let p = s .pre .1 .planned _ (s .pre .1 .ranked) in
     let l = c .before .before .before .before .before .before .before .before .before .before .before .before .before
     .before .before .loop in
-    let few : length (childrenAt (a .rows .now) (getD (a .edges .now) (a .c) 0)) ≤ 8 = omega (
+    let few : length (childrenAt (a .rows .now) (getD (a .edges .now) key 0)) ≤ 8 = omega (
       arith,
-      children-few (a .rows .now) (getD (a .edges .now) (a .c) 0),
+      children-few (a .rows .now) (getD (a .edges .now) key 0),
       p .few,
     ) in
     let g = c .before .before .before .before .before .before .before .before .before .before .before .before .before
     .function-of .ensures in
     let k = l .inv .0 in
     let e =
-    turn-end (planOf (a .rows .now) (a .edges .now) (a .labels .now) (a .values .now)) (a .level) (a .values .now)
-    (childrenAt (a .rows .now) (getD (a .edges .now) (a .c) 0)) few
-    _ _ (l .children) (l .j) (l .inv .1 .1) (a .c) refl (c .before .before .before .before .before .before .before
+    turn-end (planBy (keyUnder (a .stride)) (a .rows .now) (a .edges .now) (a .labels .now) (a .values .now)) (a
+    .level) (childBy (keyUnder (a .stride) key) (a .values .now))
+    (childrenAt (a .rows .now) (getD (a .edges .now) key 0)) few
+    _ _ (l .children) (l .j) (l .inv .1 .1) key refl (c .before .before .before .before .before .before .before
     .before .before .before .before .before .before .before .before .before .before .before .before .if1 .left)
     (omega (
       arith,
@@ -536,10 +583,13 @@ pub +build-spec : {M : Type 1} → statement M
     build.Post
     build-Inv-loop
     build-μ-loop
+    (build-sub-key t)
+    (build-mul-key t)
+    (build-add-key t)
     (build-mul-m t)
     (build-slice-read-m t)
     (build-wide-requires t)
-    (build-sub-t31 t)
+    (build-sub-t34 t)
     (build-returns t)
     (build-mul-wide t)
     (build-shared-slice-read-wide t)

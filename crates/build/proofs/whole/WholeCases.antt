@@ -11,7 +11,7 @@ use Rattle.term_rules.specs.Lent.{Store, store, recordIn, termRoom, symbolRoom,
 use Rattle.term_rules.specs.WellFormed.{sameInt}
 use Rattle.term_rules.specs.Nodes.{nodeOf, nodeAt, sameNode, recordOf}
 use Rattle.term_rules.specs.Adding.{firstFrom, findTerm, symbolFor, withName, withRecord, append, roomForName, roomFor, add}
-use Rattle.build.specs.Plan.{childOf, planOf}
+use Rattle.build.specs.Plan.{childBy, planOf}
 use Rattle.build.specs.Building.{added, kept, childIn, childrenIn, ownIn, buildIn}
 use Rattle.build.specs.Whole.{left, whole}
 use Rattle.build.specs.declared.Built.the-variants.{Full}
@@ -37,5 +37,5 @@ empty n = store (replicate (recordsLength n) 0) (replicate n (pos 0)) (replicate
 no-room : whole (planOf rows edges labels (pos 5 ∷ [])) 3 (empty 3) 2 .answer ≡ Full
 unfolding whole left buildIn ownIn childrenIn childIn kept added add roomFor roomForName append withRecord withName
     symbolFor findTerm firstFrom recordOf sameNode nodeAt nodeOf sameInt byKind symbolRoom termRoom recordIn findName
-    findFrom putName entry nameAt same childOf
+    findFrom putName entry nameAt same childBy
 no-room = refl

@@ -145,7 +145,7 @@ module _
             below-set t (s′ .lent .terms) (made .leaves .grows .more) (made .leaves .below) small i (ℕ-discrete i j) q;
         same = λ d deep.
             turn .same d deep
-            ∙ ap (childrenIn (buildIn p d) at (take j ks)) (children-next values kids j l)
+            ∙ ap (childrenIn (buildIn p d) at (take j ks)) (children-next (childOf values) kids j l)
             ∙ childrenIn-go (buildIn p d) at (take j ks) (childOf values (getD kids j 0))
             (drop (j + 1) (map (childOf values) kids)) t s′ (made .same d deep)
             ∙ ap (λ (ms : List ℕ). childrenIn (buildIn p d) s′ ms (drop (j + 1) (map (childOf values) kids)))
@@ -162,7 +162,7 @@ module _
     same = λ d deep.
         ap (ownVariant name)
         (turn .same d deep
-        ∙ ap (childrenIn (buildIn p d) at (take j ks)) (children-next values kids j l)
+        ∙ ap (childrenIn (buildIn p d) at (take j ks)) (children-next (childOf values) kids j l)
         ∙ childrenIn-stop (buildIn p d) at (take j ks) (childOf values (getD kids j 0))
         (drop (j + 1) (map (childOf values) kids)) me rs ls ns (made .same d deep))
         ∙ own-of-full name me rs ls ns;
@@ -183,7 +183,7 @@ module _
             ap (ownVariant name)
             (turn .same d deep
             ∙ ap (childrenIn (buildIn p d) at (take j ks))
-            (children-end values kids j l)
+            (children-end (childOf values) kids j l)
             ∙ childrenIn-end (buildIn p d) at (take j ks))
             ∙ own-of-done name (take j ks) at
             ∙ e;

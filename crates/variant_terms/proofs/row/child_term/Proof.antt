@@ -1,6 +1,6 @@
 -- `row::child_term` meets its contract: a class by the builder, a literal by itself. Assumes nothing.
 use Rattle.term_rules.specs.Lent.{store}
-use Rattle.variant_terms.proofs.row.ChildLaws.{kid-of-class, kid-of-value}
+use Rattle.variant_terms.proofs.row.ChildLaws.{kid-ready, kid-of-class, kid-of-value}
 use native.Mathlib.Omega.{arith}
 use borrow.Author.Needs.{needs}
 use Rattle.variant_terms.proofs.row.child_term.Statement.{statement}
@@ -15,17 +15,12 @@ shared-slice-read-level c = c .before .before .before .before .before .before .b
 
 build-requires : tie.Need-build-requires
 build-requires c κs =
+    let a = c .before .before .before .before .before .before .before .before .before .before .before .before .before
+    .args in
     let p = c .before .before .before .before .before .before .before .before .before .before .before .before .before
     .pre in
-    let h = c .before .before .before .before .before .if1 .taken in
-    record {
-      rank = p .rank;
-      planned = p .builder .planned;
-      inside = p .builder .inside;
-      tracks = p .builder .tracks;
-      ranked = p .kid .ranked h;
-      enough = p .kid .enough h;
-    }
+    kid-ready (p .rank) (a .rows .now) (a .edges .now) (a .ranks .now) (a .labels .now) (a .values .now) (a .memo .now)
+    _ (p .builder) (a .x) (p .kid) (c .before .before .before .before .before .if1 .taken)
 
 same-length : tie.Need-same-length
 same-length c = search needs

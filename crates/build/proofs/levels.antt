@@ -1,0 +1,3 @@
+-- The laws of `levels`.
+pub mod LevelLaws
+mod LevelCases
