@@ -105,7 +105,7 @@ enum needlevale_refusal {
 #define NEEDLEVALE_STACK_BEST 983040
 #define NEEDLEVALE_STACK_VARIANTS 1011712
 #define NEEDLEVALE_STACK_PLAIN_TEXT 630784
-#define NEEDLEVALE_STACK_LET_TEXT 544768
+#define NEEDLEVALE_STACK_LET_TEXT 667648
 #define NEEDLEVALE_STACK_SIZE 253952
 #define NEEDLEVALE_STACK_GET 253952
 #define NEEDLEVALE_STACK_COMPARE 253952
@@ -235,14 +235,15 @@ needlevale_number needlevale_size(const needlevale_term *terms, size_t terms_len
 needlevale_got needlevale_get(const needlevale_term *terms, size_t terms_length, const needlevale_entry *names,
                               size_t names_length, size_t term_count, size_t name_count, size_t term);
 
-/* How two terms stand in the order of terms (R-term-14). Equal to `compareTerms` there. Refusals, in order
- * (R-order-11): 17, 14. */
+/* How two terms stand in the order of terms (R-term-14). Equal to `compareTerms` there. It goes down into the first
+ * children that differ, with no list of pairs that wait and without calling itself: its stack is that of reading the
+ * store, however deep the terms are. Refusals, in order (R-order-11): 17, 14. */
 needlevale_order needlevale_compare(const needlevale_term *terms, size_t terms_length, const needlevale_entry *names,
                                     size_t names_length, size_t term_count, size_t name_count, size_t first,
                                     size_t second);
 
 /* Sorts a list of term numbers into that order, and keeps repeats: 0, or minus a refusal's number. Equal to
- * `sortTerms` there. Refusals, in order (R-order-11): 17, 14. */
+ * `sortTerms` there. Its stack does not grow with the list. Refusals, in order (R-order-11): 17, 14. */
 int64_t needlevale_sort(const needlevale_term *terms, size_t terms_length, const needlevale_entry *names,
                         size_t names_length, size_t term_count, size_t name_count, uint64_t *list,
                         size_t list_length);

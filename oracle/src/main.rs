@@ -5,7 +5,7 @@ use std::process::ExitCode;
 
 const USAGE: &str =
     "oracle needs one of these modes: run, answer, gen SEED N, gen short, gen flips, stats SEED N, terms, \
-answer-terms, gen-terms SEED N, edges, record FOLDER, smallest, diff CASES EXPECTED GOT";
+answer-terms, gen-terms SEED N, gen-orders SEED N, edges, record FOLDER, smallest, diff CASES EXPECTED GOT";
 
 fn number<T: std::str::FromStr>(word: &str, what: &str) -> Result<T, End> {
     word.parse().map_err(|_| End::Usage(format!("{what} must be a whole number below 2^64, not '{word}'")))
@@ -22,6 +22,7 @@ fn mode(words: &[&str]) -> Result<(), End> {
         ["terms"] => modes::terms(),
         ["answer-terms"] => modes::answer_terms(),
         ["gen-terms", seed, n] => modes::generate_terms(number(seed, "SEED")?, number(n, "N")?),
+        ["gen-orders", seed, n] => modes::generate_orders(number(seed, "SEED")?, number(n, "N")?),
         ["edges"] => modes::edges(),
         ["record", folder] => modes::record(folder),
         ["smallest"] => modes::smallest(),

@@ -107,6 +107,11 @@ pub fn generate_terms(seed: u64, n: usize) -> Result<(), End> {
     write_all((0..n).map(|index| generate::script(seed, index).write().into_bytes()))
 }
 
+/// Scripts of request 3, each with 100 comparisons and 10 sorts.
+pub fn generate_orders(seed: u64, n: usize) -> Result<(), End> {
+    write_all((0..n).map(|index| generate::orders::orders(seed, index).write().into_bytes()))
+}
+
 /// Counts over `n` cases and, for what only the calls on a store can refuse, `n` / 8 scripts; none may be zero.
 pub fn stats(seed: u64, n: usize) -> Result<(), End> {
     let mut tally = Tally::default();

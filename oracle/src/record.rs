@@ -16,6 +16,8 @@ const PART: usize = 262_144;
 const COMPACT: usize = 700;
 /// How many scripts are recorded.
 const SCRIPTS: usize = 160;
+/// How many scripts of comparisons and sorts: two of each kind.
+const ORDERS: usize = 8;
 
 /// How many cases of a category are recorded.
 fn quota(category: Category) -> usize {
@@ -49,8 +51,10 @@ pub fn files() -> Result<Vec<(String, Vec<u8>)>, String> {
     let cases = cases(&mut tally)?;
     let mut calls = Tally::default();
     let scripts = scripts(&mut calls)?;
+    let orders = answers((0..ORDERS).map(|at| generate::orders::orders(SEED, at).write().into_bytes()), &mut calls)?;
     let mut files = parts("replay", &cases);
     files.extend(parts("terms", &scripts));
+    files.extend(parts("orders", &orders));
     let page = page(&files, cases.len(), &tally, scripts.len(), &calls);
     files.push(("README.md".into(), page.into_bytes()));
     Ok(files)
@@ -98,8 +102,12 @@ fn scripts(tally: &mut Tally) -> Result<Vec<Pair>, String> {
     let made = (0..).map(|index| generate::script(SEED, index).write().into_bytes());
     let enough = SCRIPTS - texts.len();
     texts.extend(made.filter(|text| text.len() <= 2 * COMPACT).take(enough));
+    answers(texts.into_iter(), tally)
+}
+
+/// Scripts with their answers.
+fn answers(texts: impl Iterator<Item = Vec<u8>>, tally: &mut Tally) -> Result<Vec<Pair>, String> {
     texts
-        .into_iter()
         .map(|text| {
             let (answers, faults) = terms::answers(&script::read(&text)?)?;
             answers.iter().for_each(|a| tally.count_call(a));
@@ -141,12 +149,15 @@ fn page(files: &[(String, Vec<u8>)], cases: usize, tally: &Tally, scripts: usize
          - {}\n\
          - where the Rust has a fault of its own, the answer is document 01's: {}\n\n\
          `terms-*.bin`: {scripts} scripts of calls on a term store in the same form, the script and its answers as the \
-         text that oracle/README.md describes.\n\n\
+         text that oracle/README.md describes. `orders-*.bin`: {ORDERS} more, of {} comparisons and {} sorts each, of \
+         terms that are alike for long. Of both:\n\n\
          - {} calls, {}\n\
          - faults of the Rust: {}\n",
         tally.categories(),
         tally.refusals(Refusal::of_program),
         tally.faults(),
+        generate::orders::PAIRS,
+        generate::orders::SORTS,
         calls.calls(),
         calls.refusals(Refusal::of_store),
         calls.faults()

@@ -1,10 +1,11 @@
 /* Replays recorded scripts of calls on a term store through the calls of needlevale.h.
  *
- *   scripts STREAM.. [--pair SCRIPT ANSWERS].. [--texts CALLS ANSWERS]
+ *   scripts STREAM.. [--pair SCRIPT ANSWERS].. [--streams SCRIPTS ANSWERS].. [--texts CALLS ANSWERS]
  *
  * A stream is a file such as examples/recorded/terms-0.bin: a script and its answers, one after the other, in the form
  * that oracle/README.md gives. A pair has one script and its answers in two files: oracle/lent-runs and
- * crates/run_lent/stdout, oracle/term-runs and crates/run_terms/stdout. --texts takes crates/run_texts/data/calls.bin,
+ * crates/run_lent/stdout, oracle/term-runs and crates/run_terms/stdout. --streams takes a stream of scripts and one of
+ * their answers, as the oracle's gen-orders and answer-terms write them. --texts takes crates/run_texts/data/calls.bin,
  * whose form is in crates/run_texts/src/main.rt, and its answers. The answers are the oracle's.
  * Each call is made on watched memory (calls.h), by turns at the front and at the back edge. Two threads share the
  * streams and pairs, on memory of their own. Prints one line, status 0; at the first difference, one sentence, status
@@ -387,15 +388,19 @@ static void add_job(const struct watch *watch, uint8_t *script, uint8_t *answers
     jobs[job_count++].number = number;
 }
 
-static void read_stream(const struct watch *watch, const char *path)
+/* Scripts and their answers, by turns in one stream or each in its own. */
+static void read_streams(const struct watch *watch, const char *scripts_path, const char *answers_path)
 {
-    FILE *file = fopen(path, "rb");
+    FILE *scripts = fopen(scripts_path, "rb"), *answers = answers_path ? fopen(answers_path, "rb") : scripts;
     uint8_t *script;
     size_t length;
-    expect(watch, file != NULL, "a stream cannot be read");
-    for (uint64_t k = 0; (script = next_item(watch, file, &length)); k++)
-        add_job(watch, script, next_item(watch, file, &length), path, k);
-    fclose(file);
+    expect(watch, scripts && answers, "a stream cannot be read");
+    for (uint64_t k = 0; (script = next_item(watch, scripts, &length)); k++)
+        add_job(watch, script, next_item(watch, answers, &length), scripts_path, k);
+    expect(watch, !next_item(watch, answers, &length), "more answers than scripts");
+    fclose(scripts);
+    if (answers_path)
+        fclose(answers);
 }
 
 int main(int count, char **words)
@@ -417,12 +422,15 @@ int main(int count, char **words)
         } else if (!strcmp(words[k], "--texts") && k + 2 < count) {
             texts_of.words = words + k + 1;
             k += 2;
+        } else if (!strcmp(words[k], "--streams") && k + 2 < count) {
+            read_streams(&workers->watch, words[k + 1], words[k + 2]);
+            k += 2;
         } else if (words[k][0] != '-')
-            read_stream(&workers->watch, words[k]);
+            read_streams(&workers->watch, words[k], NULL);
         else
             job_count = 0, k = count;
     if (!job_count) {
-        fputs("scripts: give streams, --pair SCRIPT ANSWERS or --texts CALLS ANSWERS\n", stderr);
+        fputs("scripts: give streams, --pair SCRIPT ANSWERS, --streams SCRIPTS ANSWERS or --texts CALLS ANSWERS\n", stderr);
         return 2;
     }
     expect(&workers->watch, !pthread_attr_init(&attributes) && !pthread_attr_setstacksize(&attributes, STACK),
@@ -438,8 +446,8 @@ int main(int count, char **words)
         lines += workers[k].lines;
         refusals += workers[k].watch.refusals;
     }
-    printf("%" PRIu64 " calls of %" PRIu64 " recorded scripts and %" PRIu64 " recorded text calls through C, %" PRIu64
-           " of them refused, %d threads at once, all as recorded\n",
+    printf("%" PRIu64 " calls of %" PRIu64 " scripts and %" PRIu64 " recorded text calls through C, %" PRIu64
+           " of them refused, %d threads at once, all as the oracle says\n",
            lines, scripts, texts_of.count, refusals, THREADS);
     return 0;
 }

@@ -21,7 +21,7 @@
 
 #include "calls.h"
 
-enum { PAINTED = 2 << 20, LONG_CASE = 1500, MOST = 1024, LONG_TEXT = 1 << 16, THREAD = 16384 };
+enum { PAINTED = 2 << 20, LONG_CASE = 1500, MOST = 1024, LONG_TEXT = 1 << 24, THREAD = 16384 };
 
 static struct watch watch;
 static bool hold;
@@ -37,6 +37,7 @@ struct job {
     const struct question *question;
     void *lent[SLOTS];
     uintptr_t before;
+    int64_t status;
 };
 
 static void *make(void *given)
@@ -45,7 +46,7 @@ static void *make(void *given)
     uint8_t here = 0;
     job->before = (uintptr_t)&here;
     if (job->question)
-        made(job->question, job->lent);
+        job->status = made(job->question, job->lent).status;
     return NULL;
 }
 
@@ -67,10 +68,11 @@ static void free_copies(struct job *job)
         free(job->lent[slot]);
 }
 
-/* The stack that the call takes below its caller; of no call, what a thread takes in all. */
+/* The stack that the call takes below its caller; of no call, what a thread takes in all. A let text must be whole
+ * where there is room for one: a refused one takes less. */
 static size_t used(const struct question *q)
 {
-    struct job job = {q, {NULL}, 0};
+    struct job job = {q, {NULL}, 0, 0};
     pthread_attr_t attributes;
     pthread_t thread;
     size_t free_bytes = 0;
@@ -87,6 +89,7 @@ static size_t used(const struct question *q)
     while (free_bytes < PAINTED && stack[free_bytes] == UNTOUCHED)
         free_bytes++;
     expect(&watch, free_bytes > 0, "the painted stack is too small");
+    expect(&watch, !q || q->call != LET_TEXT || !q->lengths[OUTPUT] || job.status > 0, "a let text does not fit");
     free_copies(&job);
     return (q ? job.before : (uintptr_t)stack + PAINTED) - ((uintptr_t)stack + free_bytes);
 }
@@ -94,7 +97,7 @@ static size_t used(const struct question *q)
 static void deep(const struct question *q, const char *what)
 {
     size_t bytes = used(q);
-    struct job job = {q, {NULL}, 0};
+    struct job job = {q, {NULL}, 0, 0};
     asked[q->call]++;
     if (bytes > taken[q->call]) {
         taken[q->call] = bytes;

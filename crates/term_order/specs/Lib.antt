@@ -2,3 +2,4 @@
 pub mod TreeOrder
 pub mod Heads
 pub mod Zeros
+pub mod Runs

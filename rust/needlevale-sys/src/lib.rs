@@ -30,7 +30,7 @@ pub mod stack {
     pub const BEST: usize = 983040;
     pub const VARIANTS: usize = 1011712;
     pub const PLAIN_TEXT: usize = 630784;
-    pub const LET_TEXT: usize = 544768;
+    pub const LET_TEXT: usize = 667648;
     pub const SIZE: usize = 253952;
     pub const GET: usize = 253952;
     pub const COMPARE: usize = 253952;
