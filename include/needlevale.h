@@ -103,6 +103,7 @@ enum needlevale_refusal {
 #define NEEDLEVALE_STACK_READ 139264
 #define NEEDLEVALE_STACK_ADD_LITERAL_FLAT 32768
 #define NEEDLEVALE_STACK_BEST 983040
+#define NEEDLEVALE_STACK_BEST_WITHIN 1048576
 #define NEEDLEVALE_STACK_VARIANTS 1011712
 #define NEEDLEVALE_STACK_PLAIN_TEXT 630784
 #define NEEDLEVALE_STACK_LET_TEXT 667648
@@ -299,6 +300,23 @@ typedef struct needlevale_kept {
 needlevale_best_term needlevale_best(const uint8_t *file, size_t file_length, uint64_t sort, uint64_t value,
                                      needlevale_term *terms, size_t terms_length, needlevale_entry *names,
                                      size_t names_length, size_t term_count, size_t name_count);
+
+/* Status 0, the cost and the term's number; or minus a refusal's number, and zeros. Then the counts, as above. */
+typedef struct needlevale_within_term {
+    int64_t status;
+    uint64_t cost;
+    size_t term, term_count, name_count;
+} needlevale_within_term;
+
+/* The cheapest term of a root whose depth is at most depth, 1 to 64, built in the store: a literal and an application
+ * without children have depth 1, any other application one more than its deepest child. Among terms of one cost it is
+ * the one of the first row in scan order, and below it likewise within one level less. Equal to `withinAt` of
+ * crates/within_rules/specs/Within.antt. Refusals, in order (R-order-14): the file's first fault (1 to 9), 10, 3, 17,
+ * 11, 12, 13. */
+needlevale_within_term needlevale_best_within(const uint8_t *file, size_t file_length, uint64_t sort, uint64_t value,
+                                              uint64_t depth, needlevale_term *terms, size_t terms_length,
+                                              needlevale_entry *names, size_t names_length, size_t term_count,
+                                              size_t name_count);
 
 /* At most `most` variants of a root of the table file at file, built in the store: their costs and term numbers at
  * the start of costs and found, the cheapest first; what is past them stays. A base root has one, whatever `most`

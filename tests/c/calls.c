@@ -33,6 +33,8 @@ const struct form forms[CALLS] = {
     {"needlevale_add_literal_flat", BIT(RECORDS) | BIT(LITERALS) | BIT(FLAT_NAMES), BIT(RECORDS) | BIT(LITERALS),
      NO_ROOM | BAD_STORE, NEEDLEVALE_STACK_ADD_LITERAL_FLAT},
     {"needlevale_best", BIT(BYTES) | STORE, STORE, FILE_REFUSALS | NO_TERM | BAD_STORE, NEEDLEVALE_STACK_BEST},
+    {"needlevale_best_within", BIT(BYTES) | STORE, STORE, FILE_REFUSALS | BAD_SIZE | NO_TERM | BAD_STORE,
+     NEEDLEVALE_STACK_BEST_WITHIN},
     {"needlevale_variants", BIT(BYTES) | STORE | BIT(COSTS) | BIT(FOUND), STORE | BIT(COSTS) | BIT(FOUND),
      FILE_REFUSALS | BAD_STORE, NEEDLEVALE_STACK_VARIANTS},
     {"needlevale_plain_text", STORE | BIT(OUTPUT), BIT(OUTPUT), NO_ROOM | BAD_TERM, NEEDLEVALE_STACK_PLAIN_TEXT},
@@ -154,6 +156,16 @@ struct told made(const struct question *q, void *const lent[SLOTS])
         told.numbers[2] = best.passes;
         told.numbers[TERM_COUNT] = best.term_count;
         told.numbers[NAME_COUNT] = best.name_count;
+        break;
+    }
+    case BEST_WITHIN: {
+        needlevale_within_term within = needlevale_best_within(bytes, n[BYTES], q->sort, q->value, q->depth, terms,
+                                                               n[TERMS], names, n[NAMES], term_count, name_count);
+        told.status = within.status;
+        told.numbers[0] = within.cost;
+        told.numbers[1] = within.term;
+        told.numbers[TERM_COUNT] = within.term_count;
+        told.numbers[NAME_COUNT] = within.name_count;
         break;
     }
     case VARIANTS: {
@@ -323,6 +335,7 @@ static void in_range(const struct watch *watch, const struct question *q, const 
                "a number out of range");
         break;
     case BEST:
+    case BEST_WITHIN:
         expect(watch, !told->status && n[0] < UINT64_MAX && n[1] < n[TERM_COUNT] && n[2] <= 513,
                "a number out of range");
         grown(watch, q, told, MOST_TERMS);
@@ -374,7 +387,7 @@ static void in_range(const struct watch *watch, const struct question *q, const 
 
 static void refused(struct watch *watch, const struct question *q, const struct told *told)
 {
-    bool counted = q->call == BEST || q->call == VARIANTS || q->call >= ADD_LITERAL;
+    bool counted = (q->call >= BEST && q->call <= VARIANTS) || q->call >= ADD_LITERAL;
     expect(watch, told->status >= -17 && forms[q->call].refusals >> -told->status & 1,
            "a refusal that the call does not have");
     for (int slot = 0; slot < SLOTS; slot++)
@@ -489,6 +502,7 @@ struct question about(enum call call, const struct store *store)
     struct question q;
     memset(&q, 0, sizeof q);
     q.call = call;
+    q.depth = 64;
     if (store) {
         lend(&q, TERMS, store->terms, store->term_room);
         lend(&q, NAMES, store->names, store->name_room);

@@ -17,8 +17,8 @@
 #include "needlevale.h"
 
 enum call {
-    ANSWER, READ, ADD_LITERAL_FLAT, BEST, VARIANTS, PLAIN_TEXT, LET_TEXT, SIZE, GET, COMPARE, SORT, FIND_LITERAL,
-    FIND_VARIABLE, FIND_APPLICATION, ADD_LITERAL, ADD_VARIABLE, ADD_APPLICATION, CALLS
+    ANSWER, READ, ADD_LITERAL_FLAT, BEST, BEST_WITHIN, VARIANTS, PLAIN_TEXT, LET_TEXT, SIZE, GET, COMPARE, SORT,
+    FIND_LITERAL, FIND_VARIABLE, FIND_APPLICATION, ADD_LITERAL, ADD_VARIABLE, ADD_APPLICATION, CALLS
 };
 
 /* What can be lent. BYTES is the input of an answer or the table file, NAME also a let prefix, LIST the list to
@@ -40,12 +40,13 @@ struct form {
 extern const struct form forms[CALLS];
 extern const size_t widths[SLOTS];
 
-/* A call with its arguments. Lengths count elements; bytes may be null where a length is 0. */
+/* A call with its arguments. Lengths count elements; bytes may be null where a length is 0. `about` asks within the
+ * greatest depth. */
 struct question {
     enum call call;
     const void *bytes[SLOTS];
     size_t lengths[SLOTS];
-    uint64_t sort, value, start;
+    uint64_t sort, value, depth, start;
     size_t most, term_count, name_count, term, other;
     int64_t literal;
     bool bare;

@@ -220,13 +220,14 @@ static struct question question_from(struct source *from, enum call call)
         unsigned small = byte(from) < 160 ? 0 : byte(from);
         lend(&q, OUTPUT, text, small ? small : sizeof text);
     }
-    if (call == BEST || call == VARIANTS) {
+    if (call >= BEST && call <= VARIANTS) {
         /* The root as the program's query has it, so that a recorded input is a question whole. */
         unsigned first = byte(from), second = byte(from), last = byte(from);
         if (q.start) {
             q.sort = first >> 1 & 31;
             q.value = (first & 1) << 8 | second;
             q.most = last;
+            q.depth = last % 66;
         }
     }
     if (takes >> BYTES & 1)

@@ -215,7 +215,7 @@ static void of_texts(struct watch *watch, const struct store *good, const struct
     expect(watch, !memcmp(watch->lent[OUTPUT], "\n(f -7 x)", 9), "another let text");
 }
 
-/* Best and variants: the file's fault, 10, 17, 11 (best only), 12, 13. */
+/* Best, best within a depth and variants: the file's fault, 10, 3 (of a depth), 17, 11 (not of variants), 12, 13. */
 static void of_files(struct watch *watch, enum call call)
 {
     struct store empty = new_store(watch, 4, 2), bad = new_store(watch, 4, 2);
@@ -233,6 +233,16 @@ static void of_files(struct watch *watch, enum call call)
     q.value = 1;
     refuses(watch, &q, NEEDLEVALE_BAD_ROOT, "no BadRoot of a literal before BadStore");
     q.value = 0;
+    if (call == BEST_WITHIN) {
+        static const uint64_t depths[3] = {0, 65, UINT64_MAX};
+        for (int k = 0; k < 6; k++) {
+            q.depth = depths[k / 2];
+            q.sort = (uint64_t)k % 2;
+            refuses(watch, &q, NEEDLEVALE_BAD_SIZE, "no BadSize of a depth before BadStore");
+        }
+        q.depth = 64;
+    }
+    q.sort = 1;
     refuses(watch, &q, NEEDLEVALE_BAD_STORE, "no BadStore of a base root");
     q.sort = 0;
     lend(&q, BYTES, rowless, rowless_length);
@@ -246,7 +256,7 @@ static void of_files(struct watch *watch, enum call call)
     lend(&q, COSTS, places, 9);
     lend(&q, FOUND, places, 9);
     lend(&q, BYTES, rowless, rowless_length);
-    struct told none = gives(watch, &q, call == BEST ? -NEEDLEVALE_NO_TERM : 0, "another answer of no rows");
+    struct told none = gives(watch, &q, call == VARIANTS ? 0 : -NEEDLEVALE_NO_TERM, "another answer of no rows");
     expect(watch, !none.numbers[0], "variants of no rows");
     lend(&q, TERMS, NULL, 0);
     lend(&q, BYTES, dear, dear_length);
@@ -438,6 +448,7 @@ static void *work(void *given)
     of_texts(watch, &good, &bad);
     watch->place = "files";
     of_files(watch, BEST);
+    of_files(watch, BEST_WITHIN);
     of_files(watch, VARIANTS);
     watch->place = "reading";
     of_reading(watch);

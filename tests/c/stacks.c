@@ -122,6 +122,11 @@ static void of_file(const uint8_t *file, size_t length, uint64_t sort, uint64_t 
     q.sort = sort;
     q.value = value;
     deep(&q, what);
+    q.call = BEST_WITHIN;
+    deep(&q, what);
+    q.value = value % 64; /* of the chain, the deepest class that has a term within 64 */
+    deep(&q, what);
+    q.value = value;
     q.call = VARIANTS;
     q.most = 255;
     lend(&q, COSTS, places, 255);

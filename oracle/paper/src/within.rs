@@ -18,7 +18,7 @@ use std::collections::HashMap;
 pub const DEEPEST: u64 = 64;
 
 /// The room for a plain text.
-const TEXT_ROOM: usize = 1 << 20;
+const TEXT_ROOM: usize = 1 << 18;
 
 /// How many terms are listed at most, of one class within one depth.
 const LISTED: usize = 3000;

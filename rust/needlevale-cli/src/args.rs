@@ -22,9 +22,9 @@ pub struct Cli {
 #[derive(Subcommand)]
 pub enum Command {
     /// The cheapest term of a class, its shared parts bound by let
-    Best(Asked),
+    Best(AskedOne),
     /// The cheapest term of a class as plain text
-    Plain(Asked),
+    Plain(AskedOne),
     /// The cheapest rows of a class, one term each
     Variants(AskedMany),
     /// Makes a table file from its text form, or shows one as text
@@ -71,6 +71,36 @@ pub struct Asked {
     /// The bytes that the answer may have
     #[arg(long, value_name = "BYTES", default_value_t = needlevale::PROGRAM_OUTPUT, value_parser = room)]
     pub room: usize,
+}
+
+#[derive(Args, Clone)]
+pub struct AskedOne {
+    #[command(flatten)]
+    pub asked: Asked,
+    /// The cheapest term of at most this depth, 1 to 64; or, of several depths such as 1..64, the cost at each
+    #[arg(long, value_name = "D", value_parser = depths)]
+    pub depth: Option<Depths>,
+}
+
+/// The least and the greatest depth that are asked for; `several` where both were said.
+#[derive(Clone, Copy)]
+pub struct Depths {
+    pub first: u64,
+    pub last: u64,
+    pub several: bool,
+}
+
+/// The greatest depth.
+const DEEPEST: u64 = 64;
+
+fn depths(word: &str) -> Result<Depths, String> {
+    let (first, last) = word.split_once("..").unwrap_or((word, word));
+    match (first.parse(), last.parse()) {
+        (Ok(first), Ok(last)) if 1 <= first && first <= last && last <= DEEPEST => {
+            Ok(Depths { first, last, several: word.contains("..") })
+        }
+        _ => Err(format!("a depth is a whole number from 1 to {DEEPEST}, or two of them, such as 1..{DEEPEST}")),
+    }
 }
 
 #[derive(Args, Clone)]

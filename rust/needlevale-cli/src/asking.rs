@@ -1,18 +1,26 @@
 //! `best`, `plain` and `variants`: the proved library's answer, word for word, as JSON, or explained.
 
-use crate::args::{Asked, AskedMany, MOST_ROOM};
+use crate::args::{Asked, AskedMany, AskedOne, MOST_ROOM};
 use crate::source::Source;
 use crate::stop::{broken, refusal, Done, Stop};
 use crate::streams::say;
+use crate::within;
 use needlevale::{ask, Answer, Best, Error, Mode, Query, Refusal, Root, Variants};
 use serde_json::{json, Value};
 
-pub fn best(asked: &Asked) -> Done<()> {
-    reply(asked, Mode::Best)
+pub fn best(one: &AskedOne) -> Done<()> {
+    one_term(one, Mode::Best)
 }
 
-pub fn plain(asked: &Asked) -> Done<()> {
-    reply(asked, Mode::Plain)
+pub fn plain(one: &AskedOne) -> Done<()> {
+    one_term(one, Mode::Plain)
+}
+
+fn one_term(one: &AskedOne, mode: Mode) -> Done<()> {
+    match one.depth {
+        Some(depths) => within::run(&one.asked, depths, mode),
+        None => reply(&one.asked, mode),
+    }
 }
 
 pub fn variants(asked: &AskedMany) -> Done<()> {
@@ -37,8 +45,17 @@ fn reply(asked: &Asked, mode: Mode) -> Done<()> {
     }
 }
 
-fn refusal_json(refusal: Refusal, sentence: &str) -> Value {
+pub fn refusal_json(refusal: Refusal, sentence: &str) -> Value {
     json!({ "refused": { "number": refusal.number(), "name": refusal.name(), "why": sentence } })
+}
+
+pub fn root_json(source: &Source, root: Root) -> Value {
+    json!({
+        "sort": root.sort,
+        "class": root.value,
+        "sort_name": source.names.sort(root.sort),
+        "name": source.names.cell(&source.parts, root.sort, root.value),
+    })
 }
 
 /// The library's answer, or its refusal with what can be said of it.
@@ -63,7 +80,7 @@ pub fn answer(source: &Source, query: Query, room: usize) -> Done<Answer> {
     refusal(refused, sentence)
 }
 
-fn root_out_of_range(source: &Source, root: Root) -> String {
+pub fn root_out_of_range(source: &Source, root: Root) -> String {
     let sorts = source.parts.sorts.len();
     match source.parts.sorts.get(root.sort) {
         None => format!("sort {} is asked for, and there are {sorts}", root.sort),
@@ -109,12 +126,7 @@ impl Parts {
     }
 
     fn json(&self, source: &Source, root: Root) -> Value {
-        let root = json!({
-            "sort": root.sort,
-            "class": root.value,
-            "sort_name": source.names.sort(root.sort),
-            "name": source.names.cell(&source.parts, root.sort, root.value),
-        });
+        let root = root_json(source, root);
         match self {
             Parts::Best(best, mode) => json!({
                 "mode": if *mode == Mode::Best { "best" } else { "plain" },

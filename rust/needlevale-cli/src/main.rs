@@ -11,6 +11,7 @@ mod stats;
 mod stop;
 mod streams;
 mod table;
+mod within;
 
 use args::{Cli, Command};
 use clap::{CommandFactory, Parser};

@@ -28,6 +28,7 @@ pub mod stack {
     pub const READ: usize = 139264;
     pub const ADD_LITERAL_FLAT: usize = 32768;
     pub const BEST: usize = 983040;
+    pub const BEST_WITHIN: usize = 1048576;
     pub const VARIANTS: usize = 1011712;
     pub const PLAIN_TEXT: usize = 630784;
     pub const LET_TEXT: usize = 667648;
@@ -81,6 +82,17 @@ pub struct BestTerm {
     pub cost: u64,
     pub term: usize,
     pub passes: u64,
+    pub term_count: usize,
+    pub name_count: usize,
+}
+
+/// Status 0, the cost and the term's number; or minus a refusal's number, and zeros. Then the store's counts.
+#[repr(C)]
+#[derive(Clone, Copy, Debug, PartialEq, Eq)]
+pub struct WithinTerm {
+    pub status: i64,
+    pub cost: u64,
+    pub term: usize,
     pub term_count: usize,
     pub name_count: usize,
 }
@@ -146,7 +158,7 @@ pub struct Order {
 // The sizes that tests/c/calls.c holds the header's structs to.
 const _: () = assert!(size_of::<Term>() == 96 && size_of::<Entry>() == 32);
 const _: () = assert!(size_of::<Got>() == 104 && size_of::<Shape>() == 40);
-const _: () = assert!(size_of::<BestTerm>() == 48 && size_of::<Kept>() == 40);
+const _: () = assert!(size_of::<BestTerm>() == 48 && size_of::<WithinTerm>() == 40 && size_of::<Kept>() == 40);
 const _: () = assert!(size_of::<Added>() == 32 && size_of::<Number>() == 16);
 const _: () = assert!(size_of::<Order>() == 16 && size_of::<LetLength>() == 16);
 
@@ -249,6 +261,26 @@ extern "C" {
         term_count: usize,
         name_count: usize,
     ) -> BestTerm;
+
+    /// The cheapest term of a root of the table file at `file` whose depth is at most `depth`, 1 to 64, built in a store of
+    /// structs.
+    ///
+    /// # Safety
+    ///
+    /// As above.
+    pub fn needlevale_best_within(
+        file: *const u8,
+        file_length: usize,
+        sort: u64,
+        value: u64,
+        depth: u64,
+        terms: *mut Term,
+        terms_length: usize,
+        names: *mut Entry,
+        names_length: usize,
+        term_count: usize,
+        name_count: usize,
+    ) -> WithinTerm;
 
     /// At most `most` variants of a root of the table file at `file`, built in a store of structs: their costs and term
     /// numbers at the start of `costs` and `found`.

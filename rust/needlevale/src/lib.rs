@@ -45,5 +45,5 @@ pub use layout::{
 };
 pub use names::{Named, Names};
 pub use refusal::Refusal;
-pub use store::{Chosen, Entry, Kept, Lets, Naming, Parts, Record, Store, Term, MOST_NAMES, MOST_TERMS};
+pub use store::{Chosen, Entry, Kept, Lets, Naming, Parts, Record, Store, Term, Within, MOST_NAMES, MOST_TERMS};
 pub use table::{Draft, Function, Reading, Row, Sort, Table};

@@ -74,6 +74,16 @@ pub struct Chosen {
     pub passes: u64,
 }
 
+/// A term that was chosen within a depth: its number in the store, and its cost.
+#[derive(Clone, Copy, PartialEq, Eq, Debug)]
+#[non_exhaustive]
+pub struct Within {
+    /// Its number.
+    pub term: usize,
+    /// Its cost.
+    pub cost: u64,
+}
+
 /// Terms that were chosen, the cheapest first.
 #[derive(Clone, PartialEq, Eq, Debug)]
 #[non_exhaustive]
@@ -441,6 +451,32 @@ impl Store {
         let best = grown!(self, stack::BEST, needlevale_best(file.as_ptr(), file.len(), sort, value; as_mut_ptr;));
         told(best.status)?;
         Ok(Chosen { term: best.term, cost: best.cost, passes: best.passes })
+    }
+
+    /// The cheapest term of a root of a table file whose depth is at most `depth`, built in the store. A literal and an
+    /// application without children have depth 1, any other application one more than its deepest child.
+    ///
+    /// ```
+    /// use needlevale::{Error, Refusal, Root, Store};
+    /// let table = std::fs::read(concat!(env!("CARGO_MANIFEST_DIR"), "/../../examples/worked/table.bin"))?;
+    /// let (mut store, ten) = (Store::new(), Root { sort: 0, value: 1 });
+    /// let within = store.best_within(&table, ten, 3)?;
+    /// assert_eq!(store.plain_text(within.term, 100)?, "(Add (Num 5) (Num 5))");
+    /// let refused = store.best_within(&table, ten, 2);
+    /// assert!(matches!(refused, Err(Error::Refused(Refusal::NoTerm))));
+    /// let refused = store.best_within(&table, ten, 65);
+    /// assert!(matches!(refused, Err(Error::Refused(Refusal::BadSize))));
+    /// # Ok::<(), Box<dyn std::error::Error>>(())
+    /// ```
+    pub fn best_within(&mut self, file: &[u8], root: Root, depth: u64) -> Result<Within, Error> {
+        let (sort, value) = (root.sort as u64, root.value as u64);
+        let within = grown!(
+            self,
+            stack::BEST_WITHIN,
+            needlevale_best_within(file.as_ptr(), file.len(), sort, value, depth; as_mut_ptr;)
+        );
+        told(within.status)?;
+        Ok(Within { term: within.term, cost: within.cost })
     }
 
     /// At most so many variants of a root of a table file, built in the store. A base root has one in any case.
