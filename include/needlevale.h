@@ -311,7 +311,7 @@ typedef struct needlevale_within_term {
 /* The cheapest term of a root whose depth is at most depth, 1 to 64, built in the store: a literal and an application
  * without children have depth 1, any other application one more than its deepest child. Among terms of one cost it is
  * the one of the first row in scan order, and below it likewise within one level less. Equal to `withinAt` of
- * crates/within_rules/specs/Within.antt. Refusals, in order (R-order-14): the file's first fault (1 to 9), 10, 3, 17,
+ * crates/within_rules/specs/Within.antt. Refusals, in order (R-order-15): the file's first fault (1 to 9), 10, 3, 17,
  * 11, 12, 13. */
 needlevale_within_term needlevale_best_within(const uint8_t *file, size_t file_length, uint64_t sort, uint64_t value,
                                               uint64_t depth, needlevale_term *terms, size_t terms_length,

@@ -16,6 +16,8 @@ const PART: usize = 262_144;
 const COMPACT: usize = 700;
 /// How many scripts are recorded.
 const SCRIPTS: usize = 160;
+/// How many asks for a term within a depth.
+const WITHIN: usize = 600;
 /// How many scripts of comparisons and sorts: two of each kind.
 const ORDERS: usize = 8;
 
@@ -55,6 +57,7 @@ pub fn files() -> Result<Vec<(String, Vec<u8>)>, String> {
     let mut files = parts("replay", &cases);
     files.extend(parts("terms", &scripts));
     files.extend(parts("orders", &orders));
+    files.extend(parts("within", &within()));
     let page = page(&files, cases.len(), &tally, scripts.len(), &calls);
     files.push(("README.md".into(), page.into_bytes()));
     Ok(files)
@@ -105,6 +108,16 @@ fn scripts(tally: &mut Tally) -> Result<Vec<Pair>, String> {
     answers(texts.into_iter(), tally)
 }
 
+/// Asks for a term within a depth, as request 8 has them; the crate's Rust has no such call.
+fn within() -> Vec<Pair> {
+    (0..)
+        .map(|index| generate::levels::case(SEED, index))
+        .map(|ask| (ask.clone(), paper::within::answer(&paper::within::Ask::read(&ask).expect("an ask of ours"))))
+        .filter(|(ask, answer)| ask.len() + answer.len() <= COMPACT)
+        .take(WITHIN)
+        .collect()
+}
+
 /// Scripts with their answers.
 fn answers(texts: impl Iterator<Item = Vec<u8>>, tally: &mut Tally) -> Result<Vec<Pair>, String> {
     texts
@@ -152,7 +165,9 @@ fn page(files: &[(String, Vec<u8>)], cases: usize, tally: &Tally, scripts: usize
          text that oracle/README.md describes. `orders-*.bin`: {ORDERS} more, of {} comparisons and {} sorts each, of \
          terms that are alike for long. Of both:\n\n\
          - {} calls, {}\n\
-         - faults of the Rust: {}\n",
+         - faults of the Rust: {}\n\n\
+         `within-*.bin`: {WITHIN} asks for the cheapest term within a depth (document 02, Ask 8) and the answers of our own \
+         path, since the Rust has no such call; tests/c/within.c says how they lie.\n",
         tally.categories(),
         tally.refusals(Refusal::of_program),
         tally.faults(),

@@ -30,6 +30,23 @@ setup() { cd "$BATS_TEST_TMPDIR" && cp "$table" table.bin; }
   [ "${lines[0]}" = '{"refused":{"number":10,"name":"BadRoot","why":"table.bin: refused 10, BadRoot: class 9 is asked for, and s0 has 3"}}' ]
 }
 
+@test "the cheapest term within a depth, and its cost at several" {
+  says "$(printf 'within 4 14 4\n(let t0 (Add (Num 5) (Num 5)))\n\n(Add t0 t0)')" needlevale best table.bin --class 2 --depth 4
+  says "$(printf 'within 3 6 3\n(Add (Num 5) (Num 5))')" needlevale plain table.bin --class 1 --depth 3
+  says "$(printf 'within 1 1 1\n5')" needlevale plain table.bin --sort 1 --class 0 --depth 1
+  says "$(printf ' 1 no term\n 2 no term\n 3 6 ########################################')" \
+    needlevale best table.bin --class 1 --depth 1..3
+  says '{"mode":"within","root":{"sort":0,"class":1,"sort_name":"s0","name":"1"},"at":[{"depth":2,"refused":"NoTerm"},{"depth":3,"cost":6}]}' \
+    needlevale best table.bin --class 1 --depth 2..3 --json
+  stops 1 "table.bin: refused 11, NoTerm: no term of depth at most 2 derives 1 of sort s0" needlevale best table.bin --class 1 --depth 2
+  stops 3 "table.bin: refused 10, BadRoot: class 9 is asked for, and s0 has 3" needlevale best table.bin --class 9 --depth 2
+  for depth in 0 65 4..3 1.. ..4 -1 x; do
+    run -2 needlevale best table.bin --class 1 "--depth=$depth"
+    [[ $output = *"a depth is a whole number from 1 to 64, or two of them, such as 1..64"* ]]
+  done
+  run -2 needlevale variants table.bin --class 1 --depth 2
+}
+
 @test "a lost answer is status 4: a full or a closed output" {
   run -4 bash -c '"$@" >/dev/full' - "${emulator[@]}" "$program" best table.bin --class 2
   [ "$output" = "needlevale: standard output cannot be written: No space left on device" ]

@@ -1,11 +1,11 @@
 /* Asks for the cheapest term within a depth through needlevale_best_within, and compares with the answers of a
  * reference.
  *
- *   within ASKS ANSWERS
+ *   within ASKS [ANSWERS]
  *
- * Two streams (oracle/README.md), as `reference gen-within` and `reference within` write them: an ask is a sort, a value
- * and a depth of eight bytes each, the lowest first, then a table file; an answer is `within COST TERMS` and the term's
- * plain text in a line each, or `refused K`. The store is empty before each call. Where best's own term is no deeper
+ * One stream of asks and answers by turns, examples/recorded/within-0.bin, or two streams, as `reference gen-within` and
+ * `reference within` write them: an ask is a sort, a value and a depth of eight bytes each, the lowest first, then a
+ * table file; an answer is `within COST TERMS` and the term's plain text in a line each, or `refused K`. The store is empty before each call. Where best's own term is no deeper
  * than the depth, its cost must be the same. Prints one line, status 0; at the first
  * difference, one sentence, status 1; wrong usage is 2. Assumes a 64-bit Linux. */
 #define _DEFAULT_SOURCE
@@ -107,7 +107,7 @@ static void one(struct work *at, const uint8_t *item, size_t length, const uint8
 static void *work(void *given)
 {
     struct work *at = (struct work *)given;
-    FILE *asks = fopen(at->paths[0], "rb"), *answers = fopen(at->paths[1], "rb");
+    FILE *asks = fopen(at->paths[0], "rb"), *answers = at->paths[1] ? fopen(at->paths[1], "rb") : asks;
     uint8_t *item, *answer;
     size_t length, answer_length;
     expect(&at->watch, asks && answers, "a stream cannot be read");
@@ -121,15 +121,16 @@ static void *work(void *given)
     }
     expect(&at->watch, !next_item(&at->watch, answers, &length), "more answers than asks");
     fclose(asks);
-    fclose(answers);
+    if (at->paths[1])
+        fclose(answers);
     return NULL;
 }
 
 int main(int count, char **words)
 {
     static struct work all;
-    if (count != 3) {
-        fputs("within: give a stream of asks and one of answers\n", stderr);
+    if (count != 2 && count != 3) {
+        fputs("within: give a stream of asks and answers, or one of each\n", stderr);
         return 2;
     }
     watch_begins(&all.watch, "within");
