@@ -69,7 +69,8 @@ returns-2 c =
     let u = q .last .1 .1 .1 .1 in
     let s = store (g .records .now) (g .literals .now) (g .names .now) (g .terms) (g .symbols) in
     decide-dear t root (g .count) (g .rows .now) (g .heads .now) (g .labels .now) (g .values .now) v
-    (g .depth) (u .0) (u .1 .0) (u .1 .1 .0) (q .ensures) (g .c) s (omega (arith, c .before .if1 .left)) (c .if2 .taken)
+    (g .depth) (u .0) (u .1 .0) (u .1 .1 .0) (q .ensures) (g .c) s (omega (arith, c .before .if1 .left))
+    (omega (arith, c .if2 .taken))
 
 slice-aggregate-term : tie.Need-slice-aggregate-term
 slice-aggregate-term c = search needs
