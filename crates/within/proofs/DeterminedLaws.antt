@@ -7,9 +7,9 @@ use Rattle.refusal.proofs.NumberLaws.{number-once}
 use Rattle.answer_rules.specs.Answers.{After}
 use Rattle.extract.proofs.VariantFacts.OutcomeLaws.{not-refused, same-number, same-value}
 use Rattle.within_rules.specs.Within.{WithinTerm}
-use Rattle.within_root.specs.declared.WithinAnswer.{WithinAnswer}
-use Rattle.within_root.specs.declared.WithinAnswer.the-variants.{Found, Refused}
-use Rattle.within_root.specs.Single.{seenWithin}
+use Rattle.within_class.specs.declared.WithinAnswer.{WithinAnswer}
+use Rattle.within_class.specs.declared.WithinAnswer.the-variants.{Found, Refused}
+use Rattle.within_class.specs.Deciding.{seenWithin}
 
 found-same :
     {w w′ i i′ n n′ m m′ : ℕ} → w ≡ w′ → i ≡ i′ → n ≡ n′ → m ≡ m′ → Found w i n m ≡ Found w′ i′ n′ m′

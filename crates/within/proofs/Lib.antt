@@ -5,4 +5,5 @@ pub mod WayLaws
 pub mod DeeperLaws
 pub mod CallLaws
 pub mod DeterminedLaws
+pub mod RootLaws
 pub mod Promises

@@ -30,8 +30,8 @@ use Rattle.level_rules.specs.Asked.{ChosenWithin}
 use Rattle.extract.specs.Promises.{Holding, ClassRoot, BaseRoot}
 use Rattle.within_rules.specs.Within.{WithinTerm, withinAt}
 use Rattle.within_rules.specs.Demand.{DerivingWithin, ChoiceWithin, chosenTerm, ComesBackWithin}
-use Rattle.within_root.specs.declared.WithinAnswer.{WithinAnswer}
-use Rattle.within_root.specs.Single.{seenWithin}
+use Rattle.within_class.specs.declared.WithinAnswer.{WithinAnswer}
+use Rattle.within_class.specs.Deciding.{seenWithin}
 use Rattle.within.specs.Told.{IsDepth, NoDepth, termDepth, Costs, CostsAtMost, BaseOutcome, OneOf}
 
 -- P of what is answered for a class: of the table, the root sort, the depth, the class, the store and the answer.

@@ -4,7 +4,7 @@ use mathlib.Core.Bool.{Bool, true, false}
 use mathlib.Core.List.{List}
 use Prim.Native.Nat.{ℕ, _<_, _≤_}
 use native.Mathlib.Omega.{arith}
-use borrow.Author.Tests.{le-leb, lt-leb}
+use borrow.Author.Tests.{le-leb, lt-leb, leb-true}
 use lib.Dec.{leb}
 use lib.IntN.{ℤ}
 use Rattle.refusal.specs.declared.Refusal.the-variants.{BadSize, BadStore}
@@ -13,6 +13,7 @@ use Rattle.term_rules.specs.Lent.{Store, store}
 use Rattle.term_rules.specs.WellFormed.{wellFormed}
 use Rattle.term_rules.specs.Nodes.{literal, number}
 use Rattle.term_rules.specs.Adding.{Adds, at, noRoom, add}
+use Rattle.term_rules.proofs.TestLaws.{and-second}
 use Rattle.answer_rules.specs.Answers.{Answer, value, refusal, After, refused}
 use Rattle.answer_rules.specs.Best.{BestTerm, bestLiteral}
 use Rattle.build_trees.specs.Adding.{addTree}
@@ -20,8 +21,9 @@ use Rattle.best_root.specs.declared.BestAnswer.{BestAnswer}
 use Rattle.best_root.specs.declared.BestAnswer.the-variants.{Found as BestFound, Refused as BestRefused}
 use Rattle.best_root.specs.Single.{seenBest, ifFormed, literalAnswer}
 use Rattle.within_rules.specs.Within.{WithinTerm, isDepth, withinPut}
-use Rattle.within_root.specs.declared.WithinAnswer.{WithinAnswer}
-use Rattle.within_root.specs.Single.{seenWithin, withoutPasses, ifAllowed, literalWithin}
+use Rattle.within_class.specs.declared.WithinAnswer.{WithinAnswer}
+use Rattle.within_class.specs.Deciding.{seenWithin}
+use Rattle.within_root.specs.Single.{withoutPasses, ifAllowed, literalWithin}
 
 -- A depth is 1 to 64.
 pub depth-low : (d : ℕ) → d < 1 → false ≡ isDepth d
@@ -31,6 +33,10 @@ depth-low d h = rw (lt-leb 1 d h)
 pub depth-is : (d : ℕ) → 1 ≤ d → leb d 64 ≡ isDepth d
 unfolding isDepth
 depth-is d h = rw (le-leb 1 d h)
+
+pub depth-few : (d : ℕ) → isDepth d ≡ true → d ≤ 64
+unfolding isDepth
+depth-few d e = leb-true d 64 (and-second (leb 1 d) (leb d 64) e)
 
 -- By what the depth and the store are.
 module _ (d : ℕ) (s : Store) (a : After WithinTerm) where

@@ -1,27 +1,24 @@
--- The cheapest term of a root within a depth, once a table is packed, over a lent store: how the answer is read, and
--- what is asked. Assumes nothing: definitions.
+-- The cheapest term of a root within a depth, once a table is packed, over a lent store. Assumes nothing: definitions.
+use mathlib.Core.Path.{_≡_}
 use mathlib.Core.Bool.{true, false}
 use mathlib.Core.List.{List}
-use Prim.Native.Nat.{ℕ}
+use Prim.Native.Nat.{ℕ, _<_}
 use lib.IntN.{ℤ}
 use Rattle.refusal.specs.declared.Refusal.the-variants.{BadSize, BadStore}
-use Rattle.term_rules.specs.Lent.{Store, store}
+use Rattle.term_rules.specs.Lent.{Store}
 use Rattle.term_rules.specs.WellFormed.{wellFormed}
 use Rattle.term_rules.specs.Nodes.{number}
-use Rattle.answer_rules.specs.Answers.{After, found, refused}
+use Rattle.file_rules.specs.Table.{Table}
+use Rattle.table_rules.specs.Rules.Classes.{classCount}
+use Rattle.answer_rules.specs.Answers.{After, refused}
 use Rattle.build_trees.specs.Adding.{addTree}
 use Rattle.best_root.specs.declared.BestAnswer.{BestAnswer}
 use Rattle.best_root.specs.declared.BestAnswer.the-variants.{Found as BestFound, Refused as BestRefused}
-use Rattle.within_rules.specs.Within.{WithinTerm, isDepth, withinPut}
-use Rattle.within_root.specs.declared.WithinAnswer.{WithinAnswer}
-use Rattle.within_root.specs.declared.WithinAnswer.the-variants.{Found, Refused}
-
--- The code's answer as the definition's, with the lent lists as the call leaves them. A refusal leaves the counts n and
--- m, which were those before.
-abbrev pub seenWithin : WithinAnswer → List ℕ → List ℤ → List ℕ → ℕ → ℕ → After WithinTerm
-seenWithin (Found w i terms symbols) rs ls ns n m =
-    found (record { cost = w; term = i }) (store rs ls ns terms symbols)
-seenWithin (Refused r) rs ls ns n m = refused r (store rs ls ns n m)
+use Rattle.within_rules.specs.Levels.{toldFor}
+use Rattle.within_rules.specs.Within.{WithinTerm, isDepth, withinPut, withinClass}
+use Rattle.within_class.specs.Table.{PackedTable}
+use Rattle.within_class.specs.declared.WithinAnswer.{WithinAnswer}
+use Rattle.within_class.specs.declared.WithinAnswer.the-variants.{Found, Refused}
 
 -- "No pass count."
 abbrev pub withoutPasses : BestAnswer → WithinAnswer
@@ -40,3 +37,22 @@ ifAllowed d s a =
 -- The answer for the literal of a base root.
 abbrev pub literalWithin : ℤ → ℕ → Store → After WithinTerm
 literalWithin z d s = ifAllowed d s (withinPut 1 s (addTree s (number z)))
+
+-- The answer for a class.
+abbrev pub classWithin : Table → ℕ → ℕ → ℕ → Store → After WithinTerm
+classWithin t root c d s = ifAllowed d s (withinClass t root d c s (toldFor t root d c))
+
+-- The rows are those of some table, of which c is a class.
+pub record SomeClass (n : ℕ) (rows heads labels : List ℕ) (values : List ℤ) (c : ℕ) : Type 0 where
+  pub table : Table
+  pub root : ℕ
+  pub is : PackedTable table root n rows heads labels values
+  pub class : c < classCount table
+
+-- For every table that the rows can be of, the answer is the definition's.
+abbrev pub ClassWithin :
+    ℕ → List ℕ → List ℕ → List ℕ → List ℤ → ℕ → ℕ → Store → After WithinTerm → Type 0
+ClassWithin n rows heads labels values c d s a =
+    (t : Table) (root : ℕ) →
+    PackedTable t root n rows heads labels values →
+    a ≡ classWithin t root c d s

@@ -6,15 +6,11 @@ ghost use lib.IntN.{pos};
 ghost use lib.ListN.{length, getD};
 ghost use Rattle.term_rules.specs.Lent.{store};
 ghost use Rattle.within_rules.specs.Within.{isDepth};
-ghost use Rattle.within_root.specs.Single.{seenWithin, withoutPasses, literalWithin};
+ghost use Rattle.within_class.specs.Deciding.{seenWithin};
+ghost use Rattle.within_root.specs.Single.{withoutPasses, literalWithin, SomeClass, ClassWithin};
 use best_root::BestAnswer;
 use refusal::Refusal;
-
-// The cost, the term's number and the counts of terms and symbols then; or the refusal.
-pub enum WithinAnswer {
-    Found(u64, usize, usize, usize),
-    Refused(Refusal),
-}
+use within_class::WithinAnswer;
 
 // Whether it is a depth: 1 to 64.
 fn is_depth(depth: u64) -> bool
@@ -59,4 +55,48 @@ pub fn of_literal(
     }
     let best = best_root::of_literal(values, i, records, literals, names, terms, symbols);
     without_passes(best)
+}
+
+// The cheapest term of class `c` within a depth, by the first `count` packed rows.
+pub fn of_class(
+    rows: &[u16],
+    heads: &[u64],
+    count: usize,
+    labels: &[u8],
+    values: &[i64],
+    c: u64,
+    depth: u64,
+    records: &mut [u64],
+    literals: &mut [i64],
+    names: &mut [u8],
+    terms: usize,
+    symbols: usize,
+) -> WithinAnswer
+    requires { ⌜ SomeClass count (now rows) (now heads) (now labels) (now values) c ⌝ }
+    ensures { λ r. ⌜
+        ClassWithin count (now (rows .entry)) (now (heads .entry)) (now (labels .entry)) (now (values .entry)) c depth
+        (store (now (records .entry)) (now (literals .entry)) (now (names .entry)) terms symbols)
+        (seenWithin r (now (records .exit)) (now (literals .exit)) (now (names .exit)) terms symbols)
+        ⌝ }
+{
+    if !is_depth(depth) {
+        return WithinAnswer::Refused(Refusal::BadSize);
+    }
+    if !term_record::check(records, literals, names, terms, symbols) {
+        return WithinAnswer::Refused(Refusal::BadStore);
+    }
+    within_class::decide(
+        rows,
+        heads,
+        count,
+        labels,
+        values,
+        depth as usize,
+        c as usize,
+        records,
+        literals,
+        names,
+        terms,
+        symbols,
+    )
 }
