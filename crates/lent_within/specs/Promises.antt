@@ -1,6 +1,6 @@
--- What the call within a depth on lent lists promises beside its contract: all that `within` promises, of the store that
--- the lists are before and after (`lent/specs/Promises.antt` says which that is), and document 01, 'Refusal numbers' and
--- 'How tightly the answers are fixed'. Assumes nothing: a record, with one field for each theorem.
+-- What the call within a depth on lent lists promises beside its contract: all that `within` promises, of the store
+-- that the lists are before and after (`lent/specs/Promises.antt` says which that is), and document 01, 'Refusal
+-- numbers' and 'How tightly the answers are fixed'. Assumes nothing: a record, with one field for each theorem.
 use Prim.Native.Nat.{ℕ}
 use mathlib.Core.Path.{_≡_}
 use mathlib.Core.List.{List}

@@ -94,7 +94,8 @@ returns c =
     let wide : length (call .last .1 .1 .1 .1 .1 .0) ≡ f .room =
     c .before .before .before .before .before .literals3 .given
     ∙ length-take-le (f .room) (f .literals) (omega (arith, whole .wide, whole .within)) in
-    let bytes : length (names .last .1 .0) ≡ tableLength = names .ensures .long ∙ length-replicate {A = ℕ} tableLength 0 in
+    let bytes : length (names .last .1 .0) ≡ tableLength =
+    names .ensures .long ∙ length-replicate {A = ℕ} tableLength 0 in
     let size : length (call .last .1 .1 .1 .1 .1 .1 .0) ≡ entriesLength (names .result) =
     c .before .before .before .before .names4 .given
     ∙ length-take-le (entriesLength (names .result)) (names .last .1 .0) (omega (arith, names .ensures .room)) in
@@ -102,7 +103,8 @@ returns c =
     (within-faithful (call .result) (g .terms) (g .symbols)) f (g .ns .now) (g .terms) (g .symbols)
     (λ (s : Store). withinAt (g .file .now) (g .sort) (g .value) (g .depth) s) (call .last .1 .1 .1 .1 .0) _
     (call .last .1 .1 .1 .1 .1 .0) long wide
-    (names .ensures .bytes) (names .ensures .wide) (call .last .1 .1 .1 .1 .1 .1 .0) _ (c .before .unload-names .last .0)
+    (names .ensures .bytes) (names .ensures .wide) (call .last .1 .1 .1 .1 .1 .1 .0) _
+    (c .before .unload-names .last .0)
     (size ∙ ap (λ (k : ℕ). entriesLength k) (names .ensures .room)) (c .before .unload-names .ensures) (call .ensures)
 
 pub best-within-in-spec : {M : Type 1} → statement M
