@@ -4,6 +4,7 @@ pub mod CodedLaws
 pub mod Forwarding
 pub mod PromiseLaws
 pub mod ToldLaws
+pub mod WithinLaws
 pub mod AddLaws
 pub mod TellsLaws
 pub mod CallLaws

@@ -11,6 +11,7 @@ use Rattle.needlevale_c.proofs.ToldLaws.{
   variants-told,
   variants-stay,
 }
+use Rattle.needlevale_c.proofs.WithinLaws.{within-told, within-stays}
 use Rattle.lent.specs.Records.{lentStore}
 use Rattle.term.specs.Calls.{addLiteral, addVariable, addApplication}
 use Rattle.term.proofs.Promises.{promises as flat}
@@ -44,8 +45,10 @@ promises = record {
   lets-told = lets-told;
   best-told = best-told;
   variants-told = variants-told;
+  within-told = within-told;
   best-stays = best-stays;
   variants-stay = variants-stay;
+  within-stays = within-stays;
   one-plain = λ s t out z y a b p q. (p .number ∙ sym (q .number), p .bytes ∙ sym (q .bytes));
   one-let = λ s nm t out z y a b p q. (p .numbers ∙ sym (q .numbers), p .bytes ∙ sym (q .bytes));
   one-best = λ ts ts′ ts″ ns ns′ ns″ n m wanted b c p q. (
@@ -59,6 +62,11 @@ promises = record {
     p .lists .entries ∙ sym (q .lists .entries),
     p .costs-are ∙ sym (q .costs-are),
     p .terms-are ∙ sym (q .terms-are),
+  );
+  one-within = λ ts ts′ ts″ ns ns′ ns″ n m wanted b c p q. (
+    p .numbers ∙ sym (q .numbers),
+    p .lists .records ∙ sym (q .lists .records),
+    p .lists .entries ∙ sym (q .lists .entries),
   );
   literal-stays = λ ts ts′ ns ns′ n m v z h.
       added-stays ts ts′ ns ns′ n m (addLiteral (lentStore ts ns n m) v) z

@@ -84,7 +84,7 @@ counts-of : (a : Answer BestTerm) (n m : ℕ) → (bestWith a n m .terms ≡ n) 
 counts-of (value t) n m = (refl, refl)
 counts-of (refusal k) n m = (refl, refl)
 
-lent-counts :
+pub lent-counts :
     (ts : List Term) (ns : List (List ℕ)) (n m : ℕ) →
     (lentStore ts ns n m .terms ≡ n) × (lentStore ts ns n m .symbols ≡ m)
 unfolding lentStore

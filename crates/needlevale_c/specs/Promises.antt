@@ -1,7 +1,7 @@
 -- What the library for C promises, beside its contracts: document 01, 'The program', 'Terms' and 'Refusal numbers'.
--- `replied`, `addLiteral`, `plainTold`, `letTold`, `bestAt`, `variantsAt` and so on are the definitions that its
--- functions equal; what they are is on the pages of `program`, `term`, `text`, `extract` and `file`. Assumes nothing: a
--- record, with one field for each theorem.
+-- `replied`, `addLiteral`, `plainTold`, `letTold`, `bestAt`, `variantsAt`, `withinAt` and so on are the definitions
+-- that its functions equal; what they are is on the pages of `program`, `term`, `text`, `extract`, `within` and
+-- `file`. Assumes nothing: a record, with one field for each theorem.
 use Prim.Native.Nat.{ℕ, _+_, _<_}
 use mathlib.Core.Path.{_≡_}
 use mathlib.Core.List.{List}
@@ -37,6 +37,7 @@ use Rattle.answer_rules.specs.Answers.{After}
 use Rattle.answer_rules.specs.Best.{BestTerm, bestAt}
 use Rattle.answer_rules.specs.Variants.{VariantsAfter, variantsAt}
 use Rattle.variant_answers.specs.Kept.{lending}
+use Rattle.within_rules.specs.Within.{WithinTerm, withinAt}
 use Rattle.refusal.specs.Answer.{value, refuse}
 use Rattle.bits.specs.Bits.{bitsOf}
 use Rattle.bits.specs.Got.{refused}
@@ -48,7 +49,7 @@ use Rattle.program_rules.specs.Reply.{replied, Replied}
 use Rattle.c_told.specs.Below.{belowZero}
 use Rattle.needlevale_c.specs.Coded.{Replies, Adds}
 use Rattle.needlevale_c.specs.Texts.{Writes, WritesLets}
-use Rattle.needlevale_c.specs.Choices.{BestLeft, VariantsLeft}
+use Rattle.needlevale_c.specs.Choices.{BestLeft, VariantsLeft, WithinLeft}
 use Rattle.needlevale_c.specs.Terms.{AddedLeft, Sorts}
 use Rattle.needlevale_c.specs.Structs.{
   PlainTold,
@@ -57,6 +58,8 @@ use Rattle.needlevale_c.specs.Structs.{
   BestStays,
   VariantsTold,
   VariantsStay,
+  WithinTold,
+  WithinStays,
   AddedStays,
 }
 use Rattle.needlevale_c.specs.Reading.{
@@ -78,6 +81,7 @@ use Rattle.c_told.specs.declared.terms.Number.{Number}
 use Rattle.c_told.specs.declared.terms.Standing.{Standing}
 use Rattle.c_told.specs.declared.choices.Best.{Best}
 use Rattle.c_told.specs.declared.choices.Variants.{Variants}
+use Rattle.c_told.specs.declared.choices.Within.{Within}
 
 -- The number that `needlevale_answer` gives is a length, or a refusal of the table below zero, as was answered.
 abbrev pub ReplyTold : Replied → ℤ → Type 0
@@ -136,6 +140,10 @@ pub record Promises : Type 0 where
       (costs found ws us : List ℕ) (b : Variants) →
       VariantsLeft ts ns n m (variantsAt file root v most (lending (lentStore ts ns n m) costs found)) b ts′ ns′ ws us →
       VariantsTold (variantsAt file root v most (lending (lentStore ts ns n m) costs found)) b
+  pub within-told :
+      (file : List ℕ) (root v d : ℕ) (ts ts′ : List Term) (ns ns′ : List (List ℕ)) (n m : ℕ) (b : Within) →
+      WithinLeft ts ns n m (withinAt file root v d (lentStore ts ns n m)) b ts′ ns′ →
+      WithinTold (withinAt file root v d (lentStore ts ns n m)) b
   -- "Nothing lent is changed" by a refusal, and the counts that come back are those that were lent;
   pub best-stays :
       (file : List ℕ) (root v : ℕ) (ts ts′ : List Term) (ns ns′ : List (List ℕ)) (n m : ℕ) (b : Best) →
@@ -146,6 +154,10 @@ pub record Promises : Type 0 where
       (costs found ws us : List ℕ) (b : Variants) →
       VariantsLeft ts ns n m (variantsAt file root v most (lending (lentStore ts ns n m) costs found)) b ts′ ns′ ws us →
       VariantsStay ts ns n m costs found b ts′ ns′ ws us
+  pub within-stays :
+      (file : List ℕ) (root v d : ℕ) (ts ts′ : List Term) (ns ns′ : List (List ℕ)) (n m : ℕ) (b : Within) →
+      WithinLeft ts ns n m (withinAt file root v d (lentStore ts ns n m)) b ts′ ns′ →
+      WithinStays ts ns n m b ts′ ns′
   -- and one result.
   pub one-plain :
       (s : Store) (t : ℕ) (out : List ℕ) (z y : ℤ) (a b : List ℕ) →
@@ -168,6 +180,11 @@ pub record Promises : Type 0 where
       VariantsLeft ts ns n m wanted b ts′ ns′ ws us →
       VariantsLeft ts ns n m wanted c ts″ ns″ ws′ us′ →
       (b ≡ c) × (ts′ ≡ ts″) × (ns′ ≡ ns″) × (ws ≡ ws′) × (us ≡ us′)
+  pub one-within :
+      (ts ts′ ts″ : List Term) (ns ns′ ns″ : List (List ℕ)) (n m : ℕ) (wanted : After WithinTerm) (b c : Within) →
+      WithinLeft ts ns n m wanted b ts′ ns′ →
+      WithinLeft ts ns n m wanted c ts″ ns″ →
+      (b ≡ c) × (ts′ ≡ ts″) × (ns′ ≡ ns″)
   -- A refused add on term structs leaves what was lent, and gives back the counts that were lent;
   pub literal-stays :
       (ts ts′ : List Term) (ns ns′ : List (List ℕ)) (n m : ℕ) (v : ℤ) (z : Adding) →

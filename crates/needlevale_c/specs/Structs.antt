@@ -15,12 +15,14 @@ use Rattle.text_whole.specs.LetPlaced as lets
 use Rattle.answer_rules.specs.Answers.{After}
 use Rattle.answer_rules.specs.Best.{BestTerm}
 use Rattle.answer_rules.specs.Variants.{Kept, VariantsAfter}
+use Rattle.within_rules.specs.Within.{WithinTerm}
 use Rattle.c_told.specs.Below.{belowZero}
 use Rattle.c_told.specs.Texts.{letCoded}
-use Rattle.c_told.specs.Choices.{bestWith, variantsWith}
+use Rattle.c_told.specs.Choices.{bestWith, variantsWith, withinWith}
 use Rattle.c_told.specs.declared.texts.LetLength.{LetLength}
 use Rattle.c_told.specs.declared.choices.Best.{Best}
 use Rattle.c_told.specs.declared.choices.Variants.{Variants}
+use Rattle.c_told.specs.declared.choices.Within.{Within}
 use Rattle.c_told.specs.declared.terms.Adding.{Adding}
 
 -- A plain text's number is a length that a buffer of so many bytes has, or a refusal below zero, as was answered.
@@ -46,6 +48,11 @@ VariantsTold a b =
     ((t : Kept) × ((b ≡ variantsWith (value t) (a .store .terms) (a .store .symbols)) × (a .answer ≡ value t)))
     ⊎ ((r : Refusal) × ((b .status ≡ belowZero r) × (a .answer ≡ refuse r)))
 
+abbrev pub WithinTold : After WithinTerm → Within → Type 0
+WithinTold a b =
+    ((t : WithinTerm) × ((b ≡ withinWith (value t) (a .store .terms) (a .store .symbols)) × (a .answer ≡ value t)))
+    ⊎ ((r : Refusal) × ((b .status ≡ belowZero r) × (a .answer ≡ refuse r)))
+
 -- Where the status is a refusal's, the lists are as they were, and the counts are those that were lent.
 abbrev pub BestStays : List Term → List (List ℕ) → ℕ → ℕ → Best → List Term → List (List ℕ) → Type 0
 BestStays ts ns n m b ts′ ns′ =
@@ -58,6 +65,10 @@ VariantsStay ts ns n m costs found b ts′ ns′ ws us =
     (r : Refusal) →
     b .status ≡ belowZero r →
     (ts′ ≡ ts) × (ns′ ≡ ns) × (b .terms ≡ n) × (b .symbols ≡ m) × (ws ≡ costs) × (us ≡ found)
+
+abbrev pub WithinStays : List Term → List (List ℕ) → ℕ → ℕ → Within → List Term → List (List ℕ) → Type 0
+WithinStays ts ns n m b ts′ ns′ =
+    (r : Refusal) → b .status ≡ belowZero r → (ts′ ≡ ts) × (ns′ ≡ ns) × (b .terms ≡ n) × (b .symbols ≡ m)
 
 abbrev pub AddedStays : List Term → List (List ℕ) → ℕ → ℕ → Adding → List Term → List (List ℕ) → Type 0
 AddedStays ts ns n m z ts′ ns′ =

@@ -1,14 +1,16 @@
-// Best and variants for callers in C, on an array of term structs and an array of name entries: all numbers of an
-// answer in one struct, with the store's counts as they are then. Assumed of the caller: what include/needlevale.h
-// says.
+// Best, variants and best within a depth for callers in C, on an array of term structs and an array of name entries:
+// all numbers of an answer in one struct, with the store's counts as they are then. Assumed of the caller: what
+// include/needlevale.h says.
 ghost use Rattle.answer_rules.specs.Best.{bestAt};
 ghost use Rattle.answer_rules.specs.Variants.{variantsAt};
 ghost use Rattle.variant_answers.specs.Kept.{lending};
+ghost use Rattle.within_rules.specs.Within.{withinAt};
 ghost use Rattle.lent.specs.Records.{lentStore};
-ghost use Rattle.needlevale_c.specs.Choices.{BestLeft, VariantsLeft};
+ghost use Rattle.needlevale_c.specs.Choices.{BestLeft, VariantsLeft, WithinLeft};
 use c_told::choices;
 use c_told::choices::Best;
 use c_told::choices::Variants;
+use c_told::choices::Within;
 use lent_entries::Name;
 use term_rules::Term;
 
@@ -68,4 +70,26 @@ pub extern "C" fn needlevale_variants(
         found,
     );
     choices::told_variants(r, terms, symbols)
+}
+
+// The cheapest term of the root of a table file among those of depth at most `depth`, built in the lent store.
+#[no_mangle]
+pub extern "C" fn needlevale_best_within(
+    file: &[u8],
+    sort: u64,
+    value: u64,
+    depth: u64,
+    ts: &mut [Term],
+    ns: &mut [Name],
+    terms: usize,
+    symbols: usize,
+) -> Within
+    ensures { λ b. ⌜
+        WithinLeft (now (ts .entry)) (now (ns .entry)) terms symbols
+        (withinAt (now (file .entry)) sort value depth (lentStore (now (ts .entry)) (now (ns .entry)) terms symbols)) b
+        (now (ts .exit)) (now (ns .exit))
+        ⌝ }
+{
+    let r = lent_within::best_within(file, sort, value, depth, ts, ns, terms, symbols);
+    choices::told_within(r, terms, symbols)
 }

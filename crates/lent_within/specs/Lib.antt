@@ -1,0 +1,3 @@
+-- The definitions of the crate `lent_within`: what its call leaves of the lent lists.
+pub mod Left
+pub mod Promises
