@@ -19,7 +19,7 @@ FLOORS = (
     ("Terms", ("term", "term_")),
     ("Texts", ("text", "text_")),
     ("Costs and choice", ("choice_", "level_", "table_", "price", "price_", "build", "best_", "variant_", "variants_",
-                          "answer_", "extract", "extract_")),
+                          "answer_", "within_", "extract", "extract_", "growth_")),
     ("The program", ("program", "program_", "cases", "needlevale")),
     ("The theorems", ("theorems",)),
     ("Lent term structs", ("lent", "lent_")),

@@ -1,0 +1,1 @@
+// More rows never cost more: definitions in specs/, theorems in proofs/. No code.
