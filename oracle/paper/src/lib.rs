@@ -8,6 +8,7 @@ pub mod edges;
 pub mod exact;
 pub mod file;
 pub mod generate;
+pub mod pairs;
 pub mod program;
 pub mod refusal;
 pub mod script;

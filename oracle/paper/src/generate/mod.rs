@@ -5,6 +5,7 @@ mod faulty;
 pub mod levels;
 mod limits;
 pub mod make;
+pub mod pairs;
 mod rng;
 mod scripts;
 mod shapes;
