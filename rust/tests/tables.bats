@@ -1,5 +1,5 @@
 #!/usr/bin/env bats
-# table make and show, import, export, draw, stats, bench, and the rest of the commands.
+# table make and show, import, export, draw, stats, diff, bench, and the rest of the commands.
 
 load setup
 tables=$BATS_TEST_DIRNAME/../../examples/tables
@@ -116,6 +116,54 @@ setup() { cd "$BATS_TEST_TMPDIR" && cp "$house/examples/worked/table.bin" .; }
   stops 3 "table.bin: refused 10, BadRoot: class 3 is asked for, and s0 has 3" needlevale stats table.bin --class 3
 }
 
+@test "two tables are compared: whose rows include whose, and whose least cost fell or rose" {
+  grep -v '^row double = (<<\|^row one = (/' "$tables/arithmetic.txt" >few.txt
+  says "$(printf '%s\n' 'rows        the second has all 7 usable rows of the first, and 2 more' \
+    'fell        double of sort Math: 5, then 4' \
+    'roots       4, of which 1 fell and 0 rose; none may rise, as is proved')" needlevale diff few.txt "$tables/arithmetic.txt"
+  says "$(printf '%s\n' 'rows        the second lacks 2 of 9 usable rows of the first, such as double = (<< a one)' \
+    'rose        double of sort Math: 4, then 5' \
+    'roots       4, of which 0 fell and 1 rose; none may fall, as is proved')" needlevale diff "$tables/arithmetic.txt" few.txt
+  needlevale table make few.txt -o few.bin
+  says '{"includes":true,"usable_rows":[7,9],"lacks":0,"more":2,"head_costs":[],"roots":4,"fell":[{"sort":0,"class":3,"name":"double","before":5,"after":4}],"rose":[]}' \
+    needlevale diff - "$tables/arithmetic.txt" --json <few.bin
+}
+
+@test "order, copies and unusable rows do not count in a comparison" {
+  { grep -v '^ro' "$tables/arithmetic.txt" && echo 'literal 1 2' && grep '^row' "$tables/arithmetic.txt" | tac &&
+    printf 'row double = (+ a a)\nrow double = (+ one one) subsumed\n'; } >other.txt
+  says "$(printf '%s\n' 'rows        both have the same 9 usable rows' \
+    'roots       4, of which 0 fell and 0 rose; none may change, as is proved')" needlevale diff "$tables/arithmetic.txt" other.txt
+}
+
+@test "a head cost that is raised, a term that is lost and one that becomes too dear" {
+  sed 's/^function << (Math Math) -> Math cost 1/function << (Math Math) -> Math cost 4/' "$tables/arithmetic.txt" >dear.txt
+  says "$(printf '%s\n' 'rows        both have the same 9 usable rows' 'head cost   <<: 1, then 4' \
+    'rose        double of sort Math: 4, then 5' \
+    'roots       4, of which 0 fell and 1 rose; none may fall, as is proved')" needlevale diff "$tables/arithmetic.txt" dear.txt
+  printf 'needlevale table 1\nsort M eq 2\nfunction L () -> M\nfunction S (M) -> M\nrow 0 = (L)\nrow 1 = (S 0)\n' >kept.txt
+  sed 's/^row 0 = (L)/& subsumed/' kept.txt >lost.txt
+  says "$(printf '%s\n' 'rows        the second lacks 1 of 2 usable rows of the first, such as 0 = (L)' \
+    'rose        0 of sort M: 1, then no term' 'rose        1 of sort M: 2, then no term' \
+    'roots       2, of which 0 fell and 2 rose; none may fall, as is proved')" needlevale diff kept.txt lost.txt
+  sed 's/^function L () -> M/& cost 18446744073709551614/' kept.txt >far.txt
+  says "$(printf '%s\n' 'rows        both have the same 2 usable rows' 'head cost   L: 1, then 18446744073709551614' \
+    'rose        0 of sort M: 1, then 18446744073709551614' 'rose        1 of sort M: 2, then too dear' \
+    'roots       2, of which 0 fell and 2 rose; none may fall, as is proved')" needlevale diff kept.txt far.txt
+}
+
+@test "tables that cannot be compared are told, and so is a refused one" {
+  stops 3 "table.bin and $tables/sharing.txt cannot be compared: their sorts or class counts differ" needlevale diff table.bin "$tables/sharing.txt"
+  printf 'needlevale table 1\nsort M eq one\nfunction F () -> M\n' >first.txt
+  sed 's/one/uno/' first.txt >second.txt
+  stops 3 "first.txt and second.txt cannot be compared: a class of sort M is called one in the one and uno in the other" needlevale diff first.txt second.txt
+  sed 's/F/G/' first.txt >second.txt
+  stops 3 "first.txt and second.txt cannot be compared: function 0, F, is not the same in both" needlevale diff first.txt second.txt
+  printf '\200' | dd of=table.bin bs=1 seek=46 conv=notrunc status=none
+  stops 3 "table.bin: refused 8, BadValue: row 2, output cell: class 3, but sort 0 has 3 classes (bit 360)" needlevale diff table.bin table.bin
+  stops 2 "standard input can be one of the two tables, and not both" needlevale diff - -
+}
+
 @test "bench asks a folder of tables and JSON, one line each" {
   run -0 needlevale bench "$tables" --rounds 1
   [ "${#lines[@]}" -eq 5 ]
@@ -134,10 +182,10 @@ setup() { cd "$BATS_TEST_TMPDIR" && cp "$house/examples/worked/table.bin" .; }
   needlevale completions bash >completions.bash
   bash -n completions.bash
   needlevale man >needlevale.1
-  for word in best plain variants 'table make' 'table show' import export draw stats bench completions man; do
+  for word in best plain variants 'table make' 'table show' import export draw stats diff bench completions man; do
     grep -q "^.B needlevale $word" needlevale.1 || { echo "the manual has no '$word'"; return 1; }
   done
-  for command in best variants 'table make' import export draw stats bench; do
+  for command in best variants 'table make' import export draw stats diff bench; do
     # shellcheck disable=SC2086
     for option in $(needlevale $command --help | grep -oE '^ +(-[a-z]|--[a-z-]+)' | grep -vE -- '--?h'); do
       grep -qF -- "${option//-/\\-}" needlevale.1 || { echo "the manual has no '$option'"; return 1; }

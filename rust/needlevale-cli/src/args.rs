@@ -38,6 +38,8 @@ pub enum Command {
     Draw(Draw),
     /// Counts what is in a table, and what the cheapest term costs as a tree and as a graph
     Stats(Stats),
+    /// Compares two tables: whether the second has the usable rows of the first, and whose least cost fell or rose
+    Diff(Diff),
     /// Asks every table of a folder, one line each
     Bench(Bench),
     /// Writes completions for a shell
@@ -154,6 +156,17 @@ pub struct Stats {
     #[command(flatten)]
     pub root: Rooted,
     /// The counts as JSON
+    #[arg(long)]
+    pub json: bool,
+}
+
+#[derive(Args)]
+pub struct Diff {
+    /// The first table file, or its text form; '-' is standard input
+    pub first: String,
+    /// The second, of the same sorts, literals and functions; head costs may differ
+    pub second: String,
+    /// The comparison as JSON
     #[arg(long)]
     pub json: bool,
 }

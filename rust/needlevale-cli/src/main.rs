@@ -3,6 +3,7 @@
 mod args;
 mod asking;
 mod bench;
+mod diff;
 mod draw;
 mod export;
 mod import;
@@ -36,6 +37,7 @@ fn run(command: Command) -> Done<()> {
         Command::Export(export) => export::run(&export),
         Command::Draw(draw) => draw::run(&draw),
         Command::Stats(stats) => stats::run(&stats),
+        Command::Diff(diff) => diff::run(&diff),
         Command::Bench(bench) => bench::run(&bench),
         Command::Completions(completions) => {
             let mut script = Vec::new();
@@ -68,7 +70,7 @@ fn one_sentence(wrong: &clap::Error) -> String {
         let table = said.starts_with("Makes a table file");
         let commands = match table {
             true => "table make or table show",
-            false => "best, plain, variants, table, import, export, draw, stats or bench",
+            false => "best, plain, variants, table, import, export, draw, stats, diff or bench",
         };
         return format!("say what to do: {commands} ('needlevale --help')");
     }
