@@ -14,6 +14,5 @@ pub mod EdgeLaws
 pub mod ChosenLaws
 pub mod AnswerLaws
 pub mod Promises
-pub mod CheaperLaws
 pub mod Examples
 pub mod Demand

@@ -170,7 +170,8 @@ impl<'a> Compared<'a> {
             None => format!("the second has all {own} usable rows of the first{and_more}"),
             Some(row) => {
                 let (application, class) = text::row_words(&self.named.parts, &self.named.names, row);
-                format!("the second lacks {lacks} of {own} usable rows of the first, such as {class} = {application}{and_more}")
+                let such = format!("such as {class} = {application}");
+                format!("the second lacks {lacks} of {own} usable rows of the first, {such}{and_more}")
             }
         }
     }
