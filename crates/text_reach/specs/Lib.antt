@@ -1,0 +1,2 @@
+-- The definitions of the crate `text_reach`.
+pub mod Reach
