@@ -145,7 +145,7 @@ bindings-few kids root lower =
     )
 
 -- ---- a store's terms
-kids-lower :
+pub kids-lower :
     (s : Store) →
     wellFormed s ≡ true →
     (t : ℕ) →

@@ -1,4 +1,4 @@
--- Numbers of two well-formed stores that mean the same tree have the same texts. Assumes nothing.
+-- Numbers of two well-formed stores that mean the same tree have the same texts, and reach as many terms. Assumes nothing.
 use mathlib.Core.Path.{_≡_, refl, sym, ap, subst, _∙_}
 use mathlib.Core.Bool.{true}
 use mathlib.Core.List.{List}
@@ -26,10 +26,12 @@ use Rattle.term_rules.specs.Nodes.{
 use Rattle.term_rules.specs.Trees.{treeAt}
 use Rattle.term_rules.specs.Growing.{Grows}
 use Rattle.term.proofs.Promises.{promises as store-promises}
+use Rattle.text_rules.specs.Forms.{children}
+use Rattle.text_rules.specs.Counts.{reached}
 use Rattle.text_rules.specs.LetText.{Naming, bindingsOf, letText, nextCount}
 use Rattle.text_rules.specs.PlainText.{plainText}
 use Rattle.text_whole.specs.Alike.{Both, Lower, SameNode, Alike}
-use Rattle.text_whole.proofs.Alike.TextLaws.{plain-both, let-both, bound-length}
+use Rattle.text_whole.proofs.Alike.TextLaws.{plain-both, let-both, bound-length, reached-length}
 
 module _ (s s′ : Store) (w : wellFormed s ≡ true) (w′ : wellFormed s′ ≡ true) where
   -- term i of the one store and term j of the other mean the same tree
@@ -139,6 +141,11 @@ module _
     next-of-tree nm =
         ap (λ (n : ℕ). nm .start + n)
         (bound-length (nodeAt s) (nodeAt s′) (Twin s s′ w w′) (twins-alike s s′ w w′) i j twin)
+
+    pub reached-of-tree :
+        length (reached (λ (u : ℕ). children (nodeAt s u)) i) ≡ length (reached (λ (u : ℕ). children (nodeAt s′ u)) j)
+    reached-of-tree =
+        reached-length (nodeAt s) (nodeAt s′) (Twin s s′ w w′) (twins-alike s s′ w w′) i j twin
 
 -- a store that has grown keeps the texts of its terms
 module _ (s s′ : Store) (w : wellFormed s ≡ true) (g : Grows s s′) (i : ℕ) (h : i < s .terms) where

@@ -206,7 +206,7 @@ module _ (kids kids′ : ℕ → List ℕ) (R : ℕ → ℕ → Type 0) (w : Ali
       (λ k v h. reach-both f g k v (h .same) (omega (arith, h .left)) (omega (arith, h .right))) (kids t) (kids′ u)
       (w .kin t u r) a b p) r))
 
-  reached-both : (t u : ℕ) → R t u → Both R (reached kids t) (reached kids′ u)
+  pub reached-both : (t u : ℕ) → R t u → Both R (reached kids t) (reached kids′ u)
   unfolding reached
   reached-both t u r = reach-both (suc t) (suc u) t u r (omega arith) (omega arith) [] [] (both-none R)
 
@@ -331,3 +331,11 @@ module _
     bindings-same t l =
         both-same (SameBound Below) bound-same (bindings kids t) (bindings kids′ t)
         (bindings-both kids kids′ Below below-alike t t (refl, l))
+
+    below-same : (i j : ℕ) → Below i j → i ≡ j
+    below-same i j r = r .0
+
+    pub reached-same : (t : ℕ) → t < n → reached kids t ≡ reached kids′ t
+    reached-same t l =
+        both-same Below below-same (reached kids t) (reached kids′ t)
+        (reached-both kids kids′ Below below-alike t t (refl, l))

@@ -8,6 +8,7 @@ use lib.ListN.{length}
 use lib.Dec.{ltb}
 use Rattle.term_rules.specs.Nodes.{Node, literal, variable, application}
 use Rattle.text_rules.specs.Forms.{children, each, form, Called, byText, shown, childText, lineIn, line}
+use Rattle.text_rules.specs.Counts.{reached}
 use Rattle.text_rules.specs.Bindings.{Bound, find, bindings}
 use Rattle.text_rules.specs.LetText.{
   Naming,
@@ -29,7 +30,7 @@ use Rattle.text_rules.specs.LetText.{
 use Rattle.text_rules.specs.PlainText.{plainLine}
 use Rattle.text_rules.proofs.FormLaws.{childText-is}
 use Rattle.text_whole.specs.Alike.{Both, Lower, Once, AlikeKids, SameNode, Alike, SameBound}
-use Rattle.text_whole.proofs.Alike.KidLaws.{pick, pick-both, both-length, find-both, bindings-both}
+use Rattle.text_whole.proofs.Alike.KidLaws.{pick, pick-both, both-length, find-both, reached-both, bindings-both}
 
 -- ---- forms
 each-both :
@@ -237,3 +238,12 @@ module _ (node node′ : ℕ → Node) (R : ℕ → ℕ → Type 0) (w : Alike n
   pub bound-length : (t u : ℕ) → R t u → length (bindingsOf node t) ≡ length (bindingsOf node′ u)
   bound-length t u r =
       both-length (SameBound R) (bindingsOf node t) (bindingsOf node′ u) (bound-both t u r)
+
+  -- and as many terms are reached
+  pub reached-length :
+      (t u : ℕ) →
+      R t u →
+      length (reached (λ (v : ℕ). children (node v)) t) ≡ length (reached (λ (v : ℕ). children (node′ v)) u)
+  reached-length t u r =
+      both-length R (reached (λ (v : ℕ). children (node v)) t) (reached (λ (v : ℕ). children (node′ v)) u)
+      (reached-both (λ (v : ℕ). children (node v)) (λ (v : ℕ). children (node′ v)) R kids-alike t u r)
