@@ -6,6 +6,7 @@ use Rattle.program_rules.specs.Reply.{
   emptyStore,
   emptyLending,
   bestReply,
+  termsReached,
   variantReply,
   variantReplies,
   variantsText,
@@ -170,8 +171,8 @@ use Rattle.cases.specs.Cases.{
 
 pub cases : Cases
 unfolding queryAt emptyStore emptyLending numberText bestLine variantsLine variantLine refusedLine bestReply
-    variantReply variantReplies variantsReply bestAnswer variantsAnswer bestTold bestCall variantsTold variantsCall
-    variantsText callOf answerTo inRoom written reply nameAt
+    termsReached variantReply variantReplies variantsReply bestAnswer variantsAnswer bestTold bestCall variantsTold
+    variantsCall variantsText callOf answerTo inRoom written reply nameAt
     entry putName findFrom findName allowed allAllowed valid same bitsOf value number holds field then must pick many
     padWith blocks versionAt sortsPart literalsPart functionsPart rowsPart endAt tableAt bytesAt nameAt-format-Functions
     taken newNameAt costAt flagsAt outputAt argumentAt argumentsAt functionAt functionsAt signed literalAt literalsAt

@@ -1,6 +1,6 @@
 -- The cases that document 01 marks (P) and its file given whole, "proved as a single table under a single statement":
--- each by its table or its store, and by what is written. The value is `cases` in proofs/Cases.antt. Assumes nothing:
--- statements.
+-- each by its table or its store, and by what is written, with the N of document 02 on variant lines. The value is
+-- `cases` in proofs/Cases.antt. Assumes nothing: statements.
 use Prim.Native.Nat.{ℕ, _*_, _-_, _^_}
 use Prim.Native.String.{String}
 use mathlib.Core.Path.{_≡_}
@@ -126,7 +126,7 @@ pub record Cases : Type 0 where
   pub zero-cost-loop : Writes (bestPlain 0) wrapLeaf "best 1 1 2\n(Leaf)\n"
   -- and variants are (Leaf) 1, (Wrap (Leaf)) 1."
   pub zero-cost-loop-variants :
-      Writes (variants 9 0) wrapLeaf "variants 2 2\nvariant 1 1 2\n(Leaf)\nvariant 2 1 2\n(Wrap (Leaf))\n"
+      Writes (variants 9 0) wrapLeaf "variants 2 2\nvariant 1 1 1\n(Leaf)\nvariant 2 1 2\n(Wrap (Leaf))\n"
   -- "Only Wrap(0)->0: NoTerm;
   pub only-a-loop : Writes (bestLet 0) onlyWrap "refused 11\n"
   -- its variants: empty."

@@ -4,4 +4,5 @@ pub mod VariantLaws
 pub mod AnswerLaws
 pub mod RespondLaws
 pub mod PromiseLaws
+pub mod ReachedLaws
 pub mod Promises

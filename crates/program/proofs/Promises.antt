@@ -19,6 +19,14 @@ use Rattle.program.proofs.PromiseLaws.{
   reply-at-most,
   one-seen,
 }
+use Rattle.program.proofs.ReachedLaws.{
+  reach-tree,
+  reach-some,
+  reach-literal,
+  reach-few,
+  reach-most,
+  variant-tree,
+}
 
 pub promises : Promises
 unfolding replied responded
@@ -34,6 +42,12 @@ promises =
       at-most = reply-at-most;
       responds = λ input out. text-stands out (value (reply input)) (reply input) refl;
       responds-not = λ input out. text-refused out (value (reply input)) (reply input) refl;
+      reach-tree = reach-tree;
+      reach-some = reach-some;
+      reach-literal = reach-literal;
+      reach-few = reach-few;
+      reach-most = reach-most;
+      variant-tree = λ s s′ i j place cost t h g m m′. variant-tree s s′ i j t h g m m′ place cost;
       one-answer = λ input out a b r q e d. one-seen a b r q (e ∙ sym d);
       one-response = λ input out a b r q e d. one-seen a b r q (e ∙ sym d);
     }

@@ -2,7 +2,8 @@
 use mathlib.Core.Path.{_≡_, refl, sym, ap, subst, _∙_}
 use mathlib.Core.Bool.{true}
 use mathlib.Core.List.{List}
-use Prim.Native.Nat.{ℕ, _<_}
+use Prim.Native.Nat.{ℕ, _<_, _≤_}
+use native.Mathlib.Omega.{arith}
 use lib.ListN.{length, replicate}
 use Rattle.refusal.specs.declared.Refusal.{Refusal}
 use Rattle.refusal.specs.Numbers.{refusalNo}
@@ -69,12 +70,16 @@ module _ (file : List ℕ) (sort v n : ℕ) (out : List ℕ) where
 pub variants-return :
     (file : List ℕ) (sort v n k p : ℕ) (s : Store) (paid found : List ℕ) →
     keptAs k p s paid found ≡ variantsAt file sort v n lendings →
-    (wellFormed s ≡ true) × Within paid found (s .terms) k
-variants-return file sort v n k p s paid found e =
+    length found ≡ 256 →
+    (wellFormed s ≡ true) × (Within paid found (s .terms) k × (k ≤ 256))
+variants-return file sort v n k p s paid found e long =
     let q = variants-returned lendings file sort v n (record { count = k; passes = p })
     (sym (ap (λ (a : VariantsAfter). a .answer) e)) in
     let r : Returned start s paid found k =
     subst (λ (a : VariantsAfter). Returned start (a .store) (a .costs) (a .terms) k) (sym e) q in (
       r .grows .formed,
-      record { costs-long = r .costs-long; terms-long = r .terms-long; below = r .below },
+      (
+        record { costs-long = r .costs-long; terms-long = r .terms-long; below = r .below },
+        omega (arith, r .terms-long, long),
+      ),
     )

@@ -1,17 +1,22 @@
--- What the program's function promises, beside its contracts: document 01, 'The program' and 'Refusal numbers'.
--- `replied` and `responded` are the definitions that `answer` and `respond` equal, `answerTo` is what answers an input and
--- `reply` what the program writes. Assumes nothing: a record, with one field for each theorem.
-use Prim.Native.Nat.{ℕ, _<_, _≤_}
+-- What the program's function promises, beside its contracts: document 01, 'The program' and 'Refusal numbers', and
+-- document 02 of N on variant lines. `replied` and `responded` are the definitions that `answer` and `respond` equal,
+-- `answerTo` is what answers an input and `reply` what the program writes. Assumes nothing: a record, with one field
+-- for each theorem.
+use Prim.Native.Nat.{ℕ, _+_, _<_, _≤_}
 use mathlib.Core.Path.{_≡_}
 use mathlib.Core.List.{List, _++_}
 use mathlib.Core.Logic.{_⊎_, _↔_}
+use lib.IntN.{ℤ}
 use lib.ListN.{length, drop}
 use Rattle.refusal.specs.declared.Refusal.{Refusal}
 use Rattle.refusal.specs.declared.Refusal.the-variants.{NoRoom}
 use Rattle.refusal.specs.Numbers.{refusalNo}
 use Rattle.refusal.specs.Answer.{value, refusal, refuse}
+use Rattle.term_rules.specs.Lent.{Store}
+use Rattle.term_rules.specs.Nodes.{literal, nodeAt, Tree, Means}
+use Rattle.text.specs.Promises.{Has}
 use Rattle.program_rules.specs.Lines.{refusedLine}
-use Rattle.program_rules.specs.Reply.{answerTo, reply, Replied, replied, responded}
+use Rattle.program_rules.specs.Reply.{termsReached, variantReply, answerTo, reply, Replied, replied, responded}
 use Rattle.program_rules.specs.Seen.{seen}
 use Rattle.program_rules.specs.declared.replies.Answered.{Answered}
 
@@ -56,6 +61,29 @@ pub record Promises : Type 0 where
       (input out : List ℕ) → length (reply input) ≤ length out → Stands (reply input) out (responded input out)
   pub responds-not :
       (input out : List ℕ) → length out < length (reply input) → Refuses (refusalNo NoRoom) out (responded input out)
+  -- "N is the number of distinct terms reached from that line's own term, itself included": it goes by that term alone,
+  -- however a store numbers it and whatever else the store holds;
+  pub reach-tree :
+      (s s′ : Store) (i j : ℕ) (t : Tree) →
+      Has s i →
+      Has s′ j →
+      Means s i t →
+      Means s′ j t →
+      termsReached (nodeAt s) i ≡ termsReached (nodeAt s′) j
+  -- it is at least 1, and 1 for a literal;
+  pub reach-some : (s : Store) (t : ℕ) → Has s t → 1 ≤ termsReached (nodeAt s) t
+  pub reach-literal : (s : Store) (t : ℕ) (z : ℤ) → nodeAt s t ≡ literal z → termsReached (nodeAt s) t ≡ 1
+  -- no term after t is reached, so it is at most the store's terms.
+  pub reach-few : (s : Store) (t : ℕ) → Has s t → termsReached (nodeAt s) t ≤ t + 1
+  pub reach-most : (s : Store) (t : ℕ) → Has s t → termsReached (nodeAt s) t ≤ s .terms
+  -- So both lines of a variant go by its place, its cost and its term alone.
+  pub variant-tree :
+      (s s′ : Store) (i j place cost : ℕ) (t : Tree) →
+      Has s i →
+      Has s′ j →
+      Means s i t →
+      Means s′ j t →
+      variantReply s place cost i ≡ variantReply s′ place cost j
   -- "any two results allowed by a statement coincide": of `answer`, and of `respond`.
   pub one-answer :
       (input out a b : List ℕ) (r q : Answered) →

@@ -1,5 +1,5 @@
--- The lines of variants as they are written from lists of costs and terms: document 01, 'The program'. Assumes nothing:
--- definitions.
+-- The lines of variants as they are written from lists of costs, terms and numbers N: document 01, 'The program'.
+-- Assumes nothing: definitions.
 use Prim.Native.Nat.{ℕ, zero, suc, _<_, _≤_}
 use mathlib.Core.Bool.{false}
 use mathlib.Core.List.{List, [], _∷_, _++_}
@@ -12,15 +12,19 @@ use Rattle.text_write.specs.Widths.{calledBy, Widths}
 use Rattle.text_whole.specs.Placed.{Zeros}
 use Rattle.program_rules.specs.Lines.{variantLine}
 
--- "`variant I C N` and the plain text": of term t, where the store has n terms.
+-- "`variant I C N` and the plain text": of term t, with its N.
 unfoldable pub replyText : (ℕ → Node) → ℕ → ℕ → ℕ → ℕ → List ℕ
 replyText node n i c t = variantLine i c n ++ (plainLine node t ++ (10 ∷ []))
 
--- Those of the first k costs and terms, I from 1.
-unfoldable pub replyTexts : (ℕ → Node) → ℕ → List ℕ → List ℕ → ℕ → List ℕ
-replyTexts node n costs terms zero = []
-replyTexts node n costs terms (suc k) =
-    replyTexts node n costs terms k ++ replyText node n (suc k) (getD costs k 0) (getD terms k 0)
+-- Those of the first k costs and terms, I from 1: ns gives each place its N.
+unfoldable pub replyTexts : (ℕ → Node) → (ℕ → ℕ) → List ℕ → List ℕ → ℕ → List ℕ
+replyTexts node ns costs terms zero = []
+replyTexts node ns costs terms (suc k) =
+    replyTexts node ns costs terms k ++ replyText node (ns k) (suc k) (getD costs k 0) (getD terms k 0)
+
+-- The numbers N as a list has them.
+abbrev pub numbered : List ℕ → ℕ → ℕ
+numbered reaches j = getD reaches j 0
 
 -- What is relied on: the first n terms can be read, no term has a let name, and the table has the lengths of their
 -- plain texts.

@@ -28,7 +28,7 @@ bestLine c n p = ((bestWord ++ numberText c 32) ++ numberText n 32) ++ numberTex
 unfoldable pub variantsLine : ℕ → ℕ → List ℕ
 variantsLine k p = (variantsWord ++ numberText k 32) ++ numberText p 10
 
--- "`variant I C N`": I from 1, the cost, the terms in the store after the call.
+-- "`variant I C N`": I from 1, the cost, the distinct terms reached from the line's own term.
 unfoldable pub variantLine : ℕ → ℕ → ℕ → List ℕ
 variantLine i c n = ((variantWord ++ numberText i 32) ++ numberText c 32) ++ numberText n 10
 

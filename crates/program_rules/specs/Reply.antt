@@ -1,4 +1,5 @@
--- What the program writes: document 01, 'The program'. Assumes nothing: definitions.
+-- What the program writes: document 01, 'The program', and of N on variant lines document 02, Ask 2. Assumes nothing:
+-- definitions.
 use mathlib.Core.Bool.{Bool, true, false}
 use mathlib.Core.List.{List, [], _∷_, _++_}
 use Prim.Native.Nat.{ℕ, suc}
@@ -11,6 +12,9 @@ use Rattle.refusal.specs.declared.Refusal.the-variants.{NoRoom}
 use Rattle.bits.specs.Got.{Got, got, refused as fault}
 use Rattle.program_rules.specs.Lines.{bestLine, variantsLine, variantLine, refusedLine}
 use Rattle.term_rules.specs.Lent.{Store, store, recordsLength}
+use Rattle.term_rules.specs.Nodes.{Node, nodeAt}
+use Rattle.text_rules.specs.Forms.{children}
+use Rattle.text_rules.specs.Counts.{reached}
 use Rattle.text_rules.specs.PlainText.{plainText}
 use Rattle.text_rules.specs.LetText.{Naming, letText}
 use Rattle.answer_rules.specs.Answers.{Answer, value, refusal, After}
@@ -40,9 +44,14 @@ bestReply plain s b =
     bestLine (b .cost) (s .terms) (b .passes)
     ++ (elim plain [ true ↦ plainText s (b .term) | false ↦ letText s letNaming (b .term) ] ++ endLine)
 
+-- Document 02: "N is the number of distinct terms reached from that line's own term, itself included." They are the
+-- reached terms that let text counts by.
+unfoldable pub termsReached : (ℕ → Node) → ℕ → ℕ
+termsReached node t = length (reached (λ (u : ℕ). children (node u)) t)
+
 -- "`variant I C N` and the plain text"
 unfoldable pub variantReply : Store → ℕ → ℕ → ℕ → List ℕ
-variantReply s i w t = variantLine i w (s .terms) ++ (plainText s t ++ endLine)
+variantReply s i w t = variantLine i w (termsReached (nodeAt s) t) ++ (plainText s t ++ endLine)
 
 -- "K times", I from the number given: costs ws and terms ts.
 unfoldable pub variantReplies : Store → ℕ → List ℕ → List ℕ → List ℕ

@@ -1,4 +1,5 @@
--- Numbers of two well-formed stores that mean the same tree have the same texts, and reach as many terms. Assumes nothing.
+-- Numbers of two well-formed stores that mean the same tree have the same texts, and reach as many terms. Assumes
+-- nothing.
 use mathlib.Core.Path.{_≡_, refl, sym, ap, subst, _∙_}
 use mathlib.Core.Bool.{true}
 use mathlib.Core.List.{List}

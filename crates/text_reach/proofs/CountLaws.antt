@@ -1,4 +1,5 @@
--- How many distinct terms are reached from a term: at least itself, and at most it and the terms below it. Assumes nothing.
+-- How many distinct terms are reached from a term: at least itself, and at most it and the terms below it. Assumes
+-- nothing.
 use Prim.{Dec, yes, no}
 use Prim.Native.Nat.{ℕ, zero, suc, _+_, _<_, _≤_}
 use mathlib.Core.Path.{_≡_, refl, ap, _∙_}

@@ -70,7 +70,8 @@ module _
       is = omega (arith, v .is);
       marksLong = same ∙ v .marksLong;
       countsLong = length-set counts j r ∙ v .countsLong;
-      most = subst (λ (x : ℕ). Most x marks′) (omega (arith, v .is)) (w .most (most-more j line marks (v .most) (omega (arith, v .is))));
+      most = subst (λ (x : ℕ). Most x marks′) (omega (arith, v .is)) (w .most (most-more j line marks (v .most) (omega
+          (arith, v .is))));
       counted = λ i h. by i h (ℕ-discrete i j);
     }
       where

@@ -1,7 +1,7 @@
 -- The lines of variants: their lengths, and that each is written after the last. Assumes nothing.
 use mathlib.Core.Path.{_≡_, refl, sym, ap, subst, _∙_}
 use mathlib.Core.List.{List, [], _∷_, _++_}
-use Prim.Native.Nat.{ℕ, zero, suc, _+_, _-_, _^_, _<_, _≤_, min}
+use Prim.Native.Nat.{ℕ, zero, suc, _+_, _-_, _<_, _≤_}
 use native.Mathlib.Omega.{arith}
 use native.Mathlib.Numerals.{add-one}
 use lib.ListN.{length, getD, set, take, drop, length-append, length-take, length-drop}
@@ -12,7 +12,7 @@ use Rattle.text_rules.specs.PlainText.{plainLine}
 use Rattle.text_pieces.specs.Pieces.{capped}
 use Rattle.program_rules.specs.Lines.{variantLine}
 use Rattle.program_rules.specs.Step.{Step}
-use Rattle.program_rules.proofs.headlines.StepLaws.{step-of-tail, step-byte, step-length, step-then, step-none}
+use Rattle.program_rules.proofs.headlines.StepLaws.{step-of-tail, step-byte, step-length, step-then}
 use Rattle.program.specs.Replies.{replyText, replyTexts}
 
 module _ (node : ℕ → Node) (n : ℕ) where
@@ -33,94 +33,6 @@ module _ (node : ℕ → Node) (n : ℕ) where
     where
       sum : (x w h y : ℕ) → w ≡ capped x → h ≡ y → capped (w + (h + 1)) ≡ capped (y + x + 1)
       sum x w h y a b = omega (arith, a, b)
-
-  module _ (costs terms : List ℕ) where
-    pub none : replyTexts node n costs terms 0 ≡ []
-    unfolding replyTexts
-    none = refl
-
-    pub more :
-        (k : ℕ) →
-        replyTexts node n costs terms (k + 1)
-        ≡ replyTexts node n costs terms k ++ replyText node n (k + 1) (getD costs k 0) (getD terms k 0)
-    unfolding replyTexts
-    more k = rw (add-one k) refl
-
-    pub more-length :
-        (k : ℕ) →
-        length (replyTexts node n costs terms (k + 1))
-        ≡ length (replyTexts node n costs terms k) + length (replyText node n (k + 1) (getD costs k 0) (getD terms k 0))
-    more-length k = ap length (more k) ∙ length-append (replyTexts node n costs terms k) _
-
-    pub measured :
-        (k acc long r : ℕ) →
-        acc ≡ capped (length (replyTexts node n costs terms k)) →
-        long ≡ capped (length (replyText node n (k + 1) (getD costs k 0) (getD terms k 0))) →
-        r ≡ capped (acc + long) →
-        r ≡ capped (length (replyTexts node n costs terms (k + 1)))
-    measured k acc long r a b e =
-        e
-        ∙ sum (length (replyTexts node n costs terms k)) acc
-        (length (replyText node n (k + 1) (getD costs k 0) (getD terms k 0))) long a b
-        ∙ ap capped (sym (more-length k))
-      where
-        sum : (x acc y long : ℕ) → acc ≡ capped x → long ≡ capped y → capped (acc + long) ≡ capped (x + y)
-        sum x acc y long a b = omega (arith, a, b)
-
-    longer-by : (k d m : ℕ) → k + d ≡ m → length (replyTexts node n costs terms k) ≤ length
-        (replyTexts node n costs terms m)
-    longer-by k zero m e =
-        let same : k ≡ m = omega (arith, e) in
-        subst (λ (x : ℕ). length (replyTexts node n costs terms k) ≤ length (replyTexts node n costs terms x)) same
-        (omega arith)
-    longer-by k (suc d) m e =
-        let same : k + d + 1 ≡ m = omega (arith, e) in
-        subst (λ (x : ℕ). length (replyTexts node n costs terms k) ≤ length (replyTexts node n costs terms x)) same
-        (omega (arith, longer-by k d (k + d) refl, more-length (k + d)))
-
-    -- fewer are no longer
-    pub shorter :
-        (k m : ℕ) → k ≤ m → length (replyTexts node n costs terms k) ≤ length (replyTexts node n costs terms m)
-    shorter k m l = longer-by k (m - k) m (omega arith)
-
-    -- what stands so far leaves the buffer's length
-    pub kept-length :
-        (o : List ℕ) (p k m e : ℕ) (o₁ : List ℕ) →
-        Step (replyTexts node n costs terms k) p e o o₁ →
-        k ≤ m →
-        p + length (replyTexts node n costs terms m) ≤ length o →
-        length o₁ ≡ length o
-    kept-length o p k m e o₁ s l room =
-        step-length o (replyTexts node n costs terms k) o₁ p e s (omega (arith, room, shorter k m l))
-
-    -- and room for the next
-    pub room-next :
-        (o : List ℕ) (p k m e : ℕ) (o₁ : List ℕ) →
-        Step (replyTexts node n costs terms k) p e o o₁ →
-        k < m →
-        p + length (replyTexts node n costs terms m) ≤ length o →
-        e + length (replyText node n (k + 1) (getD costs k 0) (getD terms k 0)) ≤ length o₁
-    room-next o p k m e o₁ s l room =
-        omega (
-          arith,
-          room,
-          s .place,
-          more-length k,
-          shorter (k + 1) m (omega (arith, l)),
-          kept-length o p k m e o₁ s (omega (arith, l)) room,
-        )
-
-    pub written :
-        (o : List ℕ) (p k r q : ℕ) (o₁ o₂ : List ℕ) →
-        Step (replyTexts node n costs terms k) p r o o₁ →
-        Step (replyText node n (k + 1) (getD costs k 0) (getD terms k 0)) r q o₁ o₂ →
-        p + length (replyTexts node n costs terms k) ≤ length o →
-        Step (replyTexts node n costs terms (k + 1)) p q o o₂
-    written o p k r q o₁ o₂ s t l =
-        subst (λ (x : List ℕ). Step x p q o o₂) (sym (more k))
-        (step-then o (replyTexts node n costs terms k) o₁ (replyText node n (k + 1) (getD costs k 0) (getD terms k 0))
-        o₂ p r q
-        s t l)
 
   -- the line, the plain text in the tail, the newline
   pub one-step :
@@ -167,6 +79,96 @@ module _ (node : ℕ → Node) (n : ℕ) where
       omega (arith, l, reply-length i c t) in
       let same : length o₁ ≡ length o = step-length o (variantLine i c n) o₁ p a s (omega (arith, room)) in
       (omega (arith, room, same, s .place), same)
+
+module _ (node : ℕ → Node) (ns : ℕ → ℕ) (costs terms : List ℕ) where
+  pub none : replyTexts node ns costs terms 0 ≡ []
+  unfolding replyTexts
+  none = refl
+
+  pub more :
+      (k : ℕ) →
+      replyTexts node ns costs terms (k + 1)
+      ≡ replyTexts node ns costs terms k ++ replyText node (ns k) (k + 1) (getD costs k 0) (getD terms k 0)
+  unfolding replyTexts
+  more k = rw (add-one k) refl
+
+  pub more-length :
+      (k : ℕ) →
+      length (replyTexts node ns costs terms (k + 1))
+      ≡ length (replyTexts node ns costs terms k) + length (replyText node (ns k) (k + 1) (getD costs k 0) (getD terms
+      k 0))
+  more-length k = ap length (more k) ∙ length-append (replyTexts node ns costs terms k) _
+
+  pub measured :
+      (k acc long r : ℕ) →
+      acc ≡ capped (length (replyTexts node ns costs terms k)) →
+      long ≡ capped (length (replyText node (ns k) (k + 1) (getD costs k 0) (getD terms k 0))) →
+      r ≡ capped (acc + long) →
+      r ≡ capped (length (replyTexts node ns costs terms (k + 1)))
+  measured k acc long r a b e =
+      e
+      ∙ sum (length (replyTexts node ns costs terms k)) acc
+      (length (replyText node (ns k) (k + 1) (getD costs k 0) (getD terms k 0))) long a b
+      ∙ ap capped (sym (more-length k))
+    where
+      sum : (x acc y long : ℕ) → acc ≡ capped x → long ≡ capped y → capped (acc + long) ≡ capped (x + y)
+      sum x acc y long a b = omega (arith, a, b)
+
+  longer-by : (k d m : ℕ) → k + d ≡ m → length (replyTexts node ns costs terms k) ≤ length
+      (replyTexts node ns costs terms m)
+  longer-by k zero m e =
+      let same : k ≡ m = omega (arith, e) in
+      subst (λ (x : ℕ). length (replyTexts node ns costs terms k) ≤ length (replyTexts node ns costs terms x)) same
+      (omega arith)
+  longer-by k (suc d) m e =
+      let same : k + d + 1 ≡ m = omega (arith, e) in
+      subst (λ (x : ℕ). length (replyTexts node ns costs terms k) ≤ length (replyTexts node ns costs terms x)) same
+      (omega (arith, longer-by k d (k + d) refl, more-length (k + d)))
+
+  -- fewer are no longer
+  pub shorter :
+      (k m : ℕ) → k ≤ m → length (replyTexts node ns costs terms k) ≤ length (replyTexts node ns costs terms m)
+  shorter k m l = longer-by k (m - k) m (omega arith)
+
+  -- what stands so far leaves the buffer's length
+  pub kept-length :
+      (o : List ℕ) (p k m e : ℕ) (o₁ : List ℕ) →
+      Step (replyTexts node ns costs terms k) p e o o₁ →
+      k ≤ m →
+      p + length (replyTexts node ns costs terms m) ≤ length o →
+      length o₁ ≡ length o
+  kept-length o p k m e o₁ s l room =
+      step-length o (replyTexts node ns costs terms k) o₁ p e s (omega (arith, room, shorter k m l))
+
+  -- and room for the next
+  pub room-next :
+      (o : List ℕ) (p k m e : ℕ) (o₁ : List ℕ) →
+      Step (replyTexts node ns costs terms k) p e o o₁ →
+      k < m →
+      p + length (replyTexts node ns costs terms m) ≤ length o →
+      e + length (replyText node (ns k) (k + 1) (getD costs k 0) (getD terms k 0)) ≤ length o₁
+  room-next o p k m e o₁ s l room =
+      omega (
+        arith,
+        room,
+        s .place,
+        more-length k,
+        shorter (k + 1) m (omega (arith, l)),
+        kept-length o p k m e o₁ s (omega (arith, l)) room,
+      )
+
+  pub written :
+      (o : List ℕ) (p k r q : ℕ) (o₁ o₂ : List ℕ) →
+      Step (replyTexts node ns costs terms k) p r o o₁ →
+      Step (replyText node (ns k) (k + 1) (getD costs k 0) (getD terms k 0)) r q o₁ o₂ →
+      p + length (replyTexts node ns costs terms k) ≤ length o →
+      Step (replyTexts node ns costs terms (k + 1)) p q o o₂
+  written o p k r q o₁ o₂ s t l =
+      subst (λ (x : List ℕ). Step x p q o o₂) (sym (more k))
+      (step-then o (replyTexts node ns costs terms k) o₁ (replyText node (ns k) (k + 1) (getD costs k 0) (getD terms k
+      0))
+      o₂ p r q
+      s t l)
 
 -- A text fits in the tail where there is room for it.
 pub fits-tail : (o e : List ℕ) (a : ℕ) → a + length e ≤ length o → length e ≤ length (take (length o - a) (drop a o))

@@ -103,6 +103,8 @@ put-requires c κs =
     (c .before .before .before .before .before .before .before .before .before .before .before .before .before
     .before .variants .ensures)
     (c .before .before .before .before .before .before .before .variants3 .given .1))
+    (c .before .before .before .before .before .before .before .before .before .before .before .before .before
+    .before .variants .kept .1 .1 .1 .1 .1 .1 .1 .1 .1 .1 .0)
 
 returns : tie.Need-returns
 returns c =

@@ -5,5 +5,5 @@ use Rattle.term_rules.specs.Nodes.{Node}
 use Rattle.program_rules.specs.Lines.{variantsLine}
 use Rattle.program.specs.Replies.{replyTexts}
 
-unfoldable pub linesText : (ℕ → Node) → ℕ → List ℕ → List ℕ → ℕ → ℕ → List ℕ
-linesText node n costs terms k p = variantsLine k p ++ replyTexts node n costs terms k
+unfoldable pub linesText : (ℕ → Node) → (ℕ → ℕ) → List ℕ → List ℕ → ℕ → ℕ → List ℕ
+linesText node ns costs terms k p = variantsLine k p ++ replyTexts node ns costs terms k

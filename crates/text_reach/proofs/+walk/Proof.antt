@@ -1,4 +1,5 @@
--- `text_reach::walk` meets its contract: nothing if the term has its mark, else its children, then itself. Assumes nothing.
+-- `text_reach::walk` meets its contract: nothing if the term has its mark, else its children, then itself. Assumes
+-- nothing.
 use Prim.Native.Nat.{ℕ, _+_, _-_, _<_}
 use mathlib.Core.Path.{_≡_, sym, ap, subst}
 use mathlib.Core.List.{List}
@@ -63,9 +64,11 @@ walk-slice-read-if1 t c = search needs
 walk-returns : (t : ℕ) → walk-lts.Need-returns (cites t) (walk-at t) walk.Post walk-Inv-loop walk-μ-loop
 walk-returns t c =
     let s = c .before .before .before .before in
-    walked-known (s .args .records .now) (s .args .line) (s .args .t) (s .args .marks .now) (s .pre .1 .1) (c .if1 .taken)
+    walked-known (s .args .records .now) (s .args .line) (s .args .t) (s .args .marks .now) (s .pre .1 .1) (c .if1
+    .taken)
 
-walk-children-of-requires : (t : ℕ) → walk-lts.Need-children-of-requires (cites t) (walk-at t) walk.Post walk-Inv-loop walk-μ-loop
+walk-children-of-requires : (t : ℕ) → walk-lts.Need-children-of-requires (cites t) (walk-at t) walk.Post walk-Inv-loop
+    walk-μ-loop
 walk-children-of-requires t c κs =
     let s = c .before .before .before .before in
     (omega (arith, s .pre .1 .0 .inRecords, s .pre .1 .1), s .pre .1 .0 .arity (s .args .t) (s .pre .1 .1))
@@ -80,7 +83,8 @@ walk-loop-holds t c =
 walk-mul-walk : (t : ℕ) → walk-lts.Need-mul-walk (cites t) (walk-at t) walk.Post walk-Inv-loop walk-μ-loop
 walk-mul-walk t c = search needs
 
-walk-shared-slice-read-walk : (t : ℕ) → walk-lts.Need-shared-slice-read-walk (cites t) (walk-at t) walk.Post walk-Inv-loop walk-μ-loop
+walk-shared-slice-read-walk : (t : ℕ) → walk-lts.Need-shared-slice-read-walk (cites t) (walk-at t) walk.Post
+    walk-Inv-loop walk-μ-loop
 walk-shared-slice-read-walk t c = search needs
 
 walk-walk-requires : (t : ℕ) → walk-lts.Need-walk-requires (cites t) (walk-at t) walk.Post walk-Inv-loop walk-μ-loop
@@ -122,7 +126,12 @@ walk-loop-again t c =
     let s = c .before .before .before .before .before .before .before .before .before .before .before .before in
     let l = c .before .before .before .before .before .before .loop in
     let q = c .before .before .walk in
-    let low : l .j < length (kids t s) = omega (arith, c .before .before .before .before .before .loop-test .taken, ap length (l .inv .0)) in (
+    let low : l .j < length (kids t s) = omega (
+      arith,
+      c .before .before .before .before .before .loop-test .taken,
+      ap
+          length (l .inv .0),
+    ) in (
       l .inv .0,
       turning-again (s .args .records .now) (s .args .line) (s .args .t) (kids t s) (s .args .marks .now) (l .marks)
           (l .c) (l .j) (l .inv .1) (q .last .1 .0) (q .result) low (child-low t s (l .j) low) (q .kept .1 .0)
@@ -132,7 +141,8 @@ walk-loop-again t c =
 walk-mul-marks : (t : ℕ) → walk-lts.Need-mul-marks (cites t) (walk-at t) walk.Post walk-Inv-loop walk-μ-loop
 walk-mul-marks t c = search needs
 
-walk-slice-write-marks : (t : ℕ) → walk-lts.Need-slice-write-marks (cites t) (walk-at t) walk.Post walk-Inv-loop walk-μ-loop
+walk-slice-write-marks : (t : ℕ) → walk-lts.Need-slice-write-marks (cites t) (walk-at t) walk.Post walk-Inv-loop
+    walk-μ-loop
 walk-slice-write-marks t c = search needs
 
 walk-same-length : (t : ℕ) → walk-lts.Need-same-length (cites t) (walk-at t) walk.Post walk-Inv-loop walk-μ-loop
@@ -143,7 +153,8 @@ walk-returns-2 t c =
     let s = c .before .before .before .before .before .before .before in
     let l = c .before .loop in
     walked-new (s .args .records .now) (s .args .line) (s .args .t) (s .args .marks .now) (l .marks) (l .c) (l .j)
-    (l .inv .1) (omega (arith, c .loop-test .left, ap length (l .inv .0))) (s .pre .1 .1) (c .before .before .before .if1 .left)
+    (l .inv .1) (omega (arith, c .loop-test .left, ap length (l .inv .0))) (s .pre .1 .1) (c .before .before .before
+    .if1 .left)
 
 pub +walk-spec : {M : Type 1} → statement M
 +walk-spec = close μ-walk λ t. walk-lts.spec (cites t)

@@ -63,7 +63,8 @@ loop-again c =
       omega (arith, c .before .before .before .before .before .loop-test .taken),
       lining-again (s .args .records .now) (s .args .terms .now) (s .args .marks .now) (s .args .counts .now) (l .marks)
           (l .counts) (l .line) (l .j) (l .inv .1) (q .last .1 .0) (q .result)
-          (omega (arith, c .before .before .before .before .before .loop-test .taken, s .pre .1 .1 .1)) (q .kept .1 .0) (q .ensures),
+          (omega (arith, c .before .before .before .before .before .loop-test .taken, s .pre .1 .1 .1)) (q .kept .1
+          .0) (q .ensures),
     )
 
 same-length : tie.Need-same-length Inv-loop μ-loop

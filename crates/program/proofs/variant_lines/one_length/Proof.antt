@@ -31,7 +31,7 @@ add-add c =
       variant-length
           (c .before .before .before .before .before .before .args .i)
           (c .before .before .before .before .before .before .args .c)
-          (c .before .before .before .before .before .before .args .n),
+          (c .before .before .before .before .before .before .args .reach),
       digits-few
           (c .before .before .before .before .before .before .args .i)
           (omega (arith, c .before .before .before .before .before .before .good)),
@@ -39,7 +39,7 @@ add-add c =
           (c .before .before .before .before .before .before .args .c)
           (omega (arith, c .before .before .before .before .before .before .good)),
       digits-few
-          (c .before .before .before .before .before .before .args .n)
+          (c .before .before .before .before .before .before .args .reach)
           (omega (arith, c .before .before .before .before .before .before .good)),
     )
 
@@ -55,7 +55,7 @@ add-requires c κs =
 returns : tie.Need-returns
 returns c =
     let s = c .before .before .before .before .before .before .before in
-    reply-measured (nodes (s .args .records .now) (s .args .literals .now) (s .args .names .now)) (s .args .n)
+    reply-measured (nodes (s .args .records .now) (s .args .literals .now) (s .args .names .now)) (s .args .reach)
     (s .args .i) (s .args .c) (s .args .t) (getD (s .args .wides .now) (s .args .t) 0)
     (c .before .before .variant-length .result) (c .add .result) (wide-is (s .args .records .now)
     (s .args .literals .now) (s .args .names .now) (s .args .places .now) (s .args .wides .now) (s .args .n)

@@ -49,10 +49,10 @@ text s =
 -- what is known after the line
 after-line :
     (s : tie.Start) (a : ℕ) (o : List ℕ) →
-    Step (variantLine (s .args .i) (s .args .c) (s .args .n)) (s .args .p) a (s .args .out .now) o →
+    Step (variantLine (s .args .i) (s .args .c) (s .args .reach)) (s .args .p) a (s .args .out .now) o →
     (a + length (plainLine (seen s) (s .args .t)) + 1 ≤ length o) × (length o ≡ length (s .args .out .now))
 after-line s a o h =
-    line-room (seen s) (s .args .n) (s .args .out .now) (s .args .p) (s .args .i) (s .args .c) (s .args .t)
+    line-room (seen s) (s .args .reach) (s .args .out .now) (s .args .p) (s .args .i) (s .args .c) (s .args .t)
     (s .pre .1 .1) a o h
 
 wrote :
@@ -64,22 +64,22 @@ wrote s o a w = rw (text s) at w
 -- and after the text
 after-text :
     (s : tie.Start) (a : ℕ) (o : List ℕ) →
-    Step (variantLine (s .args .i) (s .args .c) (s .args .n)) (s .args .p) a (s .args .out .now) o →
+    Step (variantLine (s .args .i) (s .args .c) (s .args .reach)) (s .args .p) a (s .args .out .now) o →
     (r : ℕ) (q : List ℕ) →
     Wrote (plainLine (seen s) (s .args .t)) r (take (length o - a) (drop a o)) q →
     (a + r + 1 ≤ length (s .args .out .now))
     × ((length (putMid a (length o - a) o q) ≡ length (s .args .out .now))
-    × Step (replyText (seen s) (s .args .n) (s .args .i) (s .args .c) (s .args .t)) (s .args .p) (a + r + 1)
+    × Step (replyText (seen s) (s .args .reach) (s .args .i) (s .args .c) (s .args .t)) (s .args .p) (a + r + 1)
     (s .args .out .now) (set (putMid a (length o - a) o q) (a + r) 10))
 after-text s a o h r q w =
-    one-step (seen s) (s .args .n) (s .args .out .now) (s .args .p) (s .args .i) (s .args .c) (s .args .t)
+    one-step (seen s) (s .args .reach) (s .args .out .now) (s .args .p) (s .args .i) (s .args .c) (s .args .t)
     (s .pre .1 .1) a o h
     r q w
 
 put-variant-requires : tie.Need-put-variant-requires
 put-variant-requires c κs =
     let s = c .before .before .before .before .before .before in
-    omega (arith, s .pre .1 .1, reply-length (seen s) (s .args .n) (s .args .i) (s .args .c) (s .args .t))
+    omega (arith, s .pre .1 .1, reply-length (seen s) (s .args .reach) (s .args .i) (s .args .c) (s .args .t))
 
 sub-put : tie.Need-sub-put
 sub-put c =
