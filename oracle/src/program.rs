@@ -1,4 +1,5 @@
-//! The program of document 01 with costs, chosen terms, variants, term order and texts from the crate's own Rust.
+//! The program of document 01 with costs, chosen terms, variants, term order and texts from the crate's own Rust, and
+//! document 02's N on variant lines from its own store.
 
 use crate::extract::{Extractor, TreeAdditiveCostModel};
 use crate::faults::{Fault, guarded};
@@ -132,9 +133,24 @@ fn variants(input: &[u8], file: &File, root: &Root, n: usize) -> Result<Vec<u8>,
     refuse_crowd(&dag)?;
     let mut out = format!("variants {} {passes}\n", found.len());
     for (at, (cost, term)) in found.iter().enumerate() {
-        out += &format!("variant {} {cost} {}\n{}\n", at + 1, dag.size(), plain_text(&dag, *term)?);
+        out += &format!("variant {} {cost} {}\n{}\n", at + 1, reached(&dag, *term), plain_text(&dag, *term)?);
     }
     Ok(out.into_bytes())
+}
+
+/// 'the number of distinct terms reached from that line's own term, itself included' (document 02, Ask 2): a walk over
+/// the crate's own store.
+pub fn reached(dag: &TermDag, term: TermId) -> usize {
+    let mut met = crate::util::HashSet::default();
+    let mut waiting = vec![term];
+    while let Some(id) = waiting.pop() {
+        if met.insert(id)
+            && let Term::App(_, children) = dag.get(id)
+        {
+            waiting.extend(children);
+        }
+    }
+    met.len()
 }
 
 /// The Rust reports a cost of 2^64-1; document 01 refuses it.

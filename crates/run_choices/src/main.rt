@@ -1,5 +1,6 @@
-// Best and variants on lent structs over document 01's tables, and the texts of what they answer, as its program writes
-// them. Assumes nothing.
+// Best and variants on lent structs over document 01's tables, and the texts of what they answer. The lines are the
+// program's, but that the store's terms after a call of variants stand on a line of their own: no call on structs tells N
+// of a variant. Assumes nothing.
 use best_root::BestAnswer;
 use lent_calls::choices;
 use lent_calls::steps;
@@ -43,7 +44,7 @@ fn best(file: &[u8], value: u64) {
 }
 
 fn variant(h: Held, ns: &[Name], i: usize, cost: u64, term: u64) {
-    let list = [i as u64, cost, h.terms as u64];
+    let list = [i as u64, cost];
     run_output::write_line(b"variant", &list);
     plain(h, ns, term as usize);
 }
@@ -73,6 +74,8 @@ fn variants(file: &[u8]) {
         VariantsAnswer::Kept(k, passes, terms, symbols) => {
             let list = [k as u64, passes];
             run_output::write_line(b"variants", &list);
+            let size = [terms as u64];
+            run_output::write_line(b"size", &size);
             let after = Held { ts, terms, symbols };
             all_kept(after, &ns, costs, found, k);
         }

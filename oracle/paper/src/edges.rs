@@ -73,7 +73,7 @@ fn loops() -> Vec<Edge> {
     let leaf = function(b"Leaf", None, &[], 0);
     let both = table(1, &[], vec![wrap.clone(), leaf], vec![row(0, &[0, 0]), row(1, &[0])]);
     let only = table(1, &[], vec![wrap], vec![row(0, &[0, 0])]);
-    let two = "variants 2 2\nvariant 1 1 2\n(Leaf)\nvariant 2 1 2\n(Wrap (Leaf))\n";
+    let two = "variants 2 2\nvariant 1 1 1\n(Leaf)\nvariant 2 1 2\n(Wrap (Leaf))\n";
     vec![
         ask(
             "Wrap(0)->0 cost 0, then Leaf()->0: best is (Leaf), cost 1",
@@ -107,8 +107,8 @@ fn firsts() -> Vec<Edge> {
     let leaves = vec![function(b"Zed", None, &[], 0), function(b"Abe", None, &[], 0)];
     let two = table(1, &[], leaves, vec![row(1, &[0]), row(0, &[0])]);
     let num = table(1, &[8, 3], vec![function(b"Num", None, &[1], 0)], vec![row(0, &[1, 0]), row(0, &[0, 0])]);
-    let variants = "variants 2 2\nvariant 1 1 2\n(Abe)\nvariant 2 1 2\n(Zed)\n";
-    let indices = "variants 2 2\nvariant 1 2 4\n(Num 8)\nvariant 2 2 4\n(Num 3)\n";
+    let variants = "variants 2 2\nvariant 1 1 1\n(Abe)\nvariant 2 1 1\n(Zed)\n";
+    let indices = "variants 2 2\nvariant 1 2 2\n(Num 8)\nvariant 2 2 2\n(Num 3)\n";
     vec![
         ask("two cost-1 leaves: the first in scan order", BEST_PLAIN, 0, 0, &two, "best 1 1 2\n(Zed)\n"),
         ask("two cost-1 leaves: variants go by name", VARIANTS, 0, 2, &two, variants),

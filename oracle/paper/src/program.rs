@@ -87,11 +87,24 @@ fn variants(query: &Query, table: &Table, builder: &mut Builder) -> Answer<Vec<u
     };
     let mut out = format!("variants {} {}\n", found.len(), builder.priced.passes).into_bytes();
     for (at, (cost, term)) in found.iter().enumerate() {
-        out.extend(format!("variant {} {cost} {}\n", at + 1, builder.store.term_count).bytes());
+        out.extend(format!("variant {} {cost} {}\n", at + 1, reached(&builder.store, *term)).bytes());
         out.extend(text::plain_checked(&builder.store, *term, OUTPUT_ROOM)?);
         out.push(b'\n');
     }
     Ok(out)
+}
+
+/// 'the number of distinct terms reached from that line's own term, itself included' (document 02, Ask 2). A child is
+/// lower than its parent, so that every parent is seen before its children from the term down.
+fn reached(store: &Store, term: u64) -> usize {
+    let mut is_reached = vec![false; term as usize + 1];
+    is_reached[term as usize] = true;
+    for number in (0..=term).rev() {
+        if let (true, Term::App(_, kids)) = (is_reached[number as usize], store.term(number)) {
+            kids.iter().for_each(|kid| is_reached[*kid as usize] = true);
+        }
+    }
+    is_reached.into_iter().filter(|is| *is).count()
 }
 
 /// 'every usable row of it with a cost, sorted by cost, function name bytes, row cells as numbers (literal indices,
