@@ -5,6 +5,7 @@
 use crate::inputs::Made;
 use paper::refusal::Refusal;
 use standin::extract::{Extractor, TreeAdditiveCostModel};
+use standin::program::reached;
 use standin::reader::{Bits, File, read};
 use standin::util::SymbolGen;
 use standin::{Literal, TermDag, Value};
@@ -18,10 +19,10 @@ pub struct Question {
     n: usize,
 }
 
-/// The store's size, and the cost and text of each term found.
+/// The store's size, and of each term found its cost, the terms reached from it where variants are asked for, and its text.
 pub struct Found {
     terms: usize,
-    texts: Vec<(u64, String)>,
+    texts: Vec<(u64, usize, String)>,
 }
 
 pub fn question(input: &[u8]) -> Result<Question, Refusal> {
@@ -57,7 +58,8 @@ fn find(q: &Question, extractor: &Extractor<u64>) -> Found {
         }
         _ => dag.to_string(term),
     };
-    Found { terms: dag.size(), texts: found.into_iter().map(|(cost, term)| (cost, text(term))).collect() }
+    let reach = |term| if q.mode == 1 { reached(&dag, term) } else { 0 };
+    Found { terms: dag.size(), texts: found.into_iter().map(|(cost, term)| (cost, reach(term), text(term))).collect() }
 }
 
 /// The whole of it, the file's reading included: document 01's output.
@@ -71,13 +73,13 @@ pub fn answer(input: &[u8]) -> String {
     let Found { terms, texts } = find(&q, &extractor);
     if q.mode != 1 {
         return match texts.first() {
-            Some((cost, text)) => format!("best {cost} {terms} {passes}\n{text}\n"),
+            Some((cost, _, text)) => format!("best {cost} {terms} {passes}\n{text}\n"),
             None => format!("refused {}\n", Refusal::NoTerm.number()),
         };
     }
     let mut out = format!("variants {} {passes}\n", texts.len());
-    for (at, (cost, text)) in texts.iter().enumerate() {
-        out += &format!("variant {} {cost} {terms}\n{text}\n", at + 1);
+    for (at, (cost, reach, text)) in texts.iter().enumerate() {
+        out += &format!("variant {} {cost} {reach}\n{text}\n", at + 1);
     }
     out
 }

@@ -85,6 +85,22 @@ static int64_t add_text(struct worker *at, const struct store *store, size_t ter
     return status < 0 ? status : add(at, "\n", 1);
 }
 
+/* How many distinct terms are reached from a term, itself included: every child is lower than its parent. */
+static uint64_t reached(const struct store *store, size_t term)
+{
+    uint8_t met[MOST_TERMS] = {0};
+    uint64_t count = 0;
+    met[term] = 1;
+    for (size_t t = term + 1; t--;) {
+        if (!met[t])
+            continue;
+        count++;
+        for (uint64_t j = 0; j < store->terms[t].count; j++)
+            met[store->terms[t].children[j]] = 1;
+    }
+    return count;
+}
+
 static int64_t variants(struct worker *at, struct question *q, struct store *store, size_t most)
 {
     size_t places = most ? most : 1; /* a base root has one variant, however many are asked for */
@@ -110,8 +126,8 @@ static int64_t variants(struct worker *at, struct question *q, struct store *sto
     }
     int64_t status = add_line(at, "variants", count, told.numbers[1], NULL);
     for (size_t k = 0; k < count && status >= 0; k++) {
-        uint64_t terms = store->term_count;
-        status = add_line(at, "variant", k + 1, costs[k], &terms);
+        uint64_t reach = reached(store, found[k]);
+        status = add_line(at, "variant", k + 1, costs[k], &reach);
         if (status >= 0)
             status = add_text(at, store, found[k], false);
     }

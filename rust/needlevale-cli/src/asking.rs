@@ -149,7 +149,7 @@ impl Parts {
             Parts::Variants(variants) => vec![
                 format!("variants {}: so many rows of {about}, the cheapest first", variants.kept.len()),
                 format!("{}: passes over the rows until one changed nothing, that one counted", variants.passes),
-                "variant I C N: place, cost as a tree, distinct parts of all variants together".to_string(),
+                "variant I C N: place, cost as a tree, distinct parts of this variant".to_string(),
             ],
         };
         lines.iter().map(|line| format!("; {line}\n")).collect::<String>() + "; these come from the proved library\n"

@@ -172,7 +172,7 @@ pub struct Best {
 pub struct Variant {
     /// Its cost.
     pub cost: u64,
-    /// The terms in the store after the call: those of all variants together.
+    /// How many distinct terms are reached from it, itself included: its distinct parts.
     pub terms: u64,
     /// Its text.
     pub text: String,

@@ -177,6 +177,22 @@ fn recorded_scripts_are_answered_as_recorded() {
     println!("through the wrapper: {calls} calls of {} recorded scripts, {refused} of them refused", scripts.len());
 }
 
+/// How many distinct terms are reached from a term, itself included.
+fn reached(store: &Store, term: usize) -> Result<usize, Error> {
+    let (mut met, mut waiting) = (vec![term], vec![term]);
+    while let Some(number) = waiting.pop() {
+        if let Term::Application(_, children) = store.get(number)? {
+            for child in children {
+                if !met.contains(&child) {
+                    met.push(child);
+                    waiting.push(child);
+                }
+            }
+        }
+    }
+    Ok(met.len())
+}
+
 /// The program's answer to a query, put together from the store's calls.
 fn program(store: &mut Store, input: &[u8]) -> Result<String, Error> {
     let root =
@@ -187,7 +203,7 @@ fn program(store: &mut Store, input: &[u8]) -> Result<String, Error> {
         let kept = store.variants(&input[3..], root, usize::from(input[2]))?;
         made += &format!("variants {} {}\n", kept.variants.len(), kept.passes);
         for (place, variant) in kept.variants.iter().enumerate() {
-            made += &format!("variant {} {} {}\n", place + 1, variant.cost, store.len());
+            made += &format!("variant {} {} {}\n", place + 1, variant.cost, reached(store, variant.term)?);
             made += &(store.plain_text(variant.term, PROGRAM_OUTPUT)? + "\n");
         }
         return Ok(made);
