@@ -1,14 +1,13 @@
 -- What holds of all functions that were read: their names differ. Assumes nothing.
 use Prim.{Dec, yes, no}
 use Prim.Native.Nat.{ℕ, zero, suc, _+_, _*_, _≤_, _<_}
-use mathlib.Core.Bool.{Bool, true, false, _||_, _&&_}
+use mathlib.Core.Bool.{Bool, true, false}
 use mathlib.Core.List.{List, [], _∷_, _++_}
 use mathlib.Core.Path.{_≡_, refl, sym, ap, _∙_}
 use native.Mathlib.Decide.{decLt}
 use native.Mathlib.Omega.{arith}
 use lib.ListN.{length, getD, length-append, List·getD-append}
 use lib.Seq.{getD-append-seam}
-use borrow.Author.Tests.{eq-eqb}
 use Rattle.name.specs.Name.{same}
 use Rattle.bits.specs.Got.{Got, got, many}
 use Rattle.bits.proofs.GotLaws.{All, all-map, many-all, many-length}
@@ -17,26 +16,9 @@ use Rattle.file_rules.specs.Every.{Every, every-nil}
 use Rattle.file_rules.specs.Functions.{taken, functionAt, functionsAt}
 use Rattle.file_rules.specs.Rows.{functionNo}
 use Rattle.file_rules.specs.Accepted.{FunctionOk, Differ}
+use Rattle.file_rules.proofs.TestLaws.{same-refl, or-left, or-right, clash}
 use Rattle.file_rules.proofs.BlockLaws.{every-snoc}
 use Rattle.file_rules.proofs.FunctionLaws.{FunctionKept, function-kept}
-
-pub same-refl : (xs : List ℕ) → same xs xs ≡ true
-unfolding same
-same-refl [] = refl
-same-refl (x ∷ xs) = rw (eq-eqb x x refl, same-refl xs)
-
-or-right : (a b : Bool) → (a || b) ≡ false → b ≡ false
-or-right true b e = cc
-or-right false b e = e
-
-or-left : (a b : Bool) → (a || b) ≡ false → a ≡ false
-or-left true b e = e
-or-left false b e = refl
-
-clash : (b : Bool) → b ≡ true → b ≡ false → ⊥
-clash b e d =
-    let z : _≡_ {A = ℕ} 0 1 = cc in
-    omega arith
 
 -- A name that is not taken is no function's.
 pub taken-no : (fs : List Function) (name : List ℕ) (k : ℕ) → taken fs name ≡ false → k < length fs

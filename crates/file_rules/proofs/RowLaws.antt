@@ -1,23 +1,26 @@
 -- What holds of the rows that were read, and how many bits they take at most. Assumes nothing.
 use Prim.{Dec, yes, no}
 use Prim.Native.Nat.{ℕ, zero, suc, _+_, _*_, _≤_, _<_}
+use mathlib.Core.Bool.{false, not}
 use mathlib.Core.List.{List, [], _∷_, _++_}
 use mathlib.Core.Path.{_≡_, refl, sym, ap, _∙_, subst}
 use native.Mathlib.Decide.{decLt}
 use native.Mathlib.Omega.{arith}
 use lib.ListN.{length, getD, length-append, List·getD-append}
 use lib.Seq.{getD-append-seam}
-use borrow.Author.Tests.{ltb-true}
+use borrow.Author.Tests.{ltb-true, not-true}
 use Rattle.bits.specs.Got.{Got, got, then, must, many}
 use Rattle.bits.specs.Field.{field}
 use Rattle.bits.proofs.FieldLaws.{field-read}
 use Rattle.bits.proofs.GotLaws.{All, all-got, all-at, all-of, all-map, all-then, all-must, many-all, many-length}
 use Rattle.file_rules.specs.Table.{Sort, Function, Row}
 use Rattle.file_rules.specs.Every.{Every, every-nil}
-use Rattle.file_rules.specs.Rows.{functionNo, columns, range, cellAt, cellsAt, rowAt, rowsAt}
-use Rattle.file_rules.specs.Accepted.{FunctionOk, CellsOk, RowOk}
+use Rattle.file_rules.specs.Conflicts.{conflicts}
+use Rattle.file_rules.specs.Rows.{functionNo, columns, range, cellAt, cellsAt, rowAt, newRowAt, rowsAt}
+use Rattle.file_rules.specs.Accepted.{FunctionOk, CellsOk, RowOk, Agree}
 use Rattle.file_rules.proofs.BlockLaws.{every-snoc, every-get}
 use Rattle.file_rules.proofs.CellLaws.{cells-many}
+use Rattle.file_rules.proofs.ConflictLaws.{agree-nil, agree-snoc}
 
 pub cell-kept : (s : List ℕ) (bound at : ℕ) → All (λ v q. (v < bound) × (q ≡ at + 9)) (cellAt s bound at)
 unfolding cellAt
@@ -95,8 +98,20 @@ module _ (s : List ℕ) (sorts : List Sort) (l : ℕ) where
           near = omega (arith, a .end, m .end, c .near);
         })))))
 
+    -- A row after the rows before it, none of which conflicts with it.
+    pub record NewRowKept (before : List Row) (at : ℕ) (r : Row) (q : ℕ) : Type 0 where
+      pub kept : RowKept fs at r q
+      pub fresh : conflicts before r ≡ false
+
+    pub new-row-kept : (before : List Row) (at : ℕ) → All (NewRowKept before at) (newRowAt s sorts l fs before at)
+    unfolding newRowAt
+    new-row-kept before at =
+        all-then (rowAt s sorts l fs at) _ (λ r q e. all-must _ _ _ (λ b.
+        all-got (record { kept = all-at (rw e at (row-kept at)); fresh = not-true _ b })))
+
     pub record RowsKept (at : ℕ) (rows : List Row) (q : ℕ) : Type 0 where
       pub ok : Every (RowOk sorts l fs) rows
+      pub agree : Agree rows
       pub near : q ≤ at + 89 * length rows
 
     pub rows-kept : (n at : ℕ) → All (RowsKept at) (rowsAt s sorts l fs n at)
@@ -106,11 +121,12 @@ module _ (s : List ℕ) (sorts : List Sort) (l : ℕ) where
         (λ rows p h.
         all-map
         (λ r q k. record {
-          ok = every-snoc (h .ok) (k .ok);
-          near = simp length-append (omega (arith, h .near, k .near));
+          ok = every-snoc (h .ok) (k .kept .ok);
+          agree = agree-snoc rows r (h .agree) (k .fresh);
+          near = simp length-append (omega (arith, h .near, k .kept .near));
         })
-        (row-kept p))
-        n at [] (record { ok = every-nil; near = omega arith })
+        (new-row-kept rows p))
+        n at [] (record { ok = every-nil; agree = agree-nil; near = omega arith })
 
   pub rows-length : (fs : List Function) (n at : ℕ) {rows : List Row} {q : ℕ} → rowsAt s sorts l fs n at ≡ got rows q
       → length rows ≡ n

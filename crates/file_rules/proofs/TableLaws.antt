@@ -27,7 +27,7 @@ use Rattle.file_rules.specs.File.{
   endAt,
   tableAt,
 }
-use Rattle.file_rules.specs.Accepted.{Accepted, SortOk, FunctionOk, RowOk, Differ}
+use Rattle.file_rules.specs.Accepted.{Accepted, SortOk, FunctionOk, RowOk, Differ, Agree}
 use Rattle.file_rules.proofs.BlockLaws.{every-map}
 use Rattle.file_rules.proofs.SortLaws.{sorts-kept, sorts-length}
 use Rattle.file_rules.proofs.LiteralLaws.{literals-kept, literals-length}
@@ -111,6 +111,7 @@ tight-of {kinds} h = every-map (λ (f : Function) (o : FunctionOk kinds f). o .f
 pub record RowsIn (sorts : List Sort) (l : ℕ) (fs : List Function) (at : ℕ) (rows : List Row) (q : ℕ) : Type 0 where
   pub count : length rows ≤ 1024
   pub ok : Every (RowOk sorts l fs) rows
+  pub agree : Agree rows
   pub near : q ≤ at + 91147
 
 pub rows-in : (s : List ℕ) (sorts : List Sort) (l : ℕ) (fs : List Function) (at : ℕ)
@@ -124,7 +125,7 @@ rows-in s sorts l fs at tight =
     all-of _ (λ rows q d.
     let k = all-at (rw d at (rows-kept s sorts l fs tight n p)) in
     let m : length rows ≡ n = rows-length s sorts l fs n p d in
-    record { count = omega arith; ok = k .ok; near = omega (arith, f .end, k .near) })))
+    record { count = omega arith; ok = k .ok; agree = k .agree; near = omega (arith, f .end, k .near) })))
 
 pub record TableKept (s : List ℕ) (t : Table) (q : ℕ) : Type 0 where
   pub ok : Accepted t
@@ -161,6 +162,7 @@ table-kept s =
             names-differ = k₄ .differ;
             rows-few = k₅ .count;
             rows-ok = k₅ .ok;
+            rows-agree = k₅ .agree;
           };
       last = k₆ .last;
       near = omega (arith, k₆ .near);

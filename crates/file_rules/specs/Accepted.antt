@@ -9,6 +9,7 @@ use Rattle.name.specs.Name.{valid}
 use Rattle.file_rules.specs.Table.{Sort, Function, Row, Table}
 use Rattle.file_rules.specs.Sorts.{kindsOf, classesOf}
 use Rattle.file_rules.specs.Every.{Every}
+use Rattle.file_rules.specs.Conflicts.{rowNo, inputs, output}
 use Rattle.file_rules.specs.Rows.{functionNo, columns, range}
 
 -- A sort: its kind is 0 or 1, and a base sort has no classes.
@@ -45,8 +46,18 @@ pub record RowOk (sorts : List Sort) (l : ℕ) (functions : List Function) (r : 
 abbrev pub Differ : List Function → Type 0
 Differ fs = (i j : ℕ) → i < j → j < length fs → functionNo fs i .name ≡ functionNo fs j .name → ⊥
 
--- An accepted table: each count is within its limit, each sort, function and row is as document 01 says, and names
--- differ.
+-- One output for one input: rows of one function with equal input cells have equal outputs. Document 02, Ask 6.
+abbrev pub Agree : List Row → Type 0
+Agree rows =
+    (i j : ℕ) →
+    i < j →
+    j < length rows →
+    rowNo rows i .function ≡ rowNo rows j .function →
+    inputs (rowNo rows i) ≡ inputs (rowNo rows j) →
+    output (rowNo rows i) ≡ output (rowNo rows j)
+
+-- An accepted table: each count is within its limit, each sort, function and row is as document 01 says, names differ,
+-- and no two rows conflict.
 pub record Accepted (t : Table) : Type 0 where
   pub sorts-few : length (t .sorts) ≤ 31
   pub sorts-ok : Every SortOk (t .sorts)
@@ -58,3 +69,4 @@ pub record Accepted (t : Table) : Type 0 where
   pub names-differ : Differ (t .functions)
   pub rows-few : length (t .rows) ≤ 1024
   pub rows-ok : Every (RowOk (t .sorts) (length (t .literals)) (t .functions)) (t .rows)
+  pub rows-agree : Agree (t .rows)

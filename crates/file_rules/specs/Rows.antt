@@ -1,12 +1,15 @@
--- The rows of a table file: document 01, 'The table file', its fifth line. Assumes nothing: definitions.
+-- The rows of a table file: document 01, 'The table file', its fifth line, and document 02, Ask 6. Assumes nothing:
+-- definitions.
 use Prim.Native.Nat.{ℕ}
+use mathlib.Core.Bool.{not}
 use mathlib.Core.List.{List, [], _∷_, _++_}
 use lib.Dec.{ltb, eqb}
 use lib.ListN.{length, getD}
-use Rattle.refusal.specs.declared.Refusal.the-variants.{BadFunction, BadValue}
+use Rattle.refusal.specs.declared.Refusal.the-variants.{BadFunction, BadValue, Conflict}
 use Rattle.bits.specs.Got.{Got, got, then, must, pick, many}
 use Rattle.bits.specs.Field.{field}
 use Rattle.file_rules.specs.Table.{Sort, Function, Row}
+use Rattle.file_rules.specs.Conflicts.{conflicts}
 
 -- The sort of a number.
 abbrev pub sortNo : List Sort → ℕ → Sort
@@ -56,6 +59,12 @@ rowAt s sorts l functions at =
     then (cellsAt s sorts l (columns (functionNo functions f)) q) (λ cells t.
     got (record { function = f; subsumed = subsumed; cells = cells }) t))))
 
+-- A row after the rows before it: "new 19 Conflict, given once the later row's cells are all valid, before the next row
+-- is read".
+unfoldable pub newRowAt : List ℕ → List Sort → ℕ → List Function → List Row → ℕ → Got Row
+newRowAt s sorts l functions before at =
+    then (rowAt s sorts l functions at) (λ r p. must (not (conflicts before r)) Conflict (got r p))
+
 -- n rows.
 unfoldable pub rowsAt : List ℕ → List Sort → ℕ → List Function → ℕ → ℕ → Got (List Row)
-rowsAt s sorts l functions n at = many (λ rows p. rowAt s sorts l functions p) n at []
+rowsAt s sorts l functions n at = many (λ rows p. newRowAt s sorts l functions rows p) n at []

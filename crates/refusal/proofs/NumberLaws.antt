@@ -23,10 +23,11 @@ use Rattle.refusal.specs.declared.Refusal.the-variants.{
   Absent,
   BadMode,
   BadStore,
+  Conflict,
 }
 use Rattle.refusal.specs.Numbers.{refusalNo}
 
--- the refusals by their numbers, from 1
+-- the refusals by their numbers, from 1; 18 is none's, so that what stands there does not matter
 table : List Refusal
 table =
     Short
@@ -46,6 +47,8 @@ table =
     ∷ Absent
     ∷ BadMode
     ∷ BadStore
+    ∷ Short
+    ∷ Conflict
     ∷ []
 
 table-get : (r : Refusal) → getD table (refusalNo r - 1) Short ≡ r
@@ -67,6 +70,7 @@ table-get BadTerm = refl
 table-get Absent = refl
 table-get BadMode = refl
 table-get BadStore = refl
+table-get Conflict = refl
 
 pub number-once : (r q : Refusal) → refusalNo r ≡ refusalNo q → r ≡ q
 number-once r q e = sym (table-get r) ∙ ap (λ (n : ℕ). getD table (n - 1) Short) e ∙ table-get q

@@ -1,4 +1,5 @@
--- The number of each refusal: document 01, 'Refusal numbers'. Assumes nothing: a definition.
+-- The number of each refusal: document 01, 'Refusal numbers', and document 02, "new 19 Conflict". Assumes nothing: a
+-- definition.
 use Prim.Native.Nat.{ℕ}
 use Rattle.refusal.specs.declared.Refusal.{Refusal}
 use Rattle.refusal.specs.declared.Refusal.the-variants.{
@@ -19,6 +20,7 @@ use Rattle.refusal.specs.declared.Refusal.the-variants.{
   Absent,
   BadMode,
   BadStore,
+  Conflict,
 }
 
 abbrev pub refusalNo : Refusal → ℕ
@@ -39,3 +41,4 @@ refusalNo BadTerm = 14
 refusalNo Absent = 15
 refusalNo BadMode = 16
 refusalNo BadStore = 17
+refusalNo Conflict = 19

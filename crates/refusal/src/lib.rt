@@ -1,8 +1,8 @@
-// The refusals of document 01, and the number that each is told by.
+// The refusals of documents 01 and 02, and the number that each is told by.
 ghost use mathlib.Core.Path.{_≡_};
 ghost use Rattle.refusal.specs.Numbers.{refusalNo};
 
-// In the order of document 01's table.
+// In the order of their numbers: 1 to 17 are document 01's table, 19 is document 02's, Ask 6, and 18 is none's.
 pub enum Refusal {
     Short,
     BadVersion,
@@ -21,9 +21,10 @@ pub enum Refusal {
     Absent,
     BadMode,
     BadStore,
+    Conflict,
 }
 
-// The number in document 01's table.
+// The number in the documents.
 pub fn number(r: Refusal) -> u8
     ensures { λ n. ⌜ n ≡ refusalNo r ⌝ }
 {
@@ -45,5 +46,6 @@ pub fn number(r: Refusal) -> u8
         Refusal::Absent => 15,
         Refusal::BadMode => 16,
         Refusal::BadStore => 17,
+        Refusal::Conflict => 19,
     }
 }

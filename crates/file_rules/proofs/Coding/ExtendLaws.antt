@@ -40,7 +40,7 @@ use Rattle.file_rules.specs.Functions.{
   functionAt,
   functionsAt,
 }
-use Rattle.file_rules.specs.Rows.{functionNo, columns, cellAt, cellsAt, rowAt, rowsAt}
+use Rattle.file_rules.specs.Rows.{functionNo, columns, cellAt, cellsAt, rowAt, newRowAt, rowsAt}
 use Rattle.file_rules.specs.File.{versionAt, sortsPart, literalsPart, functionsPart, rowsPart, padBits, endAt, tableAt}
 use Rattle.bits.proofs.BitsLaws.{bitsOf-length}
 use Rattle.bits.proofs.FieldLaws.{holds-true, holds-of-le, field-of-holds, field-refuses, field-read}
@@ -203,15 +203,20 @@ module _ (s r : List ℕ) where
       ext-then _ _ (ext-then _ _ (ext-field at 9) (λ v q _. ext-must _ _ (λ _. ext-got v q)))
       (λ x p _. ext-then _ _ (ext-cells sorts l ks p) (λ xs q _. ext-got (x ∷ xs) q))
 
+  ext-row : (sorts : List Sort) (l : ℕ) (fs : List Function) (at : ℕ)
+      → Ext (rowAt s sorts l fs at) (rowAt (s ++ r) sorts l fs at)
+  unfolding rowAt
+  ext-row sorts l fs at =
+      ext-then _ _ (ext-field at 7) (λ f q _. ext-must _ _ (λ _.
+      ext-then _ _ (ext-field q 1) (λ bit t _.
+      ext-then _ _ (ext-cells sorts l (columns (functionNo fs f)) t) (λ cells u _. ext-got _ u))))
+
   pub ext-rows : (sorts : List Sort) (l : ℕ) (fs : List Function) (n at : ℕ)
       → Ext (rowsAt s sorts l fs n at) (rowsAt (s ++ r) sorts l fs n at)
-  unfolding rowsAt rowAt
+  unfolding rowsAt newRowAt
   ext-rows sorts l fs n at =
       ext-many _ _
-      (λ rows p.
-      ext-then _ _ (ext-field p 7) (λ f q _. ext-must _ _ (λ _.
-      ext-then _ _ (ext-field q 1) (λ bit t _.
-      ext-then _ _ (ext-cells sorts l (columns (functionNo fs f)) t) (λ cells u _. ext-got _ u)))))
+      (λ rows p. ext-then _ _ (ext-row sorts l fs p) (λ r q _. ext-must _ _ (λ _. ext-got r q)))
       n at []
 
 -- How a reading stands to that of a longer file: it was Short, it was refused in the same way, or it was accepted, and

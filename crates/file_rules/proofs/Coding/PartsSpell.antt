@@ -44,7 +44,7 @@ use Rattle.file_rules.specs.Functions.{
   functionAt,
   functionsAt,
 }
-use Rattle.file_rules.specs.Rows.{cellAt, cellsAt, rowAt, rowsAt, columns, functionNo, range}
+use Rattle.file_rules.specs.Rows.{cellAt, cellsAt, rowAt, newRowAt, rowsAt, columns, functionNo, range}
 use Rattle.file_rules.proofs.CellLaws.{cells-many}
 use Rattle.file_rules.specs.Arrays.{blocks}
 use Rattle.file_rules.proofs.BlockLaws.{blocks-snoc}
@@ -222,7 +222,14 @@ row-spells s sorts l fs at =
     let c = all-at (rw g at (cells-spell s sorts l (columns (functionNo fs f)) q (end-in s p 1 d))) in
     all-got (spells-append (field-spells s at 7 e) (spells-append (field-spells s p 1 d) c))))))
 
+pub new-row-spells : (s : List ℕ) (sorts : List Sort) (l : ℕ) (fs : List Function) (before : List Row) (at : ℕ)
+    → All (λ r q. Spells s at q (codeRow r)) (newRowAt s sorts l fs before at)
+unfolding newRowAt
+new-row-spells s sorts l fs before at =
+    all-then (rowAt s sorts l fs at) _ (λ r q e. all-must _ _ _ (λ _.
+    all-got (all-at (rw e at (row-spells s sorts l fs at)))))
+
 pub rows-spell : (s : List ℕ) (sorts : List Sort) (l : ℕ) (fs : List Function) (n at : ℕ) → at ≤ length (bitsOf s)
     → All (λ rows q. Spells s at q (blocks codeRow rows)) (rowsAt s sorts l fs n at)
 unfolding rowsAt
-rows-spell s sorts l fs n at h = many-spells s codeRow _ n at h (λ rows p. row-spells s sorts l fs p)
+rows-spell s sorts l fs n at h = many-spells s codeRow _ n at h (λ rows p. new-row-spells s sorts l fs rows p)

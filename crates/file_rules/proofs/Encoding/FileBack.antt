@@ -15,7 +15,7 @@ use Rattle.file_rules.specs.Table.{Sort, Function, Row, Table}
 use Rattle.file_rules.specs.Every.{Every}
 use Rattle.file_rules.specs.Sorts.{kindsOf, classesOf}
 use Rattle.file_rules.specs.File.{versionAt, sortsPart, literalsPart, functionsPart, rowsPart, padBits, endAt, tableAt}
-use Rattle.file_rules.specs.Accepted.{Accepted, SortOk, FunctionOk, RowOk, Differ}
+use Rattle.file_rules.specs.Accepted.{Accepted, SortOk, FunctionOk, RowOk, Differ, Agree}
 use Rattle.file_rules.specs.Code.{code, codeMany, codeSort, codeLiteral, codeFunction, codeRow, codeTable, codeFile}
 use Rattle.file_rules.proofs.Coding.SpellLaws.{Spells}
 use Rattle.file_rules.proofs.Coding.FileSpell.{code-zero}
@@ -54,12 +54,12 @@ functions-part kinds fs few short ok differ p =
 
 rows-part : {s : List ℕ} {at q : ℕ} (sorts : List Sort) (l : ℕ) (fs : List Function) (rows : List Row)
     → classesOf sorts ≤ 512 → l ≤ 511 → length fs ≤ 127 → length rows ≤ 1024 → Every (RowOk sorts l fs) rows
-    → Spells s at q (codeMany 11 codeRow rows) → rowsPart s sorts l fs at ≡ got rows q
+    → Agree rows → Spells s at q (codeMany 11 codeRow rows) → rowsPart s sorts l fs at ≡ got rows q
 unfolding rowsPart then must
-rows-part sorts l fs rows few short known m ok p =
+rows-part sorts l fs rows few short known m ok agree p =
     let c = code 11 (length rows) in
     rw (field-back 11 (length rows) (spells-left c _ p) (omega arith), le-leb (length rows) 1024 m)
-    (rows-back sorts l few short fs rows known ok (spells-right c _ p))
+    (rows-back sorts l few short fs rows known ok agree (spells-right c _ p))
 
 end-back : {s : List ℕ} {at q : ℕ} → q ≡ 8 * length s → Spells s at q (replicate (padBits at) 0) → endAt s at ≡ got q q
 unfolding endAt then must
@@ -106,7 +106,7 @@ code-is-file s t o e =
       functions-part (kindsOf (t .sorts)) (t .functions) n (o .functions-few) (o .functions-ok) (o .names-differ)
           (spells-left f _ p₃),
       rows-part (t .sorts) (length (t .literals)) (t .functions) (t .rows) (o .classes-few) (o .literals-few)
-          (o .functions-few) (o .rows-few) (o .rows-ok) (spells-right f _ p₃),
+          (o .functions-few) (o .rows-few) (o .rows-ok) (o .rows-agree) (spells-right f _ p₃),
       z,
       end-back refl last,
     )

@@ -1,13 +1,13 @@
 -- Functions that are spelt are read back. Assumes nothing.
 use Prim.Native.Nat.{ℕ, zero, suc, _+_, _*_, _^_, _≤_, _<_}
-use mathlib.Core.Bool.{Bool, true, false, _&&_}
+use mathlib.Core.Bool.{true, false}
 use mathlib.Core.List.{List, [], _∷_, _++_}
 use mathlib.Core.Path.{_≡_, refl, subst}
 use native.Mathlib.Omega.{arith}
-use lib.Dec.{eqb, leb}
+use lib.Dec.{leb}
 use lib.ListN.{length, getD, length-append, List·getD-append}
 use lib.Seq.{getD-append-seam}
-use borrow.Author.Tests.{le-leb, lt-ltb, eq-eqb, leb-true, eqb-true}
+use borrow.Author.Tests.{le-leb, lt-ltb, eq-eqb, leb-true}
 use Rattle.name.specs.Name.{allowed, allAllowed, valid, same}
 use Rattle.bits.specs.Got.{got, then, must, pick}
 use Rattle.bits.proofs.BitsLaws.{bitsOf-length}
@@ -30,6 +30,7 @@ use Rattle.file_rules.specs.Functions.{
 }
 use Rattle.file_rules.specs.Rows.{functionNo}
 use Rattle.file_rules.specs.Accepted.{FunctionOk, Differ}
+use Rattle.file_rules.proofs.TestLaws.{and-left, and-right, not-same-by}
 use Rattle.file_rules.proofs.BlockLaws.{blocks-length}
 use Rattle.file_rules.specs.Code.{code, codeMany, codeCost, codeFunction}
 use Rattle.file_rules.proofs.Coding.SpellLaws.{Spells, code-length}
@@ -43,14 +44,6 @@ use Rattle.file_rules.proofs.Encoding.BackLaws.{
   every-mid,
   many-back,
 }
-
-and-left : (a b : Bool) → (a && b) ≡ true → a ≡ true
-and-left true b e = refl
-and-left false b e = e
-
-and-right : (a b : Bool) → (a && b) ≡ true → b ≡ true
-and-right true b e = e
-and-right false b e = cc
 
 -- The bytes of a name are bytes.
 allowed-byte : (b : ℕ) → allowed b ≡ true → b < 2 ^ 8
@@ -101,18 +94,6 @@ name-back {s} {at} {q} name v p =
       good,
       e,
     )
-
-same-eq : (a b : List ℕ) → same a b ≡ true → a ≡ b
-unfolding same
-same-eq [] [] e = refl
-same-eq [] (y ∷ b) e = cc
-same-eq (x ∷ a) [] e = cc
-same-eq (x ∷ a) (y ∷ b) e =
-    rw (eqb-true x y (and-left (eqb x y) _ e), same-eq a b (and-right (eqb x y) _ e))
-
-not-same-by : (a b : List ℕ) (t : Bool) → same a b ≡ t → (a ≡ b → ⊥) → t ≡ false
-not-same-by a b true e n = absurd (n (same-eq a b e))
-not-same-by a b false e n = refl
 
 -- A name that no function has is not taken.
 not-taken : (fs : List Function) (name : List ℕ) → ((k : ℕ) → k < length fs → functionNo fs k .name ≡ name → ⊥)

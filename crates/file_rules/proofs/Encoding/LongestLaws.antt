@@ -2,7 +2,7 @@
 -- that nothing is computed bit by bit. Assumes nothing.
 use Prim.Native.Nat.{ℕ, zero, suc, _+_, _-_, _*_, _/_, _%_, _≤_, _<_}
 use mathlib.Core.Bool.{true}
-use mathlib.Core.List.{List, _++_}
+use mathlib.Core.List.{List, [], _++_}
 use mathlib.Core.Path.{_≡_, refl, sym, ap, _∙_}
 use native.Mathlib.Omega.{arith}
 use lib.IntN.{pos}
@@ -10,12 +10,13 @@ use lib.ListN.{length, getD, replicate, length-append, length-replicate, getD-re
 use borrow.Author.Tests.{le-leb, ne-eqb}
 use Rattle.name.specs.Name.{allowed, allAllowed, valid}
 use Rattle.bits.specs.Got.{pick}
-use Rattle.file_rules.specs.Table.{Function}
+use Rattle.file_rules.specs.Table.{Function, Row}
 use Rattle.file_rules.specs.Every.{Every, every-nil, every-cons}
 use Rattle.file_rules.specs.Arrays.{blocks}
 use Rattle.file_rules.specs.Sorts.{kindsOf, classesOf}
+use Rattle.file_rules.specs.Conflicts.{rowNo, output}
 use Rattle.file_rules.specs.Rows.{functionNo, columns, range}
-use Rattle.file_rules.specs.Accepted.{SortOk, FunctionOk, CellsOk, RowOk, Differ, Accepted}
+use Rattle.file_rules.specs.Accepted.{SortOk, FunctionOk, CellsOk, RowOk, Differ, Agree, Accepted}
 use Rattle.file_rules.proofs.BlockLaws.{blocks-length}
 use Rattle.file_rules.specs.Code.{
   code,
@@ -141,6 +142,13 @@ row-ok l n h =
       cells-ok = rw (functions-get n 0 0 h) (cells-ok l);
     }
 
+-- Exact copies agree.
+copies-agree : (n : ℕ) (r : Row) → Agree (replicate n r)
+copies-agree n r i j a b e d =
+    let m : length (replicate n r) ≡ n = length-replicate n r in
+    ap output
+    (getD-replicate n i r (rowNo [] 0) (omega arith) ∙ sym (getD-replicate n j r (rowNo [] 0) (omega arith)))
+
 sorts-ok : Every SortOk longSorts
 sorts-ok = every-cons (of 512) (every-replicate 30 _ (of 0))
   where
@@ -165,6 +173,7 @@ large-accepted l n r a b c d =
       names-differ = functions-differ n;
       rows-few = rw length-replicate d;
       rows-ok = every-replicate r longRow (rw length-replicate (row-ok l n b));
+      rows-agree = copies-agree r longRow;
     }
 
 -- How many bits a count and as many things take.

@@ -1,8 +1,8 @@
 -- Rows that are spelt are read back. Assumes nothing.
 use Prim.Native.Nat.{ℕ, zero, suc, _+_, _≤_, _<_}
 use mathlib.Core.Bool.{Bool, true, false}
-use mathlib.Core.List.{List, [], _∷_}
-use mathlib.Core.Path.{_≡_, _∙_}
+use mathlib.Core.List.{List, [], _∷_, _++_}
+use mathlib.Core.Path.{_≡_, subst, _∙_}
 use native.Mathlib.Omega.{arith}
 use lib.Dec.{eqb}
 use lib.ListN.{length, getD, length-append}
@@ -13,11 +13,23 @@ use Rattle.file_rules.specs.Table.{Sort, Function, Row}
 use Rattle.file_rules.specs.Every.{Every}
 use Rattle.file_rules.specs.Arrays.{blocks}
 use Rattle.file_rules.specs.Sorts.{classesOf}
-use Rattle.file_rules.specs.Rows.{sortNo, functionNo, columns, range, cellAt, cellsAt, rowAt, rowsAt}
-use Rattle.file_rules.specs.Accepted.{CellsOk, RowOk}
+use Rattle.file_rules.specs.Conflicts.{conflicts}
+use Rattle.file_rules.specs.Rows.{
+  sortNo,
+  functionNo,
+  columns,
+  range,
+  cellAt,
+  cellsAt,
+  rowAt,
+  newRowAt,
+  rowsAt,
+}
+use Rattle.file_rules.specs.Accepted.{CellsOk, RowOk, Agree}
 use Rattle.file_rules.specs.Code.{code, codeRow}
 use Rattle.file_rules.proofs.Coding.SpellLaws.{Spells}
 use Rattle.file_rules.proofs.CellLaws.{cells-many}
+use Rattle.file_rules.proofs.ConflictLaws.{agree-mid}
 use Rattle.file_rules.proofs.Encoding.BackLaws.{spells-left, spells-right, field-back, every-mid, many-back}
 
 -- A sort has no more classes than all together.
@@ -73,10 +85,20 @@ module _ (sorts : List Sort) (l : ℕ) (few : classesOf sorts ≤ 512) (short : 
         cells-back (columns (functionNo fs (r .function))) (r .cells) (o .cells-ok) (spells-right b _ p₁),
       )
 
+  -- A row, after the rows before it.
+  new-row-back : {s : List ℕ} {at q : ℕ} (fs : List Function) (before : List Row) (r : Row) → length fs ≤ 127
+      → RowOk sorts l fs r → conflicts before r ≡ false → Spells s at q (codeRow r)
+      → newRowAt s sorts l fs before at ≡ got r q
+  unfolding newRowAt then must
+  new-row-back fs before r h o n p = rw (row-back fs r h o p, n)
+
   pub rows-back : {s : List ℕ} {at q : ℕ} (fs : List Function) (rows : List Row) → length fs ≤ 127
-      → Every (RowOk sorts l fs) rows → Spells s at q (blocks codeRow rows)
+      → Every (RowOk sorts l fs) rows → Agree rows → Spells s at q (blocks codeRow rows)
       → rowsAt s sorts l fs (length rows) at ≡ got rows q
   unfolding rowsAt
-  rows-back fs rows h ok p =
+  rows-back fs rows h ok agree p =
       many-back codeRow _ rows
-      (λ before r after a b e. row-back fs r h (every-mid before r after (rw e at ok))) p
+      (λ before r after a b e.
+      let d : Agree (before ++ (r ∷ after)) = subst Agree e agree in
+      new-row-back fs before r h (every-mid before r after (rw e at ok)) (agree-mid before r after d))
+      p
