@@ -77,7 +77,9 @@ enum needlevale_refusal {
     NEEDLEVALE_BAD_TERM = 14,     /* a term number is not in the store: it is not below the count of terms */
     NEEDLEVALE_ABSENT = 15,       /* lookup only: the term is not there */
     NEEDLEVALE_BAD_MODE = 16,     /* the program's query has mode 3 */
-    NEEDLEVALE_BAD_STORE = 17     /* the lent store is not well formed */
+    NEEDLEVALE_BAD_STORE = 17,    /* the lent store is not well formed */
+    NEEDLEVALE_CONFLICT = 19      /* a row's function and input cells are those of an earlier row, and its output is
+                                     another */
 };
 
 /* The longest input that is not refused: three bytes of query, then the longest table file. */
@@ -324,7 +326,7 @@ static inline const char *needlevale_name(int64_t returned)
 {
     static const char *const names[] = {
         "Short", "BadVersion", "BadSize", "BadName", "DupName", "BadSort", "BadFunction", "BadValue", "Trailing",
-        "BadRoot", "NoTerm", "TooDear", "NoRoom", "BadTerm", "Absent", "BadMode", "BadStore",
+        "BadRoot", "NoTerm", "TooDear", "NoRoom", "BadTerm", "Absent", "BadMode", "BadStore", "no refusal", "Conflict",
     };
     return returned < 0 && returned >= -(int64_t)(sizeof names / sizeof *names) ? names[-returned - 1] : "no refusal";
 }

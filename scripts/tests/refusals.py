@@ -37,8 +37,10 @@ class Refusals(unittest.TestCase):
             return
         rows = self.run_it("list")[1].splitlines()
         with open(to, "w", encoding="utf-8") as file:
-            names = "".join('    "%s",\n' % row.split("\t")[1] for row in rows)
-            file.write("const REFUSALS: [&str; %d] = [\n%s];\n" % (len(rows), names))
+            names = dict(row.split("\t")[:2] for row in rows)
+            every = [names.get(str(k), "no refusal") for k in range(1, int(list(names)[-1]) + 1)]
+            file.write("const REFUSALS: [&str; %d] = [\n%s];\n" %
+                       (len(every), "".join('    "%s",\n' % name for name in every)))
 
     def run_it(self, word):
         command = [sys.executable, os.path.join(TOP, "scripts", "refusals"), word]
@@ -105,7 +107,7 @@ class Refusals(unittest.TestCase):
         self.refused(PACKAGE, "gives BadStore the number 18, not 17")
 
     def test_a_new_refusal_names_every_place_that_is_behind(self):
-        number = len(self.run_it("list")[1].splitlines()) + 1
+        number = int(self.run_it("list")[1].splitlines()[-1].split("\t")[0]) + 1
         self.change(RULES, r"^(?=\nThe first refusal in a call)",
                     '| <a id="R-refusal-%d"></a>%d | BadMood | the caller is cross (R-term-6) |\n' % (number, number))
         status, said = self.run_it("check")
@@ -118,7 +120,7 @@ class Refusals(unittest.TestCase):
         with open(os.path.join(self.here, HEADER), encoding="utf-8") as file:
             header = file.read()
         self.assertIn("    NEEDLEVALE_BAD_MOOD = %d      /* the caller is cross */\n};" % number, header)
-        self.assertIn(', "BadMood",\n', header)
+        self.assertIn(' "BadMood",\n', header)
 
     def test_a_table_that_is_none_is_a_fault(self):
         self.change(RULES, r'"R-refusal-4"></a>4', '"R-refusal-4"></a>5')

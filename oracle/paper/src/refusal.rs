@@ -1,4 +1,4 @@
-//! The refusal numbers of document 01.
+//! The refusal numbers of documents 01 and 02.
 
 #[derive(Clone, Copy, PartialEq, Eq, Debug)]
 pub enum Refusal {
@@ -19,10 +19,11 @@ pub enum Refusal {
     Absent,
     BadMode,
     BadStore,
+    Conflict = 19,
 }
 
 impl Refusal {
-    pub const ALL: [Refusal; 17] = [
+    pub const ALL: [Refusal; 18] = [
         Refusal::Short,
         Refusal::BadVersion,
         Refusal::BadSize,
@@ -40,6 +41,7 @@ impl Refusal {
         Refusal::Absent,
         Refusal::BadMode,
         Refusal::BadStore,
+        Refusal::Conflict,
     ];
 
     pub fn number(self) -> u8 {

@@ -54,6 +54,7 @@ refusals! {
     Absent = 15, "lookup only: the term is not there";
     BadMode = 16, "the program's query has mode 3";
     BadStore = 17, "the lent store is not well formed";
+    Conflict = 19, "a row's function and input cells are those of an earlier row, and its output is another";
 }
 
 impl Refusal {
