@@ -1,0 +1,4 @@
+-- The laws of the crate `buckets`.
+pub mod DigestLaws
+pub mod ChainLaws
+pub mod WalkLaws

@@ -1,0 +1,3 @@
+-- The definitions of the crate `buckets`.
+pub mod Digest
+pub mod Chains

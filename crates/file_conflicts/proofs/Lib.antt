@@ -1,0 +1,2 @@
+-- The laws of the crate `file_conflicts`.
+pub mod PlaceLaws

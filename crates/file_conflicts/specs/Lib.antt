@@ -1,0 +1,2 @@
+-- The definitions of the crate `file_conflicts`.
+pub mod Places
