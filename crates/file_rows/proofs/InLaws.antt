@@ -2,7 +2,7 @@
 -- Assumes nothing.
 use Prim.{Dec, yes, no}
 use Prim.Native.Nat.{ℕ, zero, suc, _+_, _-_, _*_, _≤_, _<_}
-use mathlib.Core.Bool.{Bool, true, false}
+use mathlib.Core.Bool.{Bool, true, false, not}
 use mathlib.Core.List.{List, [], _∷_, _++_, map}
 use mathlib.Core.Path.{_≡_, refl, sym, ap, _∙_, fun-ext}
 use native.Mathlib.Decide.{decLt}
@@ -12,17 +12,28 @@ use lib.ListN.{length, getD, drop, replicate, length-append, List·getD-append, 
 use lib.Seq.{getD-drop, getD-append-seam}
 use borrow.Author.Tests.{ltb-true, ltb-false}
 use Rattle.refusal.specs.declared.Refusal.{Refusal}
-use Rattle.refusal.specs.declared.Refusal.the-variants.{BadFunction}
+use Rattle.refusal.specs.declared.Refusal.the-variants.{BadFunction, Conflict}
 use Rattle.bits.specs.Got.{Got, got, refused, then, must, pick, many}
 use Rattle.bits.specs.Field.{field}
 use Rattle.file_rules.specs.Table.{Sort, Function, Row}
+use Rattle.file_rules.specs.Conflicts.{conflicts}
 use Rattle.file_rules.specs.Every.{Every, every-nil, every-cons}
-use Rattle.file_rules.specs.Rows.{sortNo, functionNo, columns, range, cellAt, cellsAt, rowAt, rowsAt}
+use Rattle.file_rules.specs.Rows.{
+  sortNo,
+  functionNo,
+  columns,
+  range,
+  cellAt,
+  cellsAt,
+  rowAt,
+  newRowAt,
+  rowsAt,
+}
 use Rattle.file_rules.specs.Arrays.{padWith, pad, blocks, HoldsSorts, HoldsFunctions}
 use Rattle.file_rules.proofs.ArraysLaws.{padWith-get, padWith-length}
 use Rattle.file_rules.proofs.BlockLaws.{every-map, every-get, blocks-drop}
 use Rattle.file_rules.proofs.CellLaws.{cellAfter, cells-many}
-use Rattle.file_rows.specs.In.{rangeIn, columnIn, cellIn, cellsIn, rowIn, rowsIn}
+use Rattle.file_rows.specs.In.{rangeIn, columnIn, cellIn, cellsIn, rowIn, newRowIn, rowsIn}
 use Rattle.file_rows.proofs.CellLaws.{column-when-argument, column-when-output}
 
 replicate-get : (m k : ℕ) → _≡_ {A = ℕ} (getD (replicate m 0) k 0) 0
@@ -151,5 +162,9 @@ module _ (s : List ℕ) {kinds classes : List ℕ} {sorts : List Sort} (o : Hold
   -- The rows read against the arrays are those of the definition.
   pub rows-are : (n at : ℕ)
       → rowsIn s kinds classes l (length fs) outputs arities arguments n at ≡ rowsAt s sorts l fs n at
-  unfolding rowsIn rowsAt
-  rows-are n at = many-same _ _ n (λ rows p _. row-is p) n at [] (omega arith)
+  unfolding rowsIn rowsAt newRowIn newRowAt
+  rows-are n at =
+      many-same _ _ n
+      (λ rows p _.
+      ap (λ (g : Got Row). then g (λ r q. must (not (conflicts rows r)) Conflict (got r q))) (row-is p))
+      n at [] (omega arith)

@@ -1,4 +1,6 @@
 -- The laws of the crate `file_rows`.
 pub mod CellLaws
-pub mod RowLaws
 pub mod InLaws
+pub mod StandLaws
+pub mod PutLaws
+pub mod RowLaws

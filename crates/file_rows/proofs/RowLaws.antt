@@ -1,5 +1,6 @@
 -- Laws of the reading of rows against the arrays. Assumes nothing.
 use Prim.Native.Nat.{ℕ, _+_, _*_, _^_, _≤_, _<_}
+use mathlib.Core.Bool.{true, false}
 use mathlib.Core.List.{List, [], _∷_, _++_}
 use mathlib.Core.Path.{_≡_, refl, sym, ap, _∙_}
 use native.Mathlib.Omega.{arith}
@@ -7,7 +8,7 @@ use lib.ListN.{length, getD, length-append}
 use lib.Seq.{sets, sets-eq}
 use borrow.Author.Tests.{lt-ltb, le-ltb, ltb-true}
 use Rattle.refusal.specs.declared.Refusal.{Refusal}
-use Rattle.refusal.specs.declared.Refusal.the-variants.{Short, BadFunction}
+use Rattle.refusal.specs.declared.Refusal.the-variants.{Short, BadFunction, Conflict}
 use Rattle.bits.specs.Got.{Got, got, refused, then, must, many}
 use Rattle.bits.specs.Field.{field}
 use Rattle.bits.proofs.FieldLaws.{field-read}
@@ -29,11 +30,17 @@ use Rattle.bits.proofs.GotLaws.{
 }
 use Rattle.file_rules.specs.Table.{Row}
 use Rattle.file_rules.specs.Every.{Every, every-nil}
+use Rattle.file_rules.specs.Conflicts.{conflicts}
 use Rattle.file_rules.specs.Rows.{cellAt}
+use Rattle.file_rules.specs.Accepted.{Agree}
+use Rattle.buckets.specs.Chains.{Placed}
 use Rattle.file_rules.specs.Arrays.{pad, blocks, HoldsRows}
 use Rattle.file_rules.proofs.ArraysLaws.{padWith-nil, padWith-length, pad-set-map}
 use Rattle.file_rules.proofs.BlockLaws.{every-snoc, every-map, blocks-snoc, blocks-length, pad-block, pad-of-pad}
-use Rattle.file_rows.specs.In.{cellIn, cellsIn, rowIn, rowsIn, Sound, Zeros, PutRow}
+use Rattle.file_rules.proofs.ConflictLaws.{agree-nil, agree-snoc}
+use Rattle.file_rows.specs.In.{cellIn, cellsIn, rowIn, newRowIn, rowsIn, Sound, Zeros, PutRow}
+use Rattle.file_rows.proofs.StandLaws.{Whole, bucketNo, placesOf}
+use Rattle.file_rows.proofs.PutLaws.{Row-put}
 
 cell-end : (s : List ℕ) (bound at : ℕ) → All (λ v q. q ≡ at + 9) (cellAt s bound at)
 unfolding cellAt
@@ -58,18 +65,19 @@ module _ (s kinds classes : List ℕ) (l : ℕ) (outputs arities arguments : Lis
       (cell-end s _ p))
       n at [] (omega arith)
 
-  pub cells-kept : (f at : ℕ)
-      → All (λ xs q. (length xs ≤ 9) × (q ≤ at + 81)) (cellsIn s kinds classes l outputs arities arguments f at)
+  cells-kept : (f at : ℕ)
+      → All (λ xs q. (length xs ≡ getD arities f 0 + 1) × (q ≤ at + 81))
+      (cellsIn s kinds classes l outputs arities arguments f at)
   unfolding cellsIn
   cells-kept f at =
       all-of _ (λ xs q e.
       let n : length xs ≡ getD arities f 0 + 1 = many-length _ _ at e in
       let m : q ≤ at + 9 * length xs = all-at (rw e at (cells-near f (getD arities f 0 + 1) at)) in
       let b = sound .arities-small .below f in
-      (omega arith, omega arith))
+      (n, omega arith))
 
   pub row-kept : (count at : ℕ)
-      → All (λ r q. (length (r .cells) ≤ 9) × (q ≤ at + 89))
+      → All (λ r q. (Whole arities r) × (q ≤ at + 89))
       (rowIn s kinds classes l count outputs arities arguments at)
   unfolding rowIn
   row-kept count at =
@@ -79,7 +87,20 @@ module _ (s kinds classes : List ℕ) (l : ℕ) (outputs arities arguments : Lis
       let b = field-read s p 1 d in
       all-then (cellsIn s kinds classes l outputs arities arguments f q) _ (λ cells t g.
       let c = all-at (rw g at (cells-kept f q)) in
-      all-got (c .0, omega (arith, c .1, a .end, b .end))))))
+      let d = sound .arities-small .below f in
+      all-got (
+        record { known = a .small; count = c .0; few = omega arith },
+        omega (arith, c .1, a .end, b .end),
+      )))))
+
+  -- A row after others is a row.
+  new-kept : (count : ℕ) (before : List Row) (at : ℕ)
+      → All (λ r q. (Whole arities r) × (q ≤ at + 89))
+      (newRowIn s kinds classes l count outputs arities arguments before at)
+  unfolding newRowIn
+  new-kept count before at =
+      all-then (rowIn s kinds classes l count outputs arities arguments at) _ (λ r q e.
+      all-must _ _ _ (λ _. all-got (all-at (rw e at (row-kept count at)))))
 
 -- The ways that the reading of a row goes.
 module _ (s kinds classes : List ℕ) (l count : ℕ) (outputs arities arguments : List ℕ) (at : ℕ) where
@@ -106,9 +127,27 @@ module _ (s kinds classes : List ℕ) (l count : ℕ) (outputs arities arguments
       unfolding rowIn then must
       row-from d = rw (e, lt-ltb _ _ h, d)
 
--- The 9 places of a row's cells.
-abbrev pub placesOf : Row → List ℕ
-placesOf r = pad 9 (r .cells)
+module _ (s kinds classes : List ℕ) (l count : ℕ) (outputs arities arguments : List ℕ) (before : List Row)
+    (at : ℕ) where
+  pub new-refused : {x : Refusal} → rowIn s kinds classes l count outputs arities arguments at ≡ refused x
+      → newRowIn s kinds classes l count outputs arities arguments before at ≡ refused x
+  unfolding newRowIn then
+  new-refused e = rw e
+
+  module _ {r : Row} {q : ℕ} (e : rowIn s kinds classes l count outputs arities arguments at ≡ got r q) where
+    pub new-conflicts : conflicts before r ≡ true
+        → newRowIn s kinds classes l count outputs arities arguments before at ≡ refused Conflict
+    unfolding newRowIn then must
+    new-conflicts d = rw (e, d)
+
+    pub new-row : conflicts before r ≡ false
+        → newRowIn s kinds classes l count outputs arities arguments before at ≡ got r q
+    unfolding newRowIn then must
+    new-row d = rw (e, d)
+
+tight-of : {arities : List ℕ} {rows : List Row} → Every (Whole arities) rows
+    → Every (λ (r : Row). length (r .cells) ≤ 9) rows
+tight-of {arities} h = every-map (λ (r : Row) (w : Whole arities r). omega (arith, w .count, w .few)) h
 
 places-length : {rows : List Row} → Every (λ (r : Row). length (r .cells) ≤ 9) rows
     → length (blocks placesOf rows) ≡ length rows * 9
@@ -128,50 +167,54 @@ cells-more rows r i h c b l =
     ∙ sym (pad-of-pad 9216 9 (blocks placesOf rows) xs l (omega arith))
     ∙ ap (pad 9216) (sym (blocks-snoc placesOf rows r))
 
--- The loop over n rows from at: those of rows are read up to p and stand in the arrays.
+-- The loop over n rows from at: those of rows are read up to p and stand in the arrays, each in its bucket.
 pub record Rows-read (s kinds classes : List ℕ) (l count : ℕ) (outputs arities arguments : List ℕ) (at n : ℕ)
-    (functions subsumed cells : List ℕ) (p i : ℕ) : Type 0 where
+    (functions subsumed cells lasts nexts : List ℕ) (p i : ℕ) : Type 0 where
   pub rows : List Row
-  pub loop : Loop (λ rows p. rowIn s kinds classes l count outputs arities arguments p) n at p i rows
+  pub loop : Loop (λ rows p. newRowIn s kinds classes l count outputs arities arguments rows p) n at p i rows
   pub near : p ≤ at + 89 * i
-  pub tight : Every (λ (r : Row). length (r .cells) ≤ 9) rows
+  pub whole : Every (Whole arities) rows
+  pub agree : Agree rows
   pub held : HoldsRows functions subsumed cells rows
+  pub placed : Placed 1021 1024 (bucketNo rows) lasts nexts i
 
 module _ {s kinds classes : List ℕ} {l count : ℕ} {outputs arities arguments : List ℕ} {at n : ℕ}
-    {functions subsumed cells : List ℕ} where
-  pub rows-start : Zeros functions subsumed cells
-      → Rows-read s kinds classes l count outputs arities arguments at n functions subsumed cells at 0
+    {functions subsumed cells lasts nexts : List ℕ} where
+  pub rows-start : Zeros functions subsumed cells → Placed 1021 1024 (bucketNo []) lasts nexts 0
+      → Rows-read s kinds classes l count outputs arities arguments at n functions subsumed cells lasts nexts at 0
   unfolding blocks
-  rows-start z =
+  rows-start z d =
       record {
         rows = [];
         loop = loop-start;
         near = omega arith;
-        tight = every-nil;
+        whole = every-nil;
+        agree = agree-nil;
         held =
             record {
               functions-are = z .functions-zero ∙ sym (padWith-nil 0 1024);
               subsumed-are = z .subsumed-zero ∙ sym (padWith-nil 0 1024);
               cells-are = z .cells-zero ∙ sym (padWith-nil 0 9216);
             };
+        placed = d;
       }
 
   module _ {p i : ℕ} (o : Rows-read s kinds classes l count outputs arities arguments at n functions
-      subsumed cells p i) where
-    pub rows-more : {functions′ subsumed′ cells′ : List ℕ} {r : Row} {q : ℕ} → Sound outputs arities arguments
+      subsumed cells lasts nexts p i) where
+    pub row-put : {functions′ subsumed′ cells′ : List ℕ} {r : Row} {q : ℕ} → Sound outputs arities arguments
         → n ≤ 1024 → i < n
         → rowIn s kinds classes l count outputs arities arguments p ≡ got r q
         → PutRow i functions subsumed cells functions′ subsumed′ cells′ r
-        → Rows-read s kinds classes l count outputs arities arguments at n functions′ subsumed′ cells′ q (i + 1)
-    rows-more {r = r} {q = q} sound c h e u =
+        → Row-put arities functions′ subsumed′ cells′ (o .rows) r i
+    row-put {r = r} {q = q} sound c h e u =
         let k = all-at (rw e at (row-kept s kinds classes l outputs arities arguments sound count p)) in
+        let w = every-snoc (o .whole) (k .0) in
         let m = o .loop .some in
         let b : i < 1024 = omega arith in
         record {
-          rows = o .rows ++ (r ∷ []);
-          loop = loop-more (o .loop) h e;
-          near = omega (arith, k .1, o .near);
-          tight = every-snoc (o .tight) (k .0);
+          some = m;
+          few = b;
+          whole = w;
           held =
               record {
                 functions-are =
@@ -180,14 +223,44 @@ module _ {s kinds classes : List ℕ} {l count : ℕ} {outputs arities arguments
                 subsumed-are =
                     u .subsumed-put
                     ∙ rw (o .held .subsumed-are) (pad-set-map 1024 (λ (r : Row). r .subsumed) (o .rows) i r m b refl);
-                cells-are = u .cells-put ∙ rw (o .held .cells-are) (cells-more (o .rows) r i (o .tight) m b (k .0));
+                cells-are =
+                    u .cells-put
+                    ∙ rw (o .held .cells-are)
+                    (cells-more (o .rows) r i (tight-of (o .whole)) m b (omega (arith, k .0 .count, k .0 .few)));
               };
+        }
+
+    pub rows-more : {functions′ subsumed′ cells′ lasts′ nexts′ : List ℕ} {r : Row} {q : ℕ}
+        → Sound outputs arities arguments → i < n
+        → rowIn s kinds classes l count outputs arities arguments p ≡ got r q
+        → Row-put arities functions′ subsumed′ cells′ (o .rows) r i → conflicts (o .rows) r ≡ false
+        → Placed 1021 1024 (bucketNo (o .rows ++ (r ∷ []))) lasts′ nexts′ (i + 1)
+        → Rows-read s kinds classes l count outputs arities arguments at n functions′ subsumed′ cells′ lasts′ nexts′ q
+        (i + 1)
+    rows-more {r = r} {q = q} sound h e u none d =
+        let k = all-at (rw e at (row-kept s kinds classes l outputs arities arguments sound count p)) in
+        record {
+          rows = o .rows ++ (r ∷ []);
+          loop = loop-more (o .loop) h (new-row s kinds classes l count outputs arities arguments (o .rows) p e none);
+          near = omega (arith, k .1, o .near);
+          whole = u .whole;
+          agree = agree-snoc (o .rows) r (o .agree) none;
+          held = u .held;
+          placed = d;
         }
 
     pub rows-refuse : {x : Refusal} → i < n → rowIn s kinds classes l count outputs arities arguments p ≡ refused x
         → rowsIn s kinds classes l count outputs arities arguments n at ≡ refused x
     unfolding rowsIn
-    rows-refuse h e = loop-refuses (o .loop) h e
+    rows-refuse h e =
+        loop-refuses (o .loop) h (new-refused s kinds classes l count outputs arities arguments (o .rows) p e)
+
+    pub rows-conflict : {r : Row} {q : ℕ} → i < n
+        → rowIn s kinds classes l count outputs arities arguments p ≡ got r q → conflicts (o .rows) r ≡ true
+        → rowsIn s kinds classes l count outputs arities arguments n at ≡ refused Conflict
+    unfolding rowsIn
+    rows-conflict h e d =
+        loop-refuses (o .loop) h (new-conflicts s kinds classes l count outputs arities arguments (o .rows) p e d)
 
     pub rows-end : n ≤ i → rowsIn s kinds classes l count outputs arities arguments n at ≡ got (o .rows) p
     unfolding rowsIn
@@ -214,6 +287,6 @@ rowsIn-near s kinds classes l count outputs arities arguments sound n at {rows} 
     (λ r q k.
     let b : p ≤ at + 89 * length rows = h in
     simp length-append (omega (arith, k .1)))
-    (row-kept s kinds classes l outputs arities arguments sound count p))
+    (new-kept s kinds classes l outputs arities arguments sound count rows p))
     n at [] (omega arith))) in
     omega arith

@@ -2,14 +2,16 @@
 -- `file_rules`, where the arrays hold the sorts and the functions, is a law. Assumes nothing: definitions.
 use Prim.Native.Nat.{ℕ, _+_, _*_, _<_}
 use mathlib.Core.Path.{_≡_}
+use mathlib.Core.Bool.{not}
 use mathlib.Core.List.{List, []}
 use lib.Dec.{ltb, eqb}
 use lib.ListN.{length, getD, set, replicate}
 use lib.Seq.{sets}
-use Rattle.refusal.specs.declared.Refusal.the-variants.{BadFunction}
+use Rattle.refusal.specs.declared.Refusal.the-variants.{BadFunction, Conflict}
 use Rattle.bits.specs.Got.{Got, got, then, must, pick, many}
 use Rattle.bits.specs.Field.{field}
 use Rattle.file_rules.specs.Table.{Row}
+use Rattle.file_rules.specs.Conflicts.{conflicts}
 use Rattle.file_rules.specs.Rows.{cellAt}
 
 -- The bound of a cell of the sort k.
@@ -40,10 +42,16 @@ rowIn s kinds classes l count outputs arities arguments at =
     then (cellsIn s kinds classes l outputs arities arguments f q) (λ cells t.
     got (record { function = f; subsumed = subsumed; cells = cells }) t))))
 
+-- A row after the rows before it, none of which conflicts with it.
+unfoldable pub newRowIn : List ℕ → List ℕ → List ℕ → ℕ → ℕ → List ℕ → List ℕ → List ℕ → List Row → ℕ → Got Row
+newRowIn s kinds classes l count outputs arities arguments before at =
+    then (rowIn s kinds classes l count outputs arities arguments at)
+    (λ r p. must (not (conflicts before r)) Conflict (got r p))
+
 -- n rows.
 unfoldable pub rowsIn : List ℕ → List ℕ → List ℕ → ℕ → ℕ → List ℕ → List ℕ → List ℕ → ℕ → ℕ → Got (List Row)
 rowsIn s kinds classes l count outputs arities arguments n at =
-    many (λ rows p. rowIn s kinds classes l count outputs arities arguments p) n at []
+    many (λ rows p. newRowIn s kinds classes l count outputs arities arguments rows p) n at []
 
 -- Every number of an array is below n.
 pub record Below (n : ℕ) (array : List ℕ) : Type 0 where

@@ -163,6 +163,8 @@ pub fn read_rows(
         (now (arities .entry)) (now (arguments .entry)) n at)
         r (HoldsRows (now (functions .exit)) (now (subsumed .exit)) (now (cells .exit))) ⌝ }
 {
+    let mut lasts: [usize; 1021] = [0; 1021];
+    let mut nexts: [usize; 1024] = [0; 1024];
     let mut p = at;
     let mut i: usize = 0;
     while i < n {
@@ -184,6 +186,9 @@ pub fn read_rows(
         let Step::Done(q) = x else {
             return x;
         };
+        if file_conflicts::place(functions, arities, cells, i, &mut lasts, &mut nexts) {
+            return Step::Refused(Refusal::Conflict);
+        }
         p = q;
         i += 1;
     }

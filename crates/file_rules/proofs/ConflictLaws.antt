@@ -71,6 +71,13 @@ module _ (a b : Row) where
   unfolding conflicting
   conflicting-outputs e = differ-by _ refl (and-right (sameInput a b) _ e)
 
+  yes-by : (t : Bool) → conflicting a b ≡ t → OneInput a b → (output a ≡ output b → ⊥) → t ≡ true
+  yes-by true e o d = refl
+  yes-by false e o d = absurd (d (conflicting-no e o))
+
+  pub conflicting-yes : OneInput a b → (output a ≡ output b → ⊥) → conflicting a b ≡ true
+  conflicting-yes o d = yes-by (conflicting a b) refl o d
+
 -- No row conflicts.
 pub conflicts-no : (rows : List Row) (r : Row) (k : ℕ) → conflicts rows r ≡ false → k < length rows
     → conflicting (rowNo rows k) r ≡ false
@@ -122,11 +129,11 @@ pub of-clash : (rows : List Row) (r : Row) → Clash rows r → conflicts rows r
 of-clash rows r c = of-by rows r (conflicts rows r) refl c
 
 module _ (rows : List Row) (r : Row) where
-  before : (k : ℕ) → k < length rows → rowNo (rows ++ (r ∷ [])) k ≡ rowNo rows k
-  before k l = List·getD-append rows _ _ k l
+  pub row-before : (k : ℕ) → k < length rows → rowNo (rows ++ (r ∷ [])) k ≡ rowNo rows k
+  row-before k l = List·getD-append rows _ _ k l
 
-  last : rowNo (rows ++ (r ∷ [])) (length rows) ≡ r
-  last = getD-append-seam rows r [] (rowNo [] 0)
+  pub row-last : rowNo (rows ++ (r ∷ [])) (length rows) ≡ r
+  row-last = getD-append-seam rows r [] (rowNo [] 0)
 
   agree-by : (i j : ℕ) → Agree rows → conflicts rows r ≡ false → i < j → j < length rows + 1 → Dec (j < length rows)
       → rowNo (rows ++ (r ∷ [])) i .function ≡ rowNo (rows ++ (r ∷ [])) j .function
@@ -134,19 +141,33 @@ module _ (rows : List Row) (r : Row) where
       → output (rowNo (rows ++ (r ∷ [])) i) ≡ output (rowNo (rows ++ (r ∷ [])) j)
   agree-by i j h t a b (yes l) e d =
       let m : i < length rows = omega arith in
-      rw (before i m, before j l) (h i j a l (rw (before i m, before j l) at e) (rw (before i m, before j l) at d))
+      rw (row-before i m, row-before j l)
+      (h i j a l (rw (row-before i m, row-before j l) at e) (rw (row-before i m, row-before j l) at d))
   agree-by i j h t a b (no n) e d =
       let o : j ≡ length rows = omega arith in
       let m : i < length rows = omega arith in
-      let g : rowNo (rows ++ (r ∷ [])) j ≡ r = rw o last in
-      rw (before i m, g)
+      let g : rowNo (rows ++ (r ∷ [])) j ≡ r = rw o row-last in
+      rw (row-before i m, g)
       (conflicting-no (rowNo rows i) r (conflicts-no rows r i t m)
-      (record { function-same = rw (before i m, g) at e; inputs-same = rw (before i m, g) at d }))
+      (record { function-same = rw (row-before i m, g) at e; inputs-same = rw (row-before i m, g) at d }))
 
   pub agree-snoc : Agree rows → conflicts rows r ≡ false → Agree (rows ++ (r ∷ []))
   agree-snoc h t i j a b e d =
       let l : j < length rows + 1 = rw length-append at b in
       agree-by i j h t a l (decLt j (length rows)) e d
+
+any-by : (rows : List Row) → Agree rows → (i j : ℕ) → i < length rows → j < length rows → Dec (i < j) → Dec (j < i)
+    → OneInput (rowNo rows i) (rowNo rows j) → output (rowNo rows i) ≡ output (rowNo rows j)
+any-by rows h i j a b (yes l) m o = h i j l b (o .function-same) (o .inputs-same)
+any-by rows h i j a b (no n) (yes l) o = sym (h j i l a (sym (o .function-same)) (sym (o .inputs-same)))
+any-by rows h i j a b (no n) (no m) o =
+    let e : i ≡ j = omega arith in
+    ap (λ (k : ℕ). output (rowNo rows k)) e
+
+-- Two rows of one input, in whichever order.
+pub agree-any : (rows : List Row) → Agree rows → (i j : ℕ) → i < length rows → j < length rows
+    → OneInput (rowNo rows i) (rowNo rows j) → output (rowNo rows i) ≡ output (rowNo rows j)
+agree-any rows h i j a b o = any-by rows h i j a b (decLt i j) (decLt j i) o
 
 pub agree-nil : Agree []
 agree-nil i j a b e d = absurd (omega arith)
