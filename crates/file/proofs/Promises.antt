@@ -6,13 +6,17 @@ use native.Mathlib.Omega.{arith}
 use lib.ListN.{length}
 use Rattle.refusal.specs.Numbers.{refusalNo}
 use Rattle.refusal.specs.declared.Refusal.{Refusal}
-use Rattle.refusal.specs.declared.Refusal.the-variants.{Short, Trailing}
+use Rattle.refusal.specs.declared.Refusal.the-variants.{Short, Trailing, Conflict}
+use Rattle.bits.specs.Got.{refused}
 use Rattle.bits.proofs.GotLaws.{all-at}
 use Rattle.file_rules.specs.Table.{Table}
 use Rattle.file_rules.specs.Accepted.{Accepted}
 use Rattle.file_rules.specs.Bytes.{fileOf}
 use Rattle.file_rules.specs.Longest.{longest}
 use Rattle.file_rules.proofs.TableLaws.{TableKept, table-kept}
+use Rattle.file_rules.specs.Conflicted.{Conflicted}
+use Rattle.file_rules.proofs.ConflictedLaws.{conflict-then, conflict-when}
+use Rattle.refusal.proofs.NumberLaws.{number-once}
 use Rattle.file_rules.proofs.Coding.FileSpell.{file-is-code, file-unique}
 use Rattle.file_rules.proofs.Coding.ExtendLaws.{fault-stays, trailing-when-more}
 use Rattle.file_rules.proofs.Encoding.FileBack.{code-is-file}
@@ -32,6 +36,11 @@ stays s rest k h n =
     let f = faulty s k h in
     subst (Refused (s ++ rest)) (sym (f .told))
     (refused-by (s ++ rest) (f .fault) (fault-stays s rest (f .is) (λ e. n (f .told ∙ ap refusalNo e))))
+
+conflicted : (s : List ℕ) → Refused s (refusalNo Conflict) → Conflicted s
+conflicted s h =
+    let f = faulty s (refusalNo Conflict) h in
+    conflict-then s (f .is ∙ ap refused (number-once (f .fault) Conflict (sym (f .told))))
 
 pub promises : Promises
 promises =
@@ -55,5 +64,6 @@ promises =
           };
       fault-stays = stays;
       nothing-follows = λ s t b rest h. refused-by _ Trailing (trailing-when-more s b rest (h .is));
+      conflict = λ s. (conflicted s, λ c. refused-by s Conflict (conflict-when s c));
       one-answer = λ s before a b r q e d. one-answer a b r q (e ∙ sym d);
     }

@@ -1,20 +1,22 @@
 -- What the reader of table files promises, beside the contract of `read`: document 01, 'The table file' and 'Refusal
--- numbers'. `tableAt` is the definition that `read` equals, `readOf` what it answers and leaves in the lent arrays.
+-- numbers', and document 02, Ask 6. `tableAt` is the definition that `read` equals, `readOf` what it answers and leaves in the lent arrays.
 -- Assumes nothing: definitions.
 use Prim.Native.Nat.{ℕ, _≤_, _<_}
+use mathlib.Core.Logic.{_↔_}
 use mathlib.Core.Path.{_≡_}
 use mathlib.Core.List.{List, _∷_, _++_}
 use lib.ListN.{length}
 use Rattle.refusal.specs.declared.Refusal.{Refusal}
 use Rattle.refusal.specs.Numbers.{refusalNo}
 use Rattle.refusal.specs.Answer.{value, refusal}
-use Rattle.refusal.specs.declared.Refusal.the-variants.{Short, Trailing}
+use Rattle.refusal.specs.declared.Refusal.the-variants.{Short, Trailing, Conflict}
 use Rattle.bits.specs.Bits.{bitsOf}
 use Rattle.bits.specs.Got.{Got, got}
 use Rattle.file_rules.specs.Table.{Table}
 use Rattle.file_rules.specs.Every.{Every}
 use Rattle.file_rules.specs.File.{tableAt}
 use Rattle.file_rules.specs.Accepted.{Accepted}
+use Rattle.file_rules.specs.Conflicted.{Conflicted}
 use Rattle.file_rules.specs.Code.{codeFile}
 use Rattle.file_rules.specs.Bytes.{fileOf}
 use Rattle.file_reader.specs.declared.Outcome.{Outcome}
@@ -73,6 +75,10 @@ pub record Promises : Type 0 where
   -- "then the file ends": an accepted file with bytes after it is Trailing.
   pub nothing-follows :
       (s : List ℕ) (t : Table) (b : ℕ) (rest : List ℕ) → Holding s t → Refused (s ++ (b ∷ rest)) (refusalNo Trailing)
+  -- "new 19 Conflict, given once the later row's cells are all valid, before the next row is read": exactly where all
+  -- before a row and the row itself are read without a fault, and an earlier row has its function and input cells, and
+  -- another output.
+  pub conflict : (s : List ℕ) → Refused s (refusalNo Conflict) ↔ Conflicted s
   -- Any two results that the contract of `read` allows coincide, and so do the lent contents.
   pub one-answer :
       (s : List ℕ) (before a b : Arrays) (r q : Outcome) →

@@ -1,8 +1,9 @@
 -- A file is refused with Conflict exactly where it is as `Conflicted` says: no other part of the file has that fault, and
--- a row has it only after its own faults. Assumes nothing.
+-- a row has it only after its own faults. Any other fault is one of document 01's numbers 1 to 9. Assumes nothing.
 use Prim.Native.Nat.{ℕ, _≤_, _<_}
 use mathlib.Core.Bool.{Bool, true, false, not}
 use mathlib.Core.List.{List, [], _∷_, _++_}
+use mathlib.Core.Logic.{_⊎_, inl, inr}
 use mathlib.Core.Path.{_≡_, refl, sym, ap, _∙_}
 use native.Mathlib.Omega.{arith}
 use lib.Dec.{leb, eqb}
@@ -50,9 +51,9 @@ use Rattle.file_rules.proofs.StopLaws.{
   of-stopped,
 }
 
--- A fault that comes before Conflict in the table of refusals.
+-- A fault of document 01's.
 abbrev Early : Refusal → Type 0
-Early r = refusalNo r < 19
+Early r = refusalNo r ≤ 9
 
 early-not : {B : Type 0} (r : Refusal) → Early r → r ≡ Conflict → B
 early-not r h e =
@@ -164,6 +165,36 @@ module _ (s : List ℕ) where
   early-end at =
       fault-then _ _ (early-field at (padBits at)) (λ v p _.
       fault-must _ _ _ (omega arith) (λ _. fault-must _ _ _ (omega arith) (λ _. fault-none)))
+
+  -- "1" to "9", or "19".
+  abbrev OfFile : Refusal → Type 0
+  OfFile r = (refusalNo r ≤ 9) ⊎ (r ≡ Conflict)
+
+  of-file : {A : Type 0} {g : Got A} → Faults Early g → Faults OfFile g
+  of-file f = fault-map (λ r h. inl h) f
+
+  rows-of-file : (sorts : List Sort) (l : ℕ) (fs : List Function) (at : ℕ) → Faults OfFile (rowsPart s sorts l fs at)
+  unfolding rowsPart rowsAt newRowAt
+  rows-of-file sorts l fs at =
+      fault-then _ _ (of-file (early-field at 11)) (λ n p _.
+      fault-must _ _ _ (inl (omega arith)) (λ _.
+      fault-many _
+      (λ rows q.
+      fault-then _ _ (of-file (early-row sorts l fs q)) (λ r t _. fault-must _ _ _ (inr refl) (λ _. fault-none)))
+      n p []))
+
+  table-of-file : Faults OfFile (tableAt s)
+  unfolding tableAt
+  table-of-file =
+      fault-then _ _ (of-file (early-version 0)) (λ version a _.
+      fault-then _ _ (of-file (early-sorts a)) (λ sorts b _.
+      fault-then _ _ (of-file (early-literals b)) (λ literals c _.
+      fault-then _ _ (of-file (early-functions (kindsOf sorts) c)) (λ fs d _.
+      fault-then _ _ (rows-of-file sorts (length literals) fs d) (λ rows e _.
+      fault-then _ _ (of-file (early-end e)) (λ end f _. fault-none))))))
+
+  pub fault-number : (x : Refusal) → tableAt s ≡ refused x → (refusalNo x ≤ 9) ⊎ (x ≡ Conflict)
+  fault-number x e = fault-at (rw e at table-of-file)
 
   -- A row that is refused with Conflict has no fault of its own, and conflicts with one before it.
   module _ (sorts : List Sort) (l : ℕ) (fs : List Function) (before : List Row) (at : ℕ) where
