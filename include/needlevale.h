@@ -6,7 +6,7 @@
  * Proved of every call, for every content of the buffers and every number: it returns; it reads and writes nothing
  * but its buffers, and of those that are const it writes nothing; what comes back and what the buffers hold then is
  * exactly what the definitions written from the rules say (each call names its own; `lentStore` of
- * crates/lent/specs/Records.antt makes a store of two arrays); a refusal comes back as one of -1 to -17, is the
+ * crates/lent/specs/Records.antt makes a store of two arrays); a refusal comes back as one of -1 to -17 and -19, is the
  * first of the call's order that holds, and changes no buffer. The statements are in crates/needlevale_c/src, what
  * follows from them in crates/needlevale_c/specs/Promises.antt and on the page of each definition's crate.
  *
@@ -128,7 +128,7 @@ enum needlevale_refusal {
  * output and its length is returned; or minus a refusal's number. Bytes past the text stay. The term store is the
  * call's own and starts empty, with room for 1,024 terms and 128 names. NoRoom is given exactly when that store or
  * output_length is too small. Equal to `replied` of crates/program_rules/specs/Reply.antt. Refusals, in order
- * (R-order-1): the query's 1 and 16, the file's first fault (1 to 9), 10, 11 (best only), 12, 13. */
+ * (R-order-1): the query's 1 and 16, the file's first fault (1 to 9, 19), 10, 11 (best only), 12, 13. */
 int64_t needlevale_answer(const uint8_t *input, size_t input_length, uint8_t *output, size_t output_length);
 
 /* ---- A table file */
@@ -140,7 +140,7 @@ typedef struct needlevale_shape {
 } needlevale_shape;
 
 /* Whether a table file is accepted, and how much it holds. Equal to `shapeOf` of crates/c_told/specs/Files.antt, of
- * `tableAt` of crates/file_rules/specs/File.antt. Refusals (R-order-2): the file's first fault, 1 to 9. */
+ * `tableAt` of crates/file_rules/specs/File.antt. Refusals (R-order-2): the file's first fault, 1 to 9 or 19. */
 needlevale_shape needlevale_read(const uint8_t *file, size_t file_length);
 
 /* ---- A term store of the caller's */
@@ -296,7 +296,7 @@ typedef struct needlevale_kept {
 } needlevale_kept;
 
 /* The best term of a root of the table file at file, built in the store. Equal to `bestAt` of
- * crates/answer_rules/specs/Best.antt. Refusals, in order (R-order-3): the file's first fault (1 to 9), 10, 17, 11,
+ * crates/answer_rules/specs/Best.antt. Refusals, in order (R-order-3): the file's first fault (1 to 9, 19), 10, 17, 11,
  * 12, 13. */
 needlevale_best_term needlevale_best(const uint8_t *file, size_t file_length, uint64_t sort, uint64_t value,
                                      needlevale_term *terms, size_t terms_length, needlevale_entry *names,
@@ -305,7 +305,7 @@ needlevale_best_term needlevale_best(const uint8_t *file, size_t file_length, ui
 /* At most `most` variants of a root of the table file at file, built in the store: their costs and term numbers at
  * the start of costs and found, the cheapest first; what is past them stays. A base root has one, whatever `most`
  * is. Equal to `variantsAt` of crates/answer_rules/specs/Variants.antt. Refusals, in order (R-order-3): the file's
- * first fault (1 to 9), 10, 17, 12, 13, which is given too where costs or found is too short. */
+ * first fault (1 to 9, 19), 10, 17, 12, 13, which is given too where costs or found is too short. */
 needlevale_kept needlevale_variants(const uint8_t *file, size_t file_length, uint64_t sort, uint64_t value, size_t most,
                                     needlevale_term *terms, size_t terms_length, needlevale_entry *names,
                                     size_t names_length, size_t term_count, size_t name_count, uint64_t *costs,

@@ -50,13 +50,18 @@ fn long_of(eighths: usize) -> Vec<u8> {
     ask(BEST_PLAIN, 0, &table)
 }
 
-/// A long file with terms: the lower half of each sort's classes are leaves, the others stand on lower classes.
+/// A long file with terms: the lower half of each sort's classes are a chain over a leaf, the others stand on lower
+/// classes.
 pub fn long() -> Vec<u8> {
     let mut table = wide(511, 127, 31);
-    table.rows = (0..8 * 31).map(|r| row(r % 31, &[r / 31])).collect();
+    for sort in 0..31 {
+        table.functions[31 + sort].inputs = vec![sort];
+        table.rows.push(row(sort, &[0]));
+    }
+    table.rows.extend((31..8 * 31).map(|r| row(31 + r % 31, &[r / 31 - 1, r / 31])));
     for r in 8 * 31..1024 {
-        let output = 8 + r / 96 % 8;
-        table.rows.push(row(31 + r % 96, &cells(r, output, output)));
+        let output = 8 + r / 65 % 8;
+        table.rows.push(row(62 + r % 65, &cells(r, output, output)));
     }
     let case = ask(BEST_LET, 10, &table);
     assert_eq!(case.len(), 3 + 18_998);
@@ -75,7 +80,7 @@ fn forward(classes: usize) -> Vec<u8> {
         vec![function(b"Num", None, &[1], 0), function(b"Add", None, &[0, 0], 0), function(b"Mul", None, &[0, 0], 0)];
     table.rows = vec![row(0, &[0, 0]), row(0, &[1, 1])];
     for class in 1..classes {
-        table.rows.push(row(1, &[class / 2, class / 3, class]));
+        table.rows.push(row(1, &[class / 2, class - 1 - class / 2, class]));
         table.rows.push(row(2, &[class - 1, mixed(class, class), class]));
     }
     ask(BEST_LET, classes - 1, &table)

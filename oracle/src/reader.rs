@@ -1,4 +1,4 @@
-//! The table file read into the stand-in's e-graph, with document 01's refusals.
+//! The table file read into the stand-in's e-graph, with document 01's refusals and document 02's Conflict.
 
 use crate::egglog_bridge::{FunctionId, Row};
 use crate::{ArcSort, BaseSort, EGraph, EqSort, Function, FunctionDecl, FunctionType, Value};
@@ -162,6 +162,7 @@ fn read_row(bits: &mut Bits, file: &mut File) -> Result<(), Refusal> {
         return Err(Refusal::BadFunction);
     };
     let subsumed = bits.flag()?;
+    let arity = function.func_type.input.len();
     let mut vals = Vec::new();
     for sort in function.func_type.input.iter().chain([&function.func_type.output]) {
         let cell = bits.take(9)?;
@@ -171,6 +172,10 @@ fn read_row(bits: &mut Bits, file: &mut File) -> Result<(), Refusal> {
         }
         vals.push(Value(cell as u32));
     }
-    file.egraph.backend.rows[number].push(Row { vals, subsumed });
+    let rows = &mut file.egraph.backend.rows[number];
+    if rows.iter().any(|row| row.vals != vals && row.vals[..arity] == vals[..arity]) {
+        return Err(Refusal::Conflict);
+    }
+    rows.push(Row { vals, subsumed });
     Ok(())
 }

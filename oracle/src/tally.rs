@@ -10,7 +10,7 @@ use paper::script::Answer;
 #[derive(Default)]
 pub struct Tally {
     categories: [usize; Category::ALL.len()],
-    refusals: [usize; Refusal::ALL.len() + 1],
+    refusals: [usize; Refusal::LAST + 1],
     faults: [usize; Fault::KINDS.len()],
 }
 

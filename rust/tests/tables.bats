@@ -43,6 +43,15 @@ setup() { cd "$BATS_TEST_TMPDIR" && cp "$house/examples/worked/table.bin" .; }
   [ "${lines[-1]}" = "; here the file's fault stands: refused 8" ]
 }
 
+@test "two outputs for one input are shown with both rows" {
+  printf '\0\0' | dd of=table.bin bs=1 seek=43 conv=notrunc status=none
+  run -3 --separate-stderr needlevale table show table.bin
+  [ "$stderr" = "needlevale: table.bin: refused 19, Conflict: row 2, output cell: class 2, but row 1 of the same function and inputs has class 1 (bit 360)" ]
+  [ "${lines[-2]}" = "row 1 = (Add 0 0)" ]
+  printf 'needlevale table 1\nsort M eq 2\nfunction Leaf () -> M\nrow 0 = (Leaf)\nrow 0 = (Leaf)\nrow 1 = (Leaf)\n' >two.txt
+  stops 3 "two.txt:6:5: row 2, output cell: class 1, but row 0 of the same function and inputs has class 0" needlevale table make two.txt -o made.bin
+}
+
 @test "JSON comes in, goes out, and comes in again with the same answer" {
   needlevale import "$tables/distribute.json" -o graph.bin
   says "$(printf 'best 7 4 2\n\n(Mul (Num 5) (x))')" needlevale best graph.bin --class 6

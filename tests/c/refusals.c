@@ -225,6 +225,11 @@ static void of_files(struct watch *watch, enum call call)
     q.sort = q.value = UINT64_MAX;
     lend(&q, BYTES, worked, worked_length - 1);
     refuses(watch, &q, NEEDLEVALE_SHORT, "no Short before BadRoot");
+    uint8_t clash[sizeof worked]; /* the last row's inputs are those of the row before */
+    memcpy(clash, worked, worked_length);
+    clash[43] = clash[44] = 0;
+    lend(&q, BYTES, clash, worked_length);
+    refuses(watch, &q, NEEDLEVALE_CONFLICT, "no Conflict before BadRoot");
     lend(&q, BYTES, worked, worked_length);
     refuses(watch, &q, NEEDLEVALE_BAD_ROOT, "no BadRoot of a sort before BadStore");
     q.sort = 0;

@@ -1,4 +1,5 @@
-//! The table file read as document 01 says: fields in order, each checked once whole, the first fault decides.
+//! The table file read as document 01 says: fields in order, each checked once whole, the first fault decides. After a
+//! row's last cell comes document 02's Conflict.
 
 use crate::bits::Reader;
 use crate::refusal::Refusal;
@@ -36,6 +37,9 @@ pub fn table(input: &mut Reader) -> Read<Table> {
     }
     for _ in 0..rows {
         let next = row(input, &table)?;
+        if table.rows.iter().any(|earlier| conflict(earlier, &next)) {
+            return Err(Refusal::Conflict);
+        }
         table.rows.push(next);
     }
     end(input)?;
@@ -119,6 +123,14 @@ fn row(input: &mut Reader, table: &Table) -> Read<Row> {
         cells.push(cell);
     }
     Ok(Row { function, subsumed, cells })
+}
+
+/// 'rows of one function with equal input cells but different outputs'
+pub fn conflict(earlier: &Row, later: &Row) -> bool {
+    let last = later.cells.len() - 1;
+    earlier.function == later.function
+        && earlier.cells[..last] == later.cells[..last]
+        && earlier.cells[last] != later.cells[last]
 }
 
 /// How many values a sort has: its classes, or the literals.

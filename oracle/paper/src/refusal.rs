@@ -44,6 +44,9 @@ impl Refusal {
         Refusal::Conflict,
     ];
 
+    /// The last number.
+    pub const LAST: usize = Refusal::Conflict as usize;
+
     pub fn number(self) -> u8 {
         self as u8
     }

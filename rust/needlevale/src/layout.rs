@@ -4,6 +4,7 @@ use crate::bits::{Reader, Writer};
 use crate::fault::{count, Fault, Place};
 use crate::refusal::Refusal;
 use crate::table::{Draft, Function, Row, Sort};
+use std::collections::HashMap;
 
 /// The most classes of all sorts together.
 pub const MOST_CLASSES: usize = 512;
@@ -93,8 +94,14 @@ fn walk(source: &mut impl Source, parts: &mut Draft) -> Found<()> {
     }
     let rows = field(source, Place::RowCount, 11)?;
     rows.holds(rows.index() <= MOST_ROWS, Refusal::BadSize, || format!("{}, but there are at most 1,024", rows.value))?;
+    let mut firsts = HashMap::new();
     for row in 0..rows.index() {
-        let next = walk_row(source, parts, row)?;
+        let (next, output) = walk_row(source, parts, row)?;
+        let first = *firsts.entry((next.function, next.arguments.clone())).or_insert(row);
+        let class = parts.rows.get(first).map_or(next.output, |earlier| earlier.output);
+        output.holds(next.output == class, Refusal::Conflict, || {
+            format!("class {}, but row {first} of the same function and inputs has class {class}", next.output)
+        })?;
         parts.rows.push(next);
     }
     source.end()
@@ -158,12 +165,13 @@ fn walk_name(source: &mut impl Source, parts: &Draft, function: usize) -> Found<
     }
 }
 
-fn walk_row(source: &mut impl Source, parts: &Draft, row: usize) -> Found<Row> {
+/// A row, and the field of its output.
+fn walk_row(source: &mut impl Source, parts: &Draft, row: usize) -> Found<(Row, Field)> {
     let number = field(source, Place::RowFunction { row }, 7)?;
     let Some(function) = parts.functions.get(number.index()) else {
         let functions = there(parts.functions.len(), "function", "functions");
         number.holds(false, Refusal::BadFunction, || format!("function {}, but there {functions}", number.value))?;
-        return Ok(Row::default());
+        return Ok((Row::default(), number));
     };
     let subsumed = flag(source, Place::Subsumed { row })?;
     let mut arguments = Vec::new();
@@ -174,7 +182,7 @@ fn walk_row(source: &mut impl Source, parts: &Draft, row: usize) -> Found<Row> {
     }
     let output = field(source, Place::RowOutput { row }, 9)?;
     check_cell(&output, parts, function.output)?;
-    Ok(Row { function: number.index(), subsumed, arguments, output: output.index() })
+    Ok((Row { function: number.index(), subsumed, arguments, output: output.index() }, output))
 }
 
 /// 'An eq cell is below its sort's class count, a base cell is a literal index below L'

@@ -74,7 +74,7 @@ pub struct Draft {
     pub literals: Vec<i64>,
     /// The functions, at most 127.
     pub functions: Vec<Function>,
-    /// The rows, at most 1,024.
+    /// The rows, at most 1,024; those of one function with equal arguments have one output.
     pub rows: Vec<Row>,
 }
 

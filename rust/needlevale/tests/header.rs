@@ -29,7 +29,7 @@ fn refusals_are_the_headers() {
     }
     assert_eq!(list.matches(" = ").count(), Refusal::ALL.len());
     assert_eq!(Refusal::from_number(0), None);
-    assert_eq!(Refusal::from_number(Refusal::ALL.len() as u64 + 1), None);
+    assert_eq!([18, 20].map(Refusal::from_number), [None, None]);
 }
 
 /// The words of docs/RULES.md, where it is there: `| <a id="R-refusal-8"></a>8 | BadValue | a cell is .. |`.

@@ -4,7 +4,7 @@ use super::make::{self, function, random_row, row};
 use super::rng::Rng;
 use super::shapes::case;
 use super::width::OneTerm;
-use crate::table::{BEST_LET, BEST_PLAIN, Query, Sort, Table, VARIANTS, input};
+use crate::table::{BEST_LET, BEST_PLAIN, Query, Sort, Table, VARIANTS};
 
 /// A chain whose rows stand in reverse, so that each pass prices one class more; extra rows lower costs late.
 pub fn passes(rng: &mut Rng) -> Vec<u8> {
@@ -15,7 +15,7 @@ pub fn passes(rng: &mut Rng) -> Vec<u8> {
     let table = reversed_chain(rng, length);
     let value = if rng.often(70) { length - 1 } else { rng.below(length) };
     let query = Query { mode: rng.pick(&[BEST_LET, VARIANTS, BEST_PLAIN]), sort: 0, value, n: rng.below(4) as u64 };
-    input(&query, &table)
+    make::ask(rng, &query, &table)
 }
 
 /// Sorts built from one another, so that the order of the sorts' queue shows in the passes and in the choice.
@@ -75,7 +75,7 @@ pub fn sharing(rng: &mut Rng) -> Vec<u8> {
     let table = if rng.often(50) { tower(rng, levels) } else { random_dag(rng, levels) };
     let value = if rng.often(80) { levels - 1 } else { rng.below(levels) };
     let mode = if rng.often(75) { BEST_LET } else { rng.pick(&[VARIANTS, BEST_PLAIN]) };
-    input(&Query { mode, sort: 0, value, n: 3 }, &table)
+    make::ask(rng, &Query { mode, sort: 0, value, n: 3 }, &table)
 }
 
 /// Each level names the one below several times; with free heads its tree sizes run past 64 bits.

@@ -1,4 +1,4 @@
-//! Inputs that are wrong: one field out of place, damaged copies of good inputs, and short inputs.
+//! Inputs that are wrong: one field out of place, rows that conflict, damaged copies of good inputs, and short inputs.
 
 use super::make::{self, SMALL, function, query};
 use super::rng::Rng;
@@ -9,7 +9,8 @@ use crate::table::{Query, Sort, Table, input};
 /// A good table to spoil: it has every kind of field.
 fn sound(rng: &mut Rng) -> Table {
     loop {
-        let table = make::table(rng, &make::Profile { literals: (1, 3), rows: (2, 8), ..SMALL }, make::cost);
+        let mut table = make::table(rng, &make::Profile { literals: (1, 3), rows: (2, 8), ..SMALL }, make::cost);
+        make::settle(rng, &mut table);
         if table.functions.iter().any(|f| !f.inputs.is_empty()) && !table.rows.is_empty() {
             return table;
         }
@@ -132,6 +133,60 @@ fn bad_cell(rng: &mut Rng, table: &mut Table, r: usize) {
     let first = range(table, sort.min(table.sorts.len() - 1));
     let cell = if rng.often(60) { first } else { rng.within(first.min(511), 511) };
     table.rows[r].cells[at] = cell.min(511);
+}
+
+const CONFLICTS: usize = 14;
+
+/// A row that conflicts with an earlier one, or only nearly; what is wrong before that and after. The kinds come round in
+/// turn.
+pub fn conflicts(rng: &mut Rng, nth: usize) -> Vec<u8> {
+    let kind = nth % CONFLICTS;
+    let shape = make::Profile { classes: (2, 5), literals: (1, 3), rows: (3, 12), barred: 15, subsumed: 15, ..SMALL };
+    let mut table = make::table(rng, &shape, make::cost);
+    make::settle(rng, &mut table);
+    table.sorts.push(Sort::Base);
+    table.literals.push(table.literals[0]);
+    let (base, first) = (table.sorts.len() - 1, make::eq_sorts(&table)[0]);
+    let inputs = if kind == 6 { vec![base] } else if kind == 5 { vec![] } else { vec![base, first] };
+    let name = make::fresh_name(rng, &table);
+    table.functions.push(function(&name, make::cost(rng), &inputs, first));
+    let own = table.functions.len() - 1;
+    let at = rng.below(table.rows.len() + 1);
+    let cells: Vec<usize> = inputs.iter().map(|_| 0).chain([rng.below(2)]).collect();
+    table.rows.insert(at, make::row(own, &cells));
+    table.rows[at].subsumed = kind == 3 || rng.often(10);
+    let mut later = table.rows[at].clone();
+    let last = cells.len() - 1;
+    later.cells[last] = 1 - cells[last];
+    later.subsumed = kind == 2 || rng.often(10);
+    match kind {
+        4 => later = crate::table::Row { subsumed: !table.rows[at].subsumed, ..table.rows[at].clone() },
+        6 => later.cells[0] = table.literals.len() - 1,
+        7 => later.cells[last] = range(&table, first),
+        13 => {
+            let name = make::fresh_name(rng, &table);
+            table.functions.push(function(&name, None, &inputs, first));
+            later.function = own + 1;
+        }
+        _ => {}
+    }
+    let place = if kind == 1 { at + 1 } else { rng.within(at + 1, table.rows.len()) };
+    table.rows.insert(place, later);
+    let query = query(rng, &table);
+    match kind {
+        10 => table.rows.insert(place + 1, make::row(127, &[])),
+        12 => bad_cell(rng, &mut table, at),
+        _ => {}
+    }
+    let mut case = input(&query, &table);
+    let whole = Table { rows: table.rows[..=place].to_vec(), ..table }.bits();
+    match kind {
+        8 => case.truncate(3 + whole.div_ceil(8)),
+        9 => case.truncate(3 + (whole - 1) / 8),
+        11 => case.push(rng.next() as u8),
+        _ => {}
+    }
+    case
 }
 
 /// A damaged copy of a good input: bits flipped, cut off, or extended.

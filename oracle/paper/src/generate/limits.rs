@@ -1,8 +1,9 @@
 //! Cases at each limit of document 01, on both sides.
 
 use super::chains::reversed_chain;
-use super::make::{self, Profile, SMALL, function, query, random_row, row};
+use super::make::{self, Profile, SMALL, function, random_row, row};
 use super::rng::Rng;
+use super::shapes::case;
 use super::width::OneTerm;
 use crate::program::answer;
 use crate::refusal::Refusal;
@@ -43,15 +44,14 @@ fn classes(rng: &mut Rng, counts: &[u64]) -> Vec<u8> {
     let last = counts.len() - 1;
     table.functions = vec![function(b"Leaf", None, &[], 0), function(b"Pair", None, &[0, 0], last)];
     let most = (counts[0] as usize).min(512);
+    let cells = [most - 1, most - 1, (counts[last] as usize).min(512) - 1];
+    table.rows = vec![row(1, &cells), row(0, &[most - 1])];
     for _ in 0..150 {
         table.rows.extend(random_row(rng, &table, 0));
         table.rows.extend(random_row(rng, &table, 1));
     }
-    table.rows.push(row(0, &[most - 1]));
-    let cells = [most - 1, most - 1, (counts[last] as usize).min(512) - 1];
-    table.rows.push(row(1, &cells));
     let query = Query { mode: rng.below(3) as u64, sort: last, value: cells[2], n: 9 };
-    input(&query, &table)
+    make::ask(rng, &query, &table)
 }
 
 fn rows(rng: &mut Rng, count: usize) -> Vec<u8> {
@@ -62,7 +62,7 @@ fn rows(rng: &mut Rng, count: usize) -> Vec<u8> {
     while table.rows.len() < count {
         table.rows.extend(random_row(rng, &table, table.functions.len() - 1));
     }
-    input(&query(rng, &table), &table)
+    case(rng, &table)
 }
 
 /// 127 functions, the most that the file can say, with names of one length.
@@ -83,7 +83,7 @@ fn functions(rng: &mut Rng, length: usize) -> Vec<u8> {
     for f in 0..most {
         table.rows.extend(random_row(rng, &table, f));
     }
-    input(&query(rng, &table), &table)
+    case(rng, &table)
 }
 
 fn arity(rng: &mut Rng, arity: usize) -> Vec<u8> {
@@ -94,7 +94,7 @@ fn arity(rng: &mut Rng, arity: usize) -> Vec<u8> {
         table.rows.extend(random_row(rng, &table, 0));
         table.rows.extend(random_row(rng, &table, 1));
     }
-    input(&query(rng, &table), &table)
+    case(rng, &table)
 }
 
 /// The longest valid file, 21,385 bytes; `more` bytes follow it.
@@ -113,7 +113,7 @@ fn longest(rng: &mut Rng, more: usize) -> Vec<u8> {
         let f = rng.below(127);
         table.rows.extend(random_row(rng, &table, f));
     }
-    let mut case = input(&query(rng, &table), &table);
+    let mut case = case(rng, &table);
     assert_eq!(case.len(), 3 + 21_385, "the longest file has 21,385 bytes");
     case.extend(vec![0; more]);
     case
@@ -128,7 +128,8 @@ fn literals(rng: &mut Rng) -> Vec<u8> {
         table.rows.extend(random_row(rng, &table, 1));
     }
     let asked = if rng.often(20) { (1, rng.pick(&[0, 510, 511])) } else { (0, rng.below(64)) };
-    input(&Query { mode: rng.below(3) as u64, sort: asked.0, value: asked.1, n: 4 }, &table)
+    let query = Query { mode: rng.below(3) as u64, sort: asked.0, value: asked.1, n: 4 };
+    make::ask(rng, &query, &table)
 }
 
 /// 31 sorts, each built from the next.
@@ -144,13 +145,15 @@ fn sorts(rng: &mut Rng) -> Vec<u8> {
     }
     rng.shuffle(&mut table.rows);
     let (sort, value) = (rng.pick(&[0, 0, 1, 29, 30, 31]), rng.below(3));
-    input(&Query { mode: rng.below(3) as u64, sort, value, n: 4 }, &table)
+    let query = Query { mode: rng.below(3) as u64, sort, value, n: 4 };
+    make::ask(rng, &query, &table)
 }
 
 /// A reversed chain over all 512 classes: 513 passes.
 fn chain(rng: &mut Rng) -> Vec<u8> {
     let table = reversed_chain(rng, 512);
-    input(&Query { mode: rng.pick(&[BEST_LET, BEST_PLAIN]), sort: 0, value: rng.within(500, 511), n: 0 }, &table)
+    let query = Query { mode: rng.pick(&[BEST_LET, BEST_PLAIN]), sort: 0, value: rng.within(500, 511), n: 0 };
+    make::ask(rng, &query, &table)
 }
 
 /// Variants that need exactly `terms` terms: 255 kept rows over leaves of one literal each.
@@ -209,5 +212,5 @@ fn many_variants(rng: &mut Rng) -> Vec<u8> {
         table.rows.extend(row);
     }
     let n = rng.pick(&[0, 1, 254, 255]);
-    input(&Query { mode: VARIANTS, sort: 0, value: 0, n }, &table)
+    make::ask(rng, &Query { mode: VARIANTS, sort: 0, value: 0, n }, &table)
 }

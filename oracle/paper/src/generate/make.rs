@@ -2,7 +2,8 @@
 
 use super::rng::Rng;
 use crate::file::{name_byte, range};
-use crate::table::{Function, Query, Row, Sort, Table};
+use crate::table::{Function, Query, Row, Sort, Table, input};
+use std::collections::HashMap;
 
 pub const DEAR: [u64; 8] =
     [u64::MAX, u64::MAX - 1, u64::MAX - 2, u64::MAX - 3, 1 << 63, (1 << 63) - 1, 1 << 62, u64::MAX / 3];
@@ -79,6 +80,51 @@ pub fn random_row(rng: &mut Rng, table: &Table, function: usize) -> Option<Row> 
         cells.push(rng.below(values));
     }
     Some(Row { function, subsumed: false, cells })
+}
+
+/// The program's whole standard input for a query on a table, of which no two rows conflict.
+pub fn ask(rng: &mut Rng, query: &Query, table: &Table) -> Vec<u8> {
+    let mut table = table.clone();
+    settle(rng, &mut table);
+    input(query, &table)
+}
+
+/// Gives rows of one function and equal inputs one output, and keeps what they make of the classes: a row that conflicts
+/// with an earlier one moves to a sibling of its function, which differs from it in the name alone. Where there are
+/// functions enough, and now and then, it becomes a copy.
+pub fn settle(rng: &mut Rng, table: &mut Table) {
+    let mut siblings: Vec<Vec<usize>> = (0..table.functions.len()).map(|f| vec![f]).collect();
+    let mut outputs: HashMap<(usize, Vec<usize>), usize> = HashMap::new();
+    for r in 0..table.rows.len() {
+        let own = table.rows[r].function;
+        let mut inputs = table.rows[r].cells.clone();
+        let Some(mut output) = inputs.pop() else { continue };
+        let free = |f: &usize| outputs.get(&(*f, inputs.clone())).is_none_or(|other| *other == output);
+        let mut function = siblings[own].iter().copied().find(free);
+        if function.is_none() && table.functions.len() < 127 && !rng.often(15) {
+            function = sibling(rng, table, own);
+            siblings[own].extend(function);
+        }
+        let function = function.unwrap_or(own);
+        output = *outputs.entry((function, inputs)).or_insert(output);
+        let row = &mut table.rows[r];
+        row.function = function;
+        row.cells.pop();
+        row.cells.push(output);
+    }
+}
+
+/// A function that differs in its name alone, which is as long; nothing if no name is found.
+fn sibling(rng: &mut Rng, table: &mut Table, function: usize) -> Option<usize> {
+    let old = table.functions[function].clone();
+    for _ in 0..20 {
+        let name = name(rng, old.name.len());
+        if table.functions.iter().all(|f| f.name != name) {
+            table.functions.push(Function { name, ..old });
+            return Some(table.functions.len() - 1);
+        }
+    }
+    None
 }
 
 /// How a random table is drawn.

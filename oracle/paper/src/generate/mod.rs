@@ -31,6 +31,7 @@ pub enum Category {
     Width,
     Ties,
     Faults,
+    Conflicts,
     Damaged,
     Short,
     Limits,
@@ -39,9 +40,9 @@ pub enum Category {
 use Category::*;
 
 impl Category {
-    pub const ALL: [Category; 15] = [
-        Small, Sorts, Loops, Dear, Subsumed, Barred, Unreached, Passes, Sharing, Width, Ties, Faults, Damaged, Short,
-        Limits,
+    pub const ALL: [Category; 16] = [
+        Small, Sorts, Loops, Dear, Subsumed, Barred, Unreached, Passes, Sharing, Width, Ties, Faults, Conflicts, Damaged,
+        Short, Limits,
     ];
 
     pub fn name(self) -> &'static str {
@@ -58,6 +59,7 @@ impl Category {
             Width => "width",
             Ties => "ties",
             Faults => "faults",
+            Conflicts => "conflicts",
             Damaged => "damaged",
             Short => "short",
             Limits => "limits",
@@ -67,9 +69,9 @@ impl Category {
 
 /// The categories come round in this order, so that any 40 cases in a row have them all.
 const ROUND: [Category; 40] = [
-    Small, Width, Sorts, Loops, Damaged, Dear, Short, Sharing, Small, Ties, Faults, Subsumed, Passes, Small, Width,
+    Small, Width, Sorts, Loops, Damaged, Dear, Short, Sharing, Conflicts, Ties, Faults, Subsumed, Passes, Small, Width,
     Barred, Damaged, Small, Unreached, Sorts, Loops, Ties, Dear, Limits, Small, Short, Faults, Sharing, Width, Small,
-    Damaged, Subsumed, Barred, Small, Unreached, Ties, Dear, Faults, Short, Passes,
+    Damaged, Subsumed, Barred, Conflicts, Unreached, Ties, Dear, Faults, Short, Passes,
 ];
 
 pub fn category(index: usize) -> Category {
@@ -104,6 +106,7 @@ pub fn of(category: Category, seed: u64, index: usize, nth: usize) -> Vec<u8> {
         Width => width::width(rng),
         Ties => shapes::ties(rng),
         Faults => faulty::faults(rng, nth),
+        Conflicts => faulty::conflicts(rng, nth),
         Damaged => {
             let good = rng.pick(&[Small, Small, Sorts, Loops, Ties, Width, Sharing, Barred]);
             let case = of(good, seed.wrapping_add(1), index, nth);

@@ -2,10 +2,11 @@
 
 use super::make::{self, DEAR, Profile, SMALL, eq_sorts, function, query, random_row, row};
 use super::rng::Rng;
-use crate::table::{BEST_LET, Query, Sort, Table, VARIANTS, input};
+use crate::table::{BEST_LET, Query, Sort, Table, VARIANTS};
 
 pub fn case(rng: &mut Rng, table: &Table) -> Vec<u8> {
-    input(&query(rng, table), table)
+    let query = query(rng, table);
+    make::ask(rng, &query, table)
 }
 
 /// Small tables of every shape, the empty one included.
@@ -113,7 +114,7 @@ fn later_cheaper(rng: &mut Rng) -> Vec<u8> {
     let rows = vec![row(0, &[0]), row(1, &[0, 1]), row(1, &[1, 2]), row(2, &[rng.below(2)])];
     let table = Table { sorts: vec![Sort::Eq(3)], literals: vec![], functions, rows };
     let query = Query { mode: rng.below(3) as u64, sort: 0, value: rng.below(3), n: rng.below(4) as u64 };
-    input(&query, &table)
+    make::ask(rng, &query, &table)
 }
 
 pub fn subsumed(rng: &mut Rng) -> Vec<u8> {
@@ -163,7 +164,7 @@ pub fn unreached(rng: &mut Rng) -> Vec<u8> {
         }
     }
     let query = Query { mode: rng.below(3) as u64, sort: rng.below(3), value: rng.below(2), n: 5 };
-    input(&query, &table)
+    make::ask(rng, &query, &table)
 }
 
 /// Variants with equal costs: by name, by cells, by literal index against value, and repeated rows.
@@ -196,5 +197,5 @@ pub fn ties(rng: &mut Rng) -> Vec<u8> {
     let n = if rng.often(60) { (roots + 1).saturating_sub(rng.below(4)) } else { rng.below(256) } as u64;
     let mode = if rng.often(85) { VARIANTS } else { BEST_LET };
     let (sort, value) = if rng.often(5) { (1, 0) } else { (0, usize::from(rng.often(20))) };
-    input(&Query { mode, sort, value, n }, &table)
+    make::ask(rng, &Query { mode, sort, value, n }, &table)
 }

@@ -2,9 +2,9 @@
 
 use super::make::{self, function, row};
 use super::rng::Rng;
-use crate::table::{BEST_LET, Query, Sort, Table, input};
+use crate::table::{BEST_LET, Query, Row, Sort, Table, input};
 
-/// A table of one term, class by class; every class has one row.
+/// A table of one term, class by class; every class has one row, and every row one class.
 pub struct OneTerm {
     pub table: Table,
 }
@@ -16,7 +16,7 @@ impl Default for OneTerm {
 }
 
 impl OneTerm {
-    /// A new class with one row of the named function; children are classes.
+    /// The class with one row of the named function, new if it is not there; children are classes.
     pub fn app(&mut self, name: &[u8], children: &[usize]) -> usize {
         let inputs = vec![0; children.len()];
         let function = self.function(name, &inputs);
@@ -38,7 +38,12 @@ impl OneTerm {
         })
     }
 
+    /// The class of the row, which is a new one unless the row is there.
     fn give(&mut self, function: usize, cells: &[usize]) -> usize {
+        let there = |row: &&Row| row.function == function && row.cells[..cells.len()] == *cells;
+        if let Some(row) = self.table.rows.iter().find(there) {
+            return row.cells[cells.len()];
+        }
         let Sort::Eq(class) = &mut self.table.sorts[0] else { return 0 };
         let new = *class as usize;
         *class += 1;
