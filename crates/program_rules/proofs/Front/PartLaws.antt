@@ -6,7 +6,7 @@ use mathlib.Core.Path.{sym, subst}
 use native.Mathlib.Omega.{arith}
 use lib.ListN.{length, length-append}
 use borrow.Author.Tests.{leb-true, ltb-true}
-use Rattle.file_rules.specs.Table.{Sort, Function}
+use Rattle.file_rules.specs.Table.{Sort, Function, Row}
 use Rattle.file_rules.specs.Every.{Every}
 use Rattle.file_rules.specs.Sorts.{classesOf, sortAt, sortsAt}
 use Rattle.file_rules.specs.Literals.{literalAt, literalsAt}
@@ -21,7 +21,7 @@ use Rattle.file_rules.specs.Functions.{
   functionAt,
   functionsAt,
 }
-use Rattle.file_rules.specs.Rows.{functionNo, columns, cellAt, cellsAt, rowAt, rowsAt}
+use Rattle.file_rules.specs.Rows.{functionNo, columns, cellAt, cellsAt, rowAt, newRowAt, rowsAt}
 use Rattle.file_rules.specs.File.{versionAt, sortsPart, literalsPart, functionsPart, rowsPart, padBits, endAt}
 use Rattle.file_rules.proofs.BlockLaws.{every-get}
 use Rattle.file_rules.proofs.CellLaws.{cells-many}
@@ -170,6 +170,12 @@ module _ (s : List ℕ) where
         within-then (cells-within sorts l (columns (functionNo fs f)) (at + 7 + 1) n (omega arith)) (λ cells p _ b.
         within-got (omega arith)))))
 
+    new-row-within : (before : List Row) (at : ℕ) → at + 89 ≤ 8 * length s
+        → Within (at + 89) (newRowAt s sorts l fs before at)
+    unfolding newRowAt
+    new-row-within before at h =
+        within-then (row-within at h) (λ r q _ b. within-must _ _ (omega arith) (λ _. within-got b))
+
     -- 1,024 rows.
     pub rows-within : (at : ℕ) → at + 91147 ≤ 8 * length s → Within (at + 91147) (rowsPart s sorts l fs at)
     unfolding rowsPart rowsAt
@@ -178,7 +184,7 @@ module _ (s : List ℕ) where
         within-must _ _ (omega arith) (λ t.
         let few : n ≤ 1024 = leb-true _ _ t in
         within-mono (omega arith)
-        (within-many 89 (8 * length s) (λ rows p b. row-within p b) n (at + 11) [] (omega arith))))
+        (within-many 89 (8 * length s) (λ rows p b. new-row-within rows p b) n (at + 11) [] (omega arith))))
 
   -- The pad bits end with a byte, so within every m bytes that the position is within.
   pub end-within : (m at : ℕ) → at ≤ 8 * m → m ≤ length s → Within (8 * m) (endAt s at)

@@ -26,6 +26,7 @@ use Rattle.refusal.specs.declared.Refusal.the-variants.{
   Absent,
   BadMode,
   BadStore,
+  Conflict,
 }
 use Rattle.refusal.specs.Numbers.{refusalNo}
 use Rattle.refusal.specs.Answer.{Answer, value, refusal, refuse}
@@ -74,29 +75,30 @@ use Rattle.program_rules.specs.Reply.{
   inRoom,
 }
 
--- the table's numbers are 1 to 17
+-- the table's numbers are from 1 to 19
 pub record InTable (k : ℕ) : Type 0 where
   pub from-one : 1 ≤ k
-  pub to-17 : k ≤ 17
+  pub to-19 : k ≤ 19
 
 pub in-table : (r : Refusal) → InTable (refusalNo r)
-in-table Short = record { from-one = omega arith; to-17 = omega arith }
-in-table BadVersion = record { from-one = omega arith; to-17 = omega arith }
-in-table BadSize = record { from-one = omega arith; to-17 = omega arith }
-in-table BadName = record { from-one = omega arith; to-17 = omega arith }
-in-table DupName = record { from-one = omega arith; to-17 = omega arith }
-in-table BadSort = record { from-one = omega arith; to-17 = omega arith }
-in-table BadFunction = record { from-one = omega arith; to-17 = omega arith }
-in-table BadValue = record { from-one = omega arith; to-17 = omega arith }
-in-table Trailing = record { from-one = omega arith; to-17 = omega arith }
-in-table BadRoot = record { from-one = omega arith; to-17 = omega arith }
-in-table NoTerm = record { from-one = omega arith; to-17 = omega arith }
-in-table TooDear = record { from-one = omega arith; to-17 = omega arith }
-in-table NoRoom = record { from-one = omega arith; to-17 = omega arith }
-in-table BadTerm = record { from-one = omega arith; to-17 = omega arith }
-in-table Absent = record { from-one = omega arith; to-17 = omega arith }
-in-table BadMode = record { from-one = omega arith; to-17 = omega arith }
-in-table BadStore = record { from-one = omega arith; to-17 = omega arith }
+in-table Short = record { from-one = omega arith; to-19 = omega arith }
+in-table BadVersion = record { from-one = omega arith; to-19 = omega arith }
+in-table BadSize = record { from-one = omega arith; to-19 = omega arith }
+in-table BadName = record { from-one = omega arith; to-19 = omega arith }
+in-table DupName = record { from-one = omega arith; to-19 = omega arith }
+in-table BadSort = record { from-one = omega arith; to-19 = omega arith }
+in-table BadFunction = record { from-one = omega arith; to-19 = omega arith }
+in-table BadValue = record { from-one = omega arith; to-19 = omega arith }
+in-table Trailing = record { from-one = omega arith; to-19 = omega arith }
+in-table BadRoot = record { from-one = omega arith; to-19 = omega arith }
+in-table NoTerm = record { from-one = omega arith; to-19 = omega arith }
+in-table TooDear = record { from-one = omega arith; to-19 = omega arith }
+in-table NoRoom = record { from-one = omega arith; to-19 = omega arith }
+in-table BadTerm = record { from-one = omega arith; to-19 = omega arith }
+in-table Absent = record { from-one = omega arith; to-19 = omega arith }
+in-table BadMode = record { from-one = omega arith; to-19 = omega arith }
+in-table BadStore = record { from-one = omega arith; to-19 = omega arith }
+in-table Conflict = record { from-one = omega arith; to-19 = omega arith }
 
 -- a refusal is one of the table's
 abbrev pub Known : {A : Type 0} → Answer A → Type 0
