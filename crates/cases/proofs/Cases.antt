@@ -45,7 +45,8 @@ use Rattle.file_rules.specs.Functions.{
   functionsAt,
 }
 use Rattle.file_rules.specs.Literals.{signed, literalAt, literalsAt}
-use Rattle.file_rules.specs.Rows.{range, cellAt, cellsAt, rowAt, rowsAt}
+use Rattle.file_rules.specs.Conflicts.{sameInput, conflicting, conflicts}
+use Rattle.file_rules.specs.Rows.{range, cellAt, cellsAt, rowAt, newRowAt, rowsAt}
 use Rattle.file_rules.specs.Sorts.{classesOf, sortAt, sortsAt}
 use Rattle.term_rules.specs.Adding.{firstFrom, findTerm, symbolFor, withName, withRecord, append, roomForName, roomFor, add}
 use Rattle.term_rules.specs.Lent.{recordIn, termRoom, symbolRoom, byKind}
@@ -175,7 +176,8 @@ unfolding queryAt emptyStore emptyLending numberText bestLine variantsLine varia
     entry putName findFrom findName allowed allAllowed valid same bitsOf value number holds field then must pick many
     padWith blocks versionAt sortsPart literalsPart functionsPart rowsPart endAt tableAt bytesAt nameAt-format-Functions
     taken newNameAt costAt flagsAt outputAt argumentAt argumentsAt functionAt functionsAt signed literalAt literalsAt
-    range cellAt cellsAt rowAt rowsAt classesOf sortAt sortsAt firstFrom findTerm symbolFor withName withRecord append
+    sameInput conflicting conflicts range cellAt cellsAt rowAt newRowAt rowsAt classesOf sortAt sortsAt firstFrom findTerm
+    symbolFor withName withRecord append
     roomForName roomFor add recordIn termRoom symbolRoom byKind nodeOf nodeAt sameNode recordOf every allZero allBelow
     sameInt soundName soundLiteral soundVariable soundApplication soundRecord sameTerm newName newTerm wellFormed heldBy
     argumentsIn broughtIn viewIn has picked inTurn functionsOf rowsOf join brought visits sortsReached functionsInOrder

@@ -5,7 +5,6 @@ pub mod TermLaws
 pub mod TurnLaws
 pub mod ReturnLaws
 pub mod RootLaws
-pub mod FaultLaws
 pub mod OutcomeLaws
 pub mod WayLaws
 pub mod CallLaws

@@ -9,7 +9,9 @@ use lib.Dec.{eqb}
 use lib.IntN.{ℤ}
 use lib.ListN.{length, getD, drop, replicate, List·getD-append}
 use lib.Seq.{paste, length-paste, take-length}
-use Rattle.refusal.specs.declared.Refusal.the-variants.{BadRoot, BadStore}
+use Rattle.refusal.specs.declared.Refusal.{Refusal}
+use Rattle.refusal.specs.declared.Refusal.the-variants.{BadRoot, BadStore, Conflict}
+use Rattle.refusal.specs.Numbers.{refusalNo}
 use Rattle.order.proofs.OrderLaws.{cases}
 use Rattle.term_rules.specs.Lent.{Store}
 use Rattle.term_rules.specs.WellFormed.{wellFormed}
@@ -69,7 +71,7 @@ use Rattle.extract.proofs.VariantFacts.OutcomeLaws.{
   literal-number,
   literal-unchanged,
 }
-use Rattle.extract.proofs.VariantFacts.FaultLaws.{fault-number}
+use Rattle.file_rules.proofs.ConflictedLaws.{fault-number}
 use Rattle.extract.proofs.VariantFacts.WayLaws.{
   at-bad,
   at-unformed,
@@ -316,8 +318,14 @@ module _ (l : Lending) (file : List ℕ) (root v n : ℕ) where
   pub variants-not-eleven : after .answer ≡ refusal 11 → ⊥
   variants-not-eleven e = go (variants-number 11 e)
     where
+      fault : (x : Refusal) → 11 ≡ refusalNo x → (refusalNo x ≤ 9) ⊎ (x ≡ Conflict) → ⊥
+      fault x q (inl l) = omega arith
+      fault x q (inr c) =
+          let n : refusalNo x ≡ 19 = ap refusalNo c in
+          omega arith
+
       go : OneOf file 11 → ⊥
-      go (inl (x, (d, q))) = omega (arith, fault-number file x d)
+      go (inl (x, (d, q))) = fault x q (fault-number file x d)
       go (inr (inl q)) = omega arith
       go (inr (inr (inl q))) = omega arith
       go (inr (inr (inr (inl q)))) = omega arith
