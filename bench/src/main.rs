@@ -155,7 +155,7 @@ fn table(count: usize, kind: &str, folder: Option<&str>) -> Result<(), String> {
     let mut rows = small(count)?;
     rows.extend([
         question(count, "the longest file, 21,385 bytes", &inputs::longest())?,
-        question(count, "a file of 18,998 bytes, with terms", &inputs::long())?,
+        question(count, "a file of 19,107 bytes, with terms", &inputs::long())?,
         question(count, "512 classes, 1,024 rows, few passes", &inputs::few_passes())?,
         question(count, "a reversed chain, 513 passes", &inputs::reversed_chain())?,
         question(count, "variants, n = 255 of 1,024 rows", &inputs::variants())?,
