@@ -69,7 +69,7 @@ module _ (input : List ℕ) where
 
 short-line : (k : ℕ) → (r : Refusal) × (k ≡ refusalNo r) → length (refusedLine k) ≤ 16384
 short-line k h =
-    let l : k ≤ 17 = omega (arith, h .1, in-table (h .0) .to-17) in
+    let l : k ≤ 19 = omega (arith, h .1, in-table (h .0) .to-19) in
     omega (arith, refused-length k, digits-few k (omega (arith, l)))
 
 written-at-most : (a : Answer (List ℕ)) → Known (inRoom 16384 a) → length (written (inRoom 16384 a)) ≤ 16384
