@@ -612,11 +612,17 @@ uint8_t *whole_file(const struct watch *watch, const char *path, size_t *length)
 
 void in_thread(const struct watch *watch, size_t stack, void *(*work)(void *), void *given)
 {
+    /* Memory of its own: the C library may give a thread the larger stack of one that has ended. */
+    enum { FORBIDDEN = 1 << 16 };
     pthread_attr_t attributes;
     pthread_t thread;
-    expect(watch, !pthread_attr_init(&attributes) && !pthread_attr_setstacksize(&attributes, stack),
+    uint8_t *memory = (uint8_t *)mmap(NULL, FORBIDDEN + stack, PROT_READ | PROT_WRITE, MAP_PRIVATE | MAP_ANONYMOUS,
+                                      -1, 0);
+    expect(watch, memory != MAP_FAILED && !mprotect(memory, FORBIDDEN, PROT_NONE), "no memory for a stack");
+    expect(watch, !pthread_attr_init(&attributes) && !pthread_attr_setstack(&attributes, memory + FORBIDDEN, stack),
            "no thread can have such a stack");
     expect(watch, !pthread_create(&thread, &attributes, work, given), "no thread can be started");
     expect(watch, !pthread_join(thread, NULL), "a thread is lost");
     pthread_attr_destroy(&attributes);
+    munmap(memory, FORBIDDEN + stack);
 }
