@@ -1,4 +1,6 @@
 // The best term of a class, over flat rows: costs and choice, then the term. (src/extract.rs, extract_best_with_sort)
+#![tactic(auto)]
+
 ghost use Rattle.std.specs.Prelude.{◌≡◌, length};
 ghost use Rattle.term_rules.specs.Lent.{store};
 ghost use Rattle.price.specs.Solved.{Blank};

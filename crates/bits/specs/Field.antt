@@ -1,6 +1,6 @@
 -- A field of the file: document 01, 'Refusal numbers', Short "the input ends before a field does". Assumes nothing:
 -- definitions.
-use Rattle.std.specs.Prelude.{ℕ, ◌+◌, ◌*◌, List, Bool, leb, length}
+use Rattle.std.specs.Prelude.{ℕ, ◌+◌, List, Bool, leb, length}
 use Rattle.refusal.specs.declared.Refusal.TheVariants.{Short as NoMore}
 use Rattle.bits.specs.declared.Field.{Field}
 use Rattle.bits.specs.declared.Field.TheVariants.{Value, Short}

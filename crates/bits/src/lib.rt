@@ -1,4 +1,6 @@
 // Fields of a bit-packed file, most significant bit first, each read by one function for every width to 64.
+#![tactic(auto)]
+
 ghost use Rattle.std.specs.Prelude.{◌≡◌, ◌+◌, ◌-◌, ◌*◌, ◌/◌, ◌%◌, ◌^◌, ◌<◌, ◌≤◌, min, length, get_or};
 ghost use Rattle.bits.specs.Bits.{number};
 ghost use Rattle.bits.specs.Field.{field, holds, got_of};

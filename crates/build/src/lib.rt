@@ -1,5 +1,7 @@
 // The builder of best terms: a class's term is built into a lent store by a function that calls itself on each child
 // class.
+#![tactic(auto)]
+
 ghost use Rattle.std.specs.Prelude.{◌≡◌, ℕ, ◌+◌, ◌*◌, ◌<◌, ◌≤◌, true, length, get_or, pos};
 ghost use Rattle.name.specs.Entries.{name_at};
 ghost use Rattle.term_rules.specs.Lent.{store};

@@ -1,5 +1,6 @@
 // How the answers of the calls are told to a caller in C: each in one number or in one struct, with a refusal's number
 // below zero. The crate `needlevale_c` has the calls.
+#![tactic(auto)]
 
 pub mod choices; // choices.rt: the answers of best and variants
 pub mod codes; // codes.rt: a refusal as one number below zero

@@ -1,5 +1,5 @@
 -- A list with the first places of another copied over it. Assumes nothing: these are definitions.
-use Rattle.std.specs.Prelude.{ℕ, min, List, length}
+use Rattle.std.specs.Prelude.{min, List, length}
 use Rattle.std.proofs.Math.Seq.{paste}
 
 -- as many places as both have

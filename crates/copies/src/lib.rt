@@ -1,4 +1,6 @@
 // Copying what is lent, and putting it back: "Nothing lent is changed" on a refusal.
+#![tactic(auto)]
+
 ghost use Rattle.std.specs.Prelude.{◌≡◌, min};
 ghost use Rattle.copies.specs.Copied.{copied};
 

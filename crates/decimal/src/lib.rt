@@ -1,4 +1,6 @@
 // Decimal text: digits and literals, their lengths, and their bytes at the start of a lent part.
+#![tactic(auto)]
+
 ghost use Rattle.std.specs.Prelude.{◌≡◌, ◌≤◌, length, pos, nat_abs, ◌<ℤ◌};
 ghost use Rattle.decimal.specs.Decimal.{digits, literal_text};
 ghost use Rattle.decimal.specs.Written.{Wrote};

@@ -1,4 +1,6 @@
 // The public reader of a table file: document 01, 'The table file'.
+#![tactic(auto)]
+
 ghost use Rattle.std.specs.Prelude.{◌≡◌};
 ghost use Rattle.file_rules.specs.File.{table_at};
 ghost use Rattle.file.specs.Lent.{lent, seen, read_of};

@@ -1,4 +1,6 @@
 // The reader of a function's name: its length, its bytes as one field, and that no function before has it.
+#![tactic(auto)]
+
 ghost use Rattle.std.specs.Prelude.{◌≡◌, ◌+◌, ◌*◌, ◌^◌, ◌<◌, ◌≤◌, length, take};
 ghost use Rattle.bits.specs.Got.{pick};
 ghost use Rattle.name.specs.Entries.{table_length, HasEntry, Entries, put_name};

@@ -1,4 +1,6 @@
 // The reader of a table file into arrays of zeros, for the layers above.
+#![tactic(auto)]
+
 ghost use Rattle.std.specs.Prelude.{◌≡◌, ◌^◌, ◌<◌, pos, replicate};
 ghost use Rattle.file_rules.specs.File.{table_at};
 ghost use Rattle.file_rules.specs.Arrays.{Holds, HoldsRows};

@@ -1,4 +1,6 @@
 // The reader of a table file's rows: each into its place of three arrays, against the arrays of sorts and functions.
+#![tactic(auto)]
+
 ghost use Rattle.std.specs.Prelude.{◌≡◌, ◌+◌, ◌*◌, ◌^◌, ◌<◌, ◌≤◌, length, get_or, replicate};
 ghost use Rattle.file_rules.specs.Reading.{Reads};
 ghost use Rattle.file_rules.specs.Arrays.{HoldsRows};

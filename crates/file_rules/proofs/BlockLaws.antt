@@ -1,11 +1,11 @@
 -- Laws of lists of blocks in an array, and of what holds of every element of a list. Assumes nothing.
 use Prim.Native.Nat.{ℕ, zero, suc, ◌+◌, ◌-◌, ◌*◌, ◌<◌, ◌≤◌}
 use mathlib.Core.List.{List, [], ◌∷◌, ◌++◌, append_assoc, append-nil}
-use mathlib.Core.Path.{◌≡◌, refl, sym, ap, ◌∙◌}
+use mathlib.Core.Path.{◌≡◌, ap}
 use native.Mathlib.Nat.{suc-mul}
 use native.Mathlib.Omega.{arith}
 use lib.ListN.{length, replicate, take, drop, get_or, length-append, length-replicate, replicate-append-replicate}
-use lib.Seq.{drop-append-add, drop-append-le, take_at, drop_at}
+use lib.Seq.{drop-append-add, take_at, drop_at}
 use Rattle.file_rules.specs.Every.{Every, every-nil, every-cons}
 use Rattle.file_rules.specs.Arrays.{pad_with, pad, blocks}
 

@@ -1,24 +1,24 @@
 -- What holds of all functions that were read: their names differ. Assumes nothing.
 use Prim.{Dec, yes, no}
 use Prim.Native.Nat.{ℕ, zero, suc, ◌+◌, ◌*◌, ◌≤◌, ◌<◌}
-use mathlib.Core.Bool.{Bool, true, false, ◌||◌, ◌&&◌}
+use mathlib.Core.Bool.{Bool, true, false, ◌||◌}
 use mathlib.Core.List.{List, [], ◌∷◌, ◌++◌}
-use mathlib.Core.Path.{◌≡◌, refl, sym, ap, ◌∙◌}
+use mathlib.Core.Path.{◌≡◌, refl}
 use native.Mathlib.Decide.{dec_lt}
 use native.Mathlib.Omega.{arith}
-use lib.ListN.{length, get_or, length-append, get_or-append}
+use lib.ListN.{length, length-append, get_or-append}
 use lib.Seq.{get_or-append_seam}
 use borrow.Author.Tests.{eq-eqb}
 use Rattle.name.specs.Name.{same}
-use Rattle.bits.specs.Got.{Got, got, many}
+use Rattle.bits.specs.Got.{got}
 use Rattle.bits.proofs.GotLaws.{All, all_map, many-all, many-length}
 use Rattle.file_rules.specs.Table.{Function}
 use Rattle.file_rules.specs.Every.{Every, every-nil}
-use Rattle.file_rules.specs.Functions.{taken, function_at, functions_at}
+use Rattle.file_rules.specs.Functions.{taken, functions_at}
 use Rattle.file_rules.specs.Rows.{function_no}
 use Rattle.file_rules.specs.Accepted.{FunctionOk, Differ}
 use Rattle.file_rules.proofs.BlockLaws.{every-snoc}
-use Rattle.file_rules.proofs.FunctionLaws.{FunctionKept, function-kept}
+use Rattle.file_rules.proofs.FunctionLaws.{function-kept}
 
 pub same_refl : (xs : List ℕ) → same xs xs ≡ true
 unfolding same

@@ -1,15 +1,14 @@
 -- What holds of a function that was read, and how many bits it takes at most. Assumes nothing.
-use Prim.Native.Nat.{ℕ, zero, suc, ◌+◌, ◌-◌, ◌*◌, ◌^◌, ◌≤◌, ◌<◌}
-use mathlib.Core.Bool.{Bool, true, false, not, ◌&&◌}
-use mathlib.Core.List.{List, [], ◌∷◌, ◌++◌}
-use mathlib.Core.Path.{◌≡◌, refl, sym, ap, ◌∙◌}
+use Prim.Native.Nat.{ℕ, zero, suc, ◌+◌, ◌*◌, ◌^◌, ◌≤◌, ◌<◌}
+use mathlib.Core.Bool.{true, false}
+use mathlib.Core.List.{List, []}
+use mathlib.Core.Path.{◌≡◌, refl, ap}
 use native.Mathlib.Omega.{arith}
 use lib.ListN.{length, get_or, length-append}
-use borrow.Author.Tests.{ltb-true, leb-true, eqb-true, eqb-false, le-leb, not-true}
+use borrow.Author.Tests.{ltb-true, leb-true, eqb-true, le-leb, not-true}
 use Rattle.name.specs.Name.{all_allowed, valid}
-use Rattle.bits.specs.Bits.{number}
-use Rattle.bits.specs.Got.{Got, got, refused, then, must, pick, many}
-use Rattle.bits.specs.Field.{field, holds}
+use Rattle.bits.specs.Got.{many}
+use Rattle.bits.specs.Field.{field}
 use Rattle.bits.proofs.FieldLaws.{field-read}
 use Rattle.bits.proofs.GotLaws.{
   All,

@@ -1,16 +1,16 @@
 -- What holds of the literals that were read, and how many bits they take. Assumes nothing.
 use Prim.Native.Nat.{ℕ, ◌+◌, ◌*◌, ◌^◌, ◌≤◌, ◌<◌}
-use mathlib.Core.List.{List, [], ◌∷◌, ◌++◌}
-use mathlib.Core.Path.{◌≡◌, refl}
+use mathlib.Core.List.{List, []}
+use mathlib.Core.Path.{◌≡◌}
 use native.Mathlib.Omega.{arith}
 use lib.IntN.{ℤ}
 use lib.ListN.{length, length-append}
 use lib.Signed.{mag}
-use Rattle.bits.specs.Got.{Got, got, then, many}
+use Rattle.bits.specs.Got.{got}
 use Rattle.bits.specs.Field.{field}
 use Rattle.bits.proofs.FieldLaws.{field-read}
 use Rattle.bits.proofs.GotLaws.{All, all-got, all_map, all_then, many-all, many-length}
-use Rattle.file_rules.specs.Literals.{signed, literal_at, literals_at}
+use Rattle.file_rules.specs.Literals.{literal_at, literals_at}
 use Rattle.file_rules.specs.Every.{Every, every-nil}
 use Rattle.file_rules.proofs.SignedLaws.{signed-fits}
 use Rattle.file_rules.proofs.BlockLaws.{every-snoc}

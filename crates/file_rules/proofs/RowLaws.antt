@@ -1,21 +1,21 @@
 -- What holds of the rows that were read, and how many bits they take at most. Assumes nothing.
 use Prim.{Dec, yes, no}
-use Prim.Native.Nat.{ℕ, zero, suc, ◌+◌, ◌*◌, ◌≤◌, ◌<◌}
+use Prim.Native.Nat.{ℕ, ◌+◌, ◌*◌, ◌≤◌, ◌<◌}
 use mathlib.Core.List.{List, [], ◌∷◌, ◌++◌}
-use mathlib.Core.Path.{◌≡◌, refl, sym, ap, ◌∙◌, subst}
+use mathlib.Core.Path.{◌≡◌, sym, subst}
 use native.Mathlib.Decide.{dec_lt}
 use native.Mathlib.Omega.{arith}
 use lib.ListN.{length, get_or, length-append, get_or-append}
 use lib.Seq.{get_or-append_seam}
 use borrow.Author.Tests.{ltb-true}
-use Rattle.bits.specs.Got.{Got, got, then, must, many}
+use Rattle.bits.specs.Got.{got}
 use Rattle.bits.specs.Field.{field}
 use Rattle.bits.proofs.FieldLaws.{field-read}
 use Rattle.bits.proofs.GotLaws.{All, all-got, all-at, all_of, all_map, all_then, all-must, many-all, many-length}
 use Rattle.file_rules.specs.Table.{Sort, Function, Row}
 use Rattle.file_rules.specs.Every.{Every, every-nil}
 use Rattle.file_rules.specs.Rows.{function_no, columns, range, cell_at, cells_at, row_at, rows_at}
-use Rattle.file_rules.specs.Accepted.{FunctionOk, CellsOk, RowOk}
+use Rattle.file_rules.specs.Accepted.{CellsOk, RowOk}
 use Rattle.file_rules.proofs.BlockLaws.{every-snoc, every_get}
 use Rattle.file_rules.proofs.CellLaws.{cells-many}
 

@@ -1,25 +1,14 @@
 -- What holds of a sort and of all sorts that were read, and how many bits they take at most. Assumes nothing.
-use Prim.Native.Nat.{ℕ, zero, suc, ◌+◌, ◌*◌, ◌≤◌, ◌<◌}
+use Prim.Native.Nat.{ℕ, ◌+◌, ◌*◌, ◌≤◌}
 use mathlib.Core.List.{List, [], ◌∷◌, ◌++◌}
-use mathlib.Core.Path.{◌≡◌, refl, sym, ap, ◌∙◌}
+use mathlib.Core.Path.{◌≡◌, refl}
 use native.Mathlib.Omega.{arith}
 use lib.ListN.{length, length-append}
 use borrow.Author.Tests.{leb-true}
-use Rattle.bits.specs.Got.{Got, got, then, must, pick, many}
+use Rattle.bits.specs.Got.{got}
 use Rattle.bits.specs.Field.{field}
 use Rattle.bits.proofs.FieldLaws.{field-read}
-use Rattle.bits.proofs.GotLaws.{
-  All,
-  all-got,
-  all-at,
-  all_of,
-  all_map,
-  all_then,
-  all-must,
-  all-pick,
-  many-all,
-  many-length,
-}
+use Rattle.bits.proofs.GotLaws.{All, all-got, all-at, all_map, all_then, all-must, all-pick, many-all, many-length}
 use Rattle.file_rules.specs.Table.{Sort}
 use Rattle.file_rules.specs.Sorts.{classes_of, sort_at, sorts_at}
 use Rattle.file_rules.specs.Every.{Every, every-nil}

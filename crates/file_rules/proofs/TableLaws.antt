@@ -7,16 +7,12 @@ use lib.IntN.{ℤ}
 use lib.ListN.{length}
 use lib.Signed.{mag}
 use borrow.Author.Tests.{leb-true, eqb-true}
-use Rattle.bits.specs.Got.{Got, got, then, must}
 use Rattle.bits.specs.Field.{field}
 use Rattle.bits.proofs.FieldLaws.{field-read}
 use Rattle.bits.proofs.GotLaws.{All, all-got, all-at, all_of, all_then, all-must}
 use Rattle.file_rules.specs.Table.{Sort, Function, Row, Table}
 use Rattle.file_rules.specs.Every.{Every}
-use Rattle.file_rules.specs.Sorts.{kinds_of, classes_of, sorts_at}
-use Rattle.file_rules.specs.Literals.{literals_at}
-use Rattle.file_rules.specs.Functions.{functions_at}
-use Rattle.file_rules.specs.Rows.{rows_at}
+use Rattle.file_rules.specs.Sorts.{kinds_of, classes_of}
 use Rattle.file_rules.specs.File.{
   version_at,
   sorts_part,

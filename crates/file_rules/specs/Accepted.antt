@@ -1,5 +1,5 @@
 -- What holds of an accepted table: what the layers above may rely on. Assumes nothing: definitions.
-use Rattle.std.specs.Prelude.{ℕ, ◌+◌, ◌*◌, ◌^◌, ◌≤◌, ◌<◌, ◌≡◌, true, List, length, get_or}
+use Rattle.std.specs.Prelude.{ℕ, ◌^◌, ◌≤◌, ◌<◌, ◌≡◌, true, List, length, get_or}
 use Rattle.std.specs.Int.Signed.{mag}
 use Rattle.name.specs.Name.{valid}
 use Rattle.file_rules.specs.Table.{Sort, Function, Row, Table}

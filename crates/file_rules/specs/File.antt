@@ -1,5 +1,5 @@
 -- A table file: document 01, 'The table file', line by line. Assumes nothing: definitions.
-use Rattle.std.specs.Prelude.{ℕ, ◌+◌, ◌-◌, ◌*◌, ◌%◌, List, leb, eqb, ℤ, length}
+use Rattle.std.specs.Prelude.{ℕ, ◌-◌, ◌*◌, ◌%◌, List, leb, eqb, ℤ, length}
 use Rattle.refusal.specs.declared.Refusal.TheVariants.{BadVersion, BadSize, Trailing}
 use Rattle.bits.specs.Got.{Got, got, then, must}
 use Rattle.bits.specs.Field.{field}

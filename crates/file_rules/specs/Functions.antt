@@ -1,5 +1,5 @@
 -- The functions of a table file: document 01, 'The table file', its fourth line. Assumes nothing: definitions.
-use Rattle.std.specs.Prelude.{ℕ, zero, suc, ◌+◌, ◌*◌, Bool, true, false, not, ◌||◌, List, [], ◌∷◌, leb, ltb, eqb, length, get_or}
+use Rattle.std.specs.Prelude.{ℕ, zero, suc, ◌+◌, ◌*◌, Bool, false, not, ◌||◌, List, [], ◌∷◌, leb, ltb, eqb, length, get_or}
 use Rattle.refusal.specs.declared.Refusal.TheVariants.{Short, BadSize, BadName, DupName, BadSort}
 use Rattle.name.specs.Name.{all_allowed, same}
 use Rattle.bits.specs.Bits.{number}

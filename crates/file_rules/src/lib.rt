@@ -1,4 +1,6 @@
 // The format of a table file: its definition is in specs/, and here are the answers of the readers of its parts.
+#![tactic(auto)]
+
 ghost use Rattle.std.specs.Prelude.{◌≡◌, ◌<◌, ◌^◌};
 ghost use Rattle.file_rules.specs.Literals.{signed};
 

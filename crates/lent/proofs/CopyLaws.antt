@@ -1,20 +1,20 @@
 -- Laws on copying the records into flat arrays and back, one record at a time. Assumes nothing.
-use Prim.Native.Nat.{ℕ, zero, suc, ◌+◌, ◌-◌, ◌≤◌, ◌<◌, min}
+use Prim.Native.Nat.{ℕ, zero, suc, ◌+◌, ◌≤◌, ◌<◌, min}
 use mathlib.Core.Path.{◌≡◌, refl, ap, sym, ◌∙◌, subst}
-use mathlib.Core.Logic.{◌⊎◌, inl, inr}
+use mathlib.Core.Logic.{inl, inr}
 use mathlib.Core.List.{List, [], ◌∷◌, ◌++◌, append_assoc, append-nil}
 use native.Mathlib.Nat.{eq-or-lt_of_le}
 use native.Mathlib.Numerals.{add-one}
 use native.Mathlib.Omega.{arith}
 use lib.ListN.{length, get_or, take, drop, set, length-append, length-take, length-drop}
 use lib.Seq.{take-suc, take-suc-set, take-nil, drop-cons, get_or-take, set_at}
-use lib.IntN.{ℤ, pos}
+use lib.IntN.{ℤ}
 use Rattle.term_rules.specs.declared.Term.{Term}
 use Rattle.term_rules.specs.Lent.{records_length, HasRecord, record_in, numbers as numbers_of, put_record}
 use Rattle.term_rules.proofs.LayoutLaws.{take_put}
 use Rattle.lent.specs.declared.Flat.{Flat}
 use Rattle.lent.specs.Records.{no_term, Eight, flat, literals_of, records_in}
-use Rattle.lent.specs.Copies.{AllEight, Loaded, Whole}
+use Rattle.lent.specs.Copies.{AllEight, Loaded}
 use Rattle.lent.proofs.RecordLaws.{flat_append, literals_of-append, records_in-length}
 
 -- the first i records are copied

@@ -1,13 +1,13 @@
 -- The lent lists and the flat lists mean the same store. Assumes nothing.
-use Prim.Native.Nat.{ℕ, zero, suc, ◌+◌, ◌≤◌, ◌<◌, min}
+use Prim.Native.Nat.{ℕ, zero, suc, ◌≤◌, ◌<◌, min}
 use mathlib.Core.Path.{◌≡◌, refl, ap, sym, ◌∙◌, subst}
 use mathlib.Core.Bool.{Bool, true, false, not}
-use mathlib.Core.List.{List, [], ◌∷◌, ◌++◌, append-nil}
+use mathlib.Core.List.{List, [], ◌++◌, append-nil}
 use native.Mathlib.Omega.{arith}
 use lib.Dec.{T as Holds, leb, leb→le, nleb→lt}
 use lib.ListN.{length, get_or, take, drop, length-take, take-append-drop, drop_of_length-le}
-use lib.Seq.{get_or-take, take_at, take-take, take-length, take_all, take-nil}
-use lib.IntN.{ℤ, pos}
+use lib.Seq.{get_or-take, take_at, take-length, take_all}
+use lib.IntN.{ℤ}
 use Rattle.name.specs.Entries.{entries_length, entry_room, length_in, name_in}
 use Rattle.name.proofs.EntryLaws.{entry_room-whole}
 use Rattle.lent_entries.specs.Entries.{entries_of, entries_in, AllWide, entries_after}
@@ -25,17 +25,7 @@ use Rattle.term_layout.proofs.TakeLaws.{record-take, room_whole}
 use Rattle.lent.specs.declared.Flat.{Flat}
 use Rattle.lent.specs.Records.{no_term, flat, literals_of, lent_store, records_in, records_after}
 use Rattle.lent.specs.Copies.{AllEight, Loaded, store_in}
-use Rattle.lent.proofs.RecordLaws.{
-  term,
-  same-fields,
-  record_in-flat,
-  flat-length,
-  literals_of-length,
-  records_in-flat,
-  records_in-length,
-  flat-records_in,
-  literals_of-records_in,
-}
+use Rattle.lent.proofs.RecordLaws.{record_in-flat, flat-length, literals_of-length, records_in-flat, records_in-length, flat-records_in, literals_of-records_in}
 
 -- what is copied is the lent store
 pub loaded-store :

@@ -1,6 +1,6 @@
 -- The store as a lent list of term records and a lent list of name entries: document 01, 'Terms'. Assumes nothing:
 -- these are definitions.
-use Rattle.std.specs.Prelude.{ℕ, zero, suc, min, ◌≡◌, List, [], ◌∷◌, ◌++◌, length, get_or, take, drop, ℤ, pos}
+use Rattle.std.specs.Prelude.{ℕ, zero, suc, min, ◌≡◌, List, [], ◌∷◌, ◌++◌, length, take, drop, ℤ, pos}
 use Rattle.lent_entries.specs.Entries.{entries_of}
 use Rattle.term_rules.specs.declared.Term.{Term}
 use Rattle.term_rules.specs.Lent.{Store, store, record_in, numbers}

@@ -1,4 +1,6 @@
 // The term store as a lent slice of term records, with its symbol table as a lent slice of name entries.
+#![tactic(auto)]
+
 ghost use Rattle.std.specs.Prelude.{◌≡◌, ◌<◌, ◌≤◌, min, ◌++◌, length, get_or, set, drop};
 ghost use Rattle.term_rules.specs.Lent.{InRecords, put_record};
 ghost use Rattle.lent.specs.Records.{no_term, Eight, records_in};
@@ -11,7 +13,9 @@ pub fn record_at(ts: &[Term], i: usize) -> Term
     requires { i < length ts.now }
     ensures { (result ≡ get_or ts.now i no_term) × Eight result }
 {
-    ts[i]
+    let t = ts[i];
+    let children = t.children;
+    Term { children, ..t }
 }
 
 // Puts the record at `i`.

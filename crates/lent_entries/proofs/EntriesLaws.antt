@@ -1,5 +1,5 @@
 -- Laws on the list of name entries and its flat form: the two mean the same symbol table. Assumes nothing.
-use Prim.Native.Nat.{ℕ, zero, suc, ◌+◌, ◌-◌, ◌≤◌, ◌<◌, min}
+use Prim.Native.Nat.{ℕ, zero, suc, ◌+◌, ◌≤◌, ◌<◌, min}
 use mathlib.Core.Path.{◌≡◌, refl, ap, sym, ◌∙◌, subst}
 use mathlib.Core.Logic.{inl, inr}
 use mathlib.Core.List.{List, [], ◌∷◌, ◌++◌, append_assoc, append-nil}
@@ -24,17 +24,7 @@ use lib.Seq.{
   get_or-take,
   set_at,
 }
-use Rattle.name.specs.Entries.{
-  entry_width,
-  entries_length,
-  HasEntry,
-  entry_at,
-  put_entry,
-  length_in,
-  name_in,
-  name_at,
-  length_at,
-}
+use Rattle.name.specs.Entries.{entry_width, entries_length, HasEntry, entry_at, put_entry, length_in, name_in, name_at}
 use Rattle.name.proofs.EntryLaws.{name_at-entry}
 use Rattle.lent_entries.specs.Entries.{entries_of, entries_in, AllWide, LoadedNames, entries_after}
 

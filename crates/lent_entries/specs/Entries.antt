@@ -1,5 +1,5 @@
 -- The symbol table as a lent list of name entries: document 01, 'Terms'. Assumes nothing: these are definitions.
-use Rattle.std.specs.Prelude.{ℕ, zero, suc, ◌+◌, ◌≤◌, ◌<◌, min, ◌≡◌, List, [], ◌∷◌, ◌++◌, length, get_or, take, drop}
+use Rattle.std.specs.Prelude.{ℕ, zero, suc, ◌<◌, min, ◌≡◌, List, [], ◌∷◌, ◌++◌, length, get_or, take, drop}
 use Rattle.name.specs.Entries.{entry_width, entries_length, entry_at}
 
 -- the entries, one after the other

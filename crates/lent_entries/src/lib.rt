@@ -1,4 +1,6 @@
 // The symbol table as a lent slice of name entries, copied into bytes of a call's own and back.
+#![tactic(auto)]
+
 ghost use Rattle.std.specs.Prelude.{◌≡◌, ◌<◌, ◌≤◌, min, [], length, get_or};
 ghost use Rattle.name.specs.Entries.{entry_width, table_length, HasEntry, entry_at, put_entry};
 ghost use Rattle.lent_entries.specs.Entries.{LoadedNames, entries_after};

@@ -1,6 +1,8 @@
 // The best term and the variants of a root of a table file on a lent slice of term records and a lent slice of name
 // entries. Each copies the records and the entries once into arrays of its own, hands them to the call of the same
 // name in the crate `extract`, and puts them back. Assumes nothing.
+#![tactic(auto)]
+
 ghost use Rattle.std.specs.Prelude.{◌≡◌};
 ghost use Rattle.answer_rules.specs.Best.{best_at};
 ghost use Rattle.answer_rules.specs.Variants.{variants_at};

@@ -1,6 +1,8 @@
 // The store's calls on a lent slice of term records and a lent slice of name entries. Each copies the records and the
 // entries once into arrays of its own, hands them to the call of the same name in the crate `term`, and, where it
 // adds, puts them back.
+#![tactic(auto)]
+
 ghost use Rattle.std.specs.Prelude.{◌≡◌};
 ghost use Rattle.term.specs.Answers.{seen_found, seen_count, seen_got, seen_order, seen_sort};
 ghost use Rattle.term.specs.Calls.{

@@ -1,12 +1,11 @@
 -- Laws on a name's entry, on the bytes of an entry in a table, and on the search for a name. Assumes nothing.
-use Prim.Native.Nat.{ℕ, zero, suc, ◌+◌, ◌*◌, ◌-◌, ◌≤◌, ◌<◌}
+use Prim.Native.Nat.{ℕ, zero, suc, ◌+◌, ◌-◌, ◌≤◌, ◌<◌}
 use mathlib.Core.Path.{◌≡◌, refl, ap, sym, ◌∙◌}
-use mathlib.Core.Bool.{Bool, true, false}
+use mathlib.Core.Bool.{true, false}
 use mathlib.Core.List.{List, [], ◌∷◌, ◌++◌, append_assoc}
 use native.Mathlib.Nat.{add-zero, mul-div_left}
-use native.Mathlib.Numerals.{add-one}
 use native.Mathlib.Omega.{arith}
-use lib.ListN.{length, get_or, take, drop, replicate, length-append, length-replicate, get_or-replicate, get_or-append}
+use lib.ListN.{length, get_or, take, drop, replicate, length-append, length-replicate, get_or-append}
 use lib.Seq.{get_or-append-add, get_or-take, get_or-drop, take-take, take-append_seam, drop-drop}
 use Rattle.name.specs.Name.{same}
 use Rattle.name.specs.Entries.{
@@ -22,7 +21,6 @@ use Rattle.name.specs.Entries.{
   find_from,
   find_name,
 }
-use Rattle.name.specs.declared.Found.{Found}
 use Rattle.name.specs.declared.Found.TheVariants.{At, Missing}
 
 pub entry_length : (name : List ℕ) → length name ≤ 31 → length (entry name) ≡ entry_width

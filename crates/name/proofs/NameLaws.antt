@@ -6,11 +6,11 @@ use mathlib.Core.List.{List, [], ◌∷◌}
 use mathlib.Core.Logic.{◌≢◌}
 use native.Mathlib.Numerals.{add-one}
 use native.Mathlib.Omega.{arith}
-use borrow.Author.Tests.{eq-eqb, ne_eqb, eqb-true}
+use borrow.Author.Tests.{eq-eqb, ne_eqb}
 use lib.Dec.{eqb}
 use lib.ListN.{length, get_or, drop}
 use lib.Seq.{drop-cons, drop-length}
-use Rattle.name.specs.Name.{allowed, all_allowed, valid, same}
+use Rattle.name.specs.Name.{allowed, all_allowed, same}
 
 -- what a test of `!b` tells of b
 pub not-true : (b : Bool) → not b ≡ true → b ≡ false

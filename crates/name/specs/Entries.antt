@@ -1,7 +1,7 @@
 -- A symbol table in a list of bytes: an entry for each name, its length, its bytes, and zeros. Here, and in the laws and
 -- the code of this crate, stands how many bytes an entry has and where its parts are; whoever stands above says where
 -- entries lie by these names alone. Assumes nothing: these are definitions.
-use Rattle.std.specs.Prelude.{ℕ, zero, suc, ◌+◌, ◌*◌, ◌-◌, ◌/◌, ◌≤◌, ◌<◌, ◌≡◌, Bool, true, false, List, [], ◌∷◌, ◌++◌, length, get_or, take, drop, replicate}
+use Rattle.std.specs.Prelude.{ℕ, zero, suc, ◌+◌, ◌*◌, ◌-◌, ◌/◌, ◌≤◌, ◌<◌, true, false, List, ◌∷◌, ◌++◌, length, get_or, take, drop, replicate}
 use Rattle.std.proofs.Math.Seq.{paste}
 use Rattle.name.specs.Name.{same}
 use Rattle.name.specs.declared.Found.{Found}

@@ -1,4 +1,6 @@
 // Names and symbol tables: which names are valid, where a name stands, and how one is put there.
+#![tactic(auto)]
+
 ghost use Rattle.std.specs.Prelude.{◌≡◌, true, false, ℕ, ◌≤◌, length, get_or};
 ghost use Rattle.name.specs.Name.{allowed, all_allowed, valid, same};
 ghost use Rattle.name.specs.Entries.{

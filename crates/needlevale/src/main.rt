@@ -1,27 +1,33 @@
 // Document 01's program: a query and a table file on standard input, the answer on standard output.
 // The buffer has a place more than the 21,388 bytes that an input can have without being refused. What it holds has
 // the answer of the whole input: `same_reply` of program_rules/specs/Promises.antt. An input that cannot be read to its
-// end gets no answer, and an answer that cannot be written is lost: either is said on standard error, since a program has
-// no exit status of its own here.
-use libc::{STDERR_FILENO, STDIN_FILENO, STDOUT_FILENO};
+// end gets no answer, and an answer that cannot be written is lost: either is said on standard error, and the exit status
+// is 0 then too.
+#![tactic(auto)]
+
 use program_rules::replies::Answered;
+use std::io::Read;
 
-// Whether a read says that the input has ended: `io::read_full` stops in the same way where a read fails.
-fn at_end() -> bool {
+// Whether a read says that the input has ended: `input::read_full` stops in the same way where a read fails.
+fn at_end(stdin: &mut impl Read) -> bool {
     let mut next = [0u8; 1];
-    libc::read(STDIN_FILENO, &mut next) == 0
+    matches!(stdin.read(&mut next), Ok(0))
 }
 
-fn complain(sentence: &[u8]) {
-    io::write_all(STDERR_FILENO, sentence);
+fn complain(rt: &impl Eprint, sentence: &str) {
+    let _ = rt.eprint(sentence);
 }
 
-fn main() {
+fn main(rt: HostRuntime) {
+    let mut stdin = rt.stdin();
     let mut input = [0u8; 21389];
-    let n = io::read_full(STDIN_FILENO, &mut input);
+    let n = input::read_full(&mut stdin, &mut input);
     if n < 21389 {
-        if !at_end() {
-            complain(b"needlevale: standard input cannot be read to its end\n");
+        if !at_end(&mut stdin) {
+            complain(
+                &rt,
+                "needlevale: standard input cannot be read to its end\n",
+            );
             return;
         }
     }
@@ -29,8 +35,8 @@ fn main() {
     let answered = program::respond(&input[..n], &mut out);
     match answered {
         Answered::Written(k) => {
-            if !io::write_all(STDOUT_FILENO, &out[..k]) {
-                complain(b"needlevale: standard output cannot be written\n");
+            if rt.write_all(&out[..k]).is_err() {
+                complain(&rt, "needlevale: standard output cannot be written\n");
             }
         }
         // None: the buffer has room for every output.

@@ -1,7 +1,6 @@
 -- The laws of the crate `needlevale_c`.
 pub mod CodeLaws
 pub mod CodedLaws
-pub mod Forwarding
 pub mod PromiseLaws
 pub mod ToldLaws
 pub mod AddLaws

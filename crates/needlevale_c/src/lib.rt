@@ -3,6 +3,8 @@
 // refusal comes back as its number below zero, and then nothing lent is changed.
 // Assumed of the caller, as include/needlevale.h says: each pointer stands for as many elements as its length says, and
 // no two overlap.
+#![tactic(auto)]
+
 ghost use Rattle.std.specs.Prelude.{◌≡◌};
 ghost use Rattle.term_rules.specs.Lent.{store};
 ghost use Rattle.term.specs.Calls.{add_literal};

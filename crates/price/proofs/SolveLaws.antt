@@ -3,11 +3,11 @@ use mathlib.Core.Path.{◌≡◌, ap, sym, ◌∙◌, subst}
 use mathlib.Core.List.{List}
 use Prim.Native.Nat.{ℕ, ◌<◌}
 use lib.ListN.{length, get_or}
-use Rattle.choice_rules.specs.Run.{State, run}
-use Rattle.choice_rules.specs.Edges.{edge_of, edges_of}
+use Rattle.choice_rules.specs.Run.{State}
+use Rattle.choice_rules.specs.Edges.{edge_of}
 use Rattle.choice_rules.specs.Promises.{ended}
 use Rattle.choice_rules.proofs.ListLaws.{tabulate-length, tabulate-get}
-use Rattle.price_passes.specs.Flat.{top, rows_of, state_of, ran_to, FlatOk}
+use Rattle.price_passes.specs.Flat.{top, rows_of, state_of, FlatOk}
 use Rattle.price_passes.proofs.EndLaws.{ended_is}
 use Rattle.price.proofs.edges.EndLaws.{FlatEdge, flat-edge-of-class}
 use Rattle.price.specs.Solved.{Solved, Priced}

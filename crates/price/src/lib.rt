@@ -1,4 +1,6 @@
 // The costs, ranks and edges of flat rows: the relaxation, then the choice. (src/extract.rs, bellman_ford)
+#![tactic(auto)]
+
 ghost use Rattle.std.specs.Prelude.{length};
 ghost use Rattle.price_passes.specs.Flat.{FlatOk};
 ghost use Rattle.price.specs.Solved.{Blank, Solved};

@@ -1,5 +1,7 @@
 // The relaxation over flat rows that looks only at marked rows, equal to the definitions of the crate `choice_rules`.
 // A row whose children's costs and ranks have not changed since it was last looked at cannot improve its class.
+#![tactic(auto)]
+
 pub mod links; // links.rt: of each class the children that are it, as chains
 pub mod marks; // marks.rt: marks of rows and of blocks of rows
 pub mod rows; // rows.rt: the relaxation of one marked row

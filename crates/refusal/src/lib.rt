@@ -1,4 +1,6 @@
 // The refusals of document 01, and the number that each is told by.
+#![tactic(auto)]
+
 ghost use Rattle.std.specs.Prelude.{◌≡◌};
 ghost use Rattle.refusal.specs.Numbers.{refusal_no};
 

@@ -1,27 +1,30 @@
 // Best and variants on lent structs over document 01's tables, and the texts of what they answer, as its program writes
 // them. Assumes nothing.
+#![tactic(auto)]
+
 use best_root::BestAnswer;
 use lent_calls::steps::Held;
 use lent_calls::{choices, steps};
 use lent_entries::Name;
+use std::io;
 use variants_root::VariantsAnswer;
 
-fn plain(h: Held, ns: &[Name], t: usize) {
+fn plain(rt: &impl Print, h: Held, ns: &[Name], t: usize) -> io::Result<()> {
     let ts = h.ts;
     let mut out = [0u8; 300];
     let answer = steps::plain_text(ts, ns, h.terms, h.symbols, t, &mut out);
-    run_output::write_plain(answer, &out);
+    run_output::write_plain(rt, answer, &out)
 }
 
-fn bound(h: Held, ns: &[Name], t: usize) {
+fn bound(rt: &impl Print, h: Held, ns: &[Name], t: usize) -> io::Result<()> {
     let ts = h.ts;
     let mut out = [0u8; 300];
     let answer = steps::let_text(ts, ns, h.terms, h.symbols, t, b"", b"t", 0, false, &mut out);
-    run_output::write_let(answer, &out);
+    run_output::write_let(rt, answer, &out)
 }
 
 // The best term of class `value` of sort 0, on an empty store, and its texts.
-fn best(file: &[u8], value: u64) {
+fn best(rt: &impl Print, file: &[u8], value: u64) -> io::Result<()> {
     let h = steps::empty();
     let ts = h.ts;
     let e = [0u8; name::WIDTH];
@@ -32,33 +35,48 @@ fn best(file: &[u8], value: u64) {
     match answer {
         BestAnswer::Found(cost, term, passes, terms, symbols) => {
             let list = [cost, terms as u64, passes];
-            run_output::write_line(b"best", &list);
+            run_output::write_line(rt, b"best", &list)?;
             let after = Held { ts, terms, symbols };
-            bound(after, &ns, term);
-            plain(after, &ns, term);
+            bound(rt, after, &ns, term)?;
+            plain(rt, after, &ns, term)
         }
-        BestAnswer::Refused(refusal) => run_output::write_refusal(refusal),
+        BestAnswer::Refused(refusal) => run_output::write_refusal(rt, refusal),
     }
 }
 
-fn variant(h: Held, ns: &[Name], i: usize, cost: u64, term: u64) {
+fn variant(
+    rt: &impl Print,
+    h: Held,
+    ns: &[Name],
+    i: usize,
+    cost: u64,
+    term: u64,
+) -> io::Result<()> {
     let list = [i as u64, cost, h.terms as u64];
-    run_output::write_line(b"variant", &list);
-    plain(h, ns, term as usize);
+    run_output::write_line(rt, b"variant", &list)?;
+    plain(rt, h, ns, term as usize)
 }
 
-fn all_kept(h: Held, ns: &[Name], costs: [u64; 9], found: [u64; 9], k: usize) {
+fn all_kept(
+    rt: &impl Print,
+    h: Held,
+    ns: &[Name],
+    costs: [u64; 9],
+    found: [u64; 9],
+    k: usize,
+) -> io::Result<()> {
     let mut i: usize = 0;
     while i < 9 {
         if i < k {
-            variant(h, ns, i + 1, costs[i], found[i]);
+            variant(rt, h, ns, i + 1, costs[i], found[i])?;
         }
         i += 1;
     }
+    Ok(())
 }
 
 // At most 9 variants of class 0 of sort 0, on an empty store, and their plain texts.
-fn variants(file: &[u8]) {
+fn variants(rt: &impl Print, file: &[u8]) -> io::Result<()> {
     let h = steps::empty();
     let ts = h.ts;
     let e = [0u8; name::WIDTH];
@@ -71,45 +89,45 @@ fn variants(file: &[u8]) {
     match answer {
         VariantsAnswer::Kept(k, passes, terms, symbols) => {
             let list = [k as u64, passes];
-            run_output::write_line(b"variants", &list);
+            run_output::write_line(rt, b"variants", &list)?;
             let after = Held { ts, terms, symbols };
-            all_kept(after, &ns, costs, found, k);
+            all_kept(rt, after, &ns, costs, found, k)
         }
-        VariantsAnswer::Refused(refusal) => run_output::write_refusal(refusal),
+        VariantsAnswer::Refused(refusal) => run_output::write_refusal(rt, refusal),
     }
 }
 
 // Document 01, 'Given whole': Num and Add over the literal 5.
-fn whole() {
+fn whole(rt: &impl Print) -> io::Result<()> {
     let file = [
         17u8, 64, 48, 4, 0, 0, 0, 0, 0, 0, 0, 20, 16, 211, 157, 91, 64, 4, 35, 65, 100, 100, 128,
         0, 0, 0, 0, 0, 0, 1, 0, 32, 0, 1, 128, 0, 0, 0, 64, 0, 0, 4, 8, 2, 1, 1, 0,
     ];
-    best(&file, 2);
-    best(&file, 3);
+    best(rt, &file, 2)?;
+    best(rt, &file, 3)
 }
 
 // Wrap(0)->0 at no cost, then Leaf()->0.
-fn zero_loop() {
+fn zero_loop(rt: &impl Print) -> io::Result<()> {
     let file = [
         16u8, 192, 16, 0, 34, 43, 185, 48, 184, 64, 0, 0, 0, 0, 0, 0, 0, 0, 8, 8, 152, 202, 194,
         204, 0, 0, 8, 0, 0, 0, 2, 0, 0,
     ];
-    best(&file, 0);
-    variants(&file);
+    best(rt, &file, 0)?;
+    variants(rt, &file)
 }
 
 // Only Wrap(0)->0.
-fn only_loop() {
+fn only_loop(rt: &impl Print) -> io::Result<()> {
     let file = [
         16u8, 192, 16, 0, 18, 43, 185, 48, 184, 64, 0, 0, 0, 0, 0, 0, 0, 0, 8, 0, 8, 0, 0, 0,
     ];
-    best(&file, 0);
-    variants(&file);
+    best(rt, &file, 0)?;
+    variants(rt, &file)
 }
 
-fn main() {
-    whole();
-    zero_loop();
-    only_loop();
+fn main(rt: HostRuntime) -> io::Result<()> {
+    whole(&rt)?;
+    zero_loop(&rt)?;
+    only_loop(&rt)
 }

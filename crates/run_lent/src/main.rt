@@ -1,12 +1,14 @@
 // Each call of the store and both texts on lent structs over real data, a line a call. First 2,200 calls that fill a lent
 // slice of 1,024 term records and a lent slice of 128 name entries; then its size, every eighth term with its texts, and
 // what can be found: as the oracle answers them (oracle/lent-runs). Assumes nothing.
+#![tactic(auto)]
+
 use lent_calls::steps;
 use lent_calls::steps::{Held, Step};
 use lent_entries::Name;
-use libc::STDOUT_FILENO;
 use order::Ordering;
 use refusal::Refusal;
+use std::io;
 use term::{Added, Compared, Counted, Looked, Verdict};
 use term_rules::Term;
 
@@ -14,49 +16,43 @@ fn next(x: u64) -> u64 {
     (x % 2147483648 * 1103515245 + 12345) % 2147483648
 }
 
-fn write_term(i: usize) {
+fn write_term(rt: &impl Print, i: usize) -> io::Result<()> {
     let list = [i as u64];
-    run_output::write_line(b"term", &list);
+    run_output::write_line(rt, b"term", &list)
 }
 
-fn write_order(order: Ordering) {
+fn write_order(rt: &impl Print, order: Ordering) -> io::Result<()> {
     match order {
-        Ordering::Less => {
-            io::write_all(STDOUT_FILENO, b"less\n");
-        }
-        Ordering::Same => {
-            io::write_all(STDOUT_FILENO, b"equal\n");
-        }
-        Ordering::More => {
-            io::write_all(STDOUT_FILENO, b"greater\n");
-        }
+        Ordering::Less => rt.write_all(b"less\n"),
+        Ordering::Same => rt.write_all(b"equal\n"),
+        Ordering::More => rt.write_all(b"greater\n"),
     }
 }
 
 // Writes what an adding call answered; the store after it.
-fn added(s: Step, n: usize, m: usize) -> Held {
+fn added(rt: &impl Print, s: Step, n: usize, m: usize) -> io::Result<Held> {
     let ts = s.ts;
     let answer = s.answer;
     match answer {
         Added::Term(i, terms, symbols) => {
-            write_term(i);
-            Held { ts, terms, symbols }
+            write_term(rt, i)?;
+            Ok(Held { ts, terms, symbols })
         }
         Added::Refused(refusal) => {
-            run_output::write_refusal(refusal);
-            Held {
+            run_output::write_refusal(rt, refusal)?;
+            Ok(Held {
                 ts,
                 terms: n,
                 symbols: m,
-            }
+            })
         }
     }
 }
 
-fn looked(answer: Looked) {
+fn looked(rt: &impl Print, answer: Looked) -> io::Result<()> {
     match answer {
-        Looked::Term(i) => write_term(i),
-        Looked::Refused(refusal) => run_output::write_refusal(refusal),
+        Looked::Term(i) => write_term(rt, i),
+        Looked::Refused(refusal) => run_output::write_refusal(rt, refusal),
     }
 }
 
@@ -76,13 +72,13 @@ fn literal(x: u64) -> i64 {
     n as i64
 }
 
-fn add_literal(h: Held, ns: &[Name], z: i64) -> Held {
+fn add_literal(rt: &impl Print, h: Held, ns: &[Name], z: i64) -> io::Result<Held> {
     let ts = h.ts;
     let s = steps::add_literal(ts, ns, h.terms, h.symbols, z);
-    added(s, h.terms, h.symbols)
+    added(rt, s, h.terms, h.symbols)
 }
 
-fn add_variable(h: Held, ns: &mut [Name], x: u64) -> Held {
+fn add_variable(rt: &impl Print, h: Held, ns: &mut [Name], x: u64) -> io::Result<Held> {
     let ts = h.ts;
     let name = [
         118,
@@ -90,40 +86,49 @@ fn add_variable(h: Held, ns: &mut [Name], x: u64) -> Held {
         run_output::digit(x / 256 % 4),
     ];
     let s = steps::add_variable(ts, ns, h.terms, h.symbols, &name);
-    added(s, h.terms, h.symbols)
+    added(rt, s, h.terms, h.symbols)
 }
 
-fn add_application(h: Held, ns: &mut [Name], x: u64, i: usize) -> Held {
+fn add_application(
+    rt: &impl Print,
+    h: Held,
+    ns: &mut [Name],
+    x: u64,
+    i: usize,
+) -> io::Result<Held> {
     let ts = h.ts;
     let name = [102, run_output::digit(x / 16), run_output::digit(x / 512)];
     let m = i as u64 / 2 + 1;
     let children = [x / 64 % m, x / 2048 % m, x / 64 % m];
     let n = (x / 16 % 4) as usize;
     let s = steps::add_application(ts, ns, h.terms, h.symbols, &name, &children[..n]);
-    added(s, h.terms, h.symbols)
+    added(rt, s, h.terms, h.symbols)
 }
 
-fn find_application(h: Held, ns: &[Name], x: u64, i: usize) {
+fn find_application(rt: &impl Print, h: Held, ns: &[Name], x: u64, i: usize) -> io::Result<()> {
     let ts = h.ts;
     let name = [102, run_output::digit(x / 16), run_output::digit(x / 512)];
     let m = i as u64 / 2 + 1;
     let children = [x / 64 % m, x / 2048 % m, x / 64 % m];
     let n = (x / 16 % 4) as usize;
-    looked(steps::find_application(ts, ns, h.terms, h.symbols, &name, &children[..n]));
+    looked(
+        rt,
+        steps::find_application(ts, ns, h.terms, h.symbols, &name, &children[..n]),
+    )
 }
 
-fn compare(h: Held, ns: &[Name], x: u64) {
+fn compare(rt: &impl Print, h: Held, ns: &[Name], x: u64) -> io::Result<()> {
     let ts = h.ts;
     let a = (x / 64 % 1040) as usize;
     let b = (x / 4096 % 1040) as usize;
     let answer = steps::compare(ts, ns, h.terms, h.symbols, a, b);
     match answer {
-        Compared::Order(order) => write_order(order),
-        Compared::Refused(refusal) => run_output::write_refusal(refusal),
+        Compared::Order(order) => write_order(rt, order),
+        Compared::Refused(refusal) => run_output::write_refusal(rt, refusal),
     }
 }
 
-fn sort(h: Held, ns: &[Name], x: u64) {
+fn sort(rt: &impl Print, h: Held, ns: &[Name], x: u64) -> io::Result<()> {
     let ts = h.ts;
     let mut list = [
         x / 64 % 1024,
@@ -133,70 +138,69 @@ fn sort(h: Held, ns: &[Name], x: u64) {
     ];
     let answer = steps::sort(ts, ns, h.terms, h.symbols, &mut list);
     match answer {
-        Verdict::Done => run_output::write_line(b"sorted", &list),
-        Verdict::Refused(refusal) => run_output::write_refusal(refusal),
+        Verdict::Done => run_output::write_line(rt, b"sorted", &list),
+        Verdict::Refused(refusal) => run_output::write_refusal(rt, refusal),
     }
 }
 
 // A lookup or a comparison.
-fn look(h: Held, ns: &[Name], x: u64, i: usize) {
+fn look(rt: &impl Print, h: Held, ns: &[Name], x: u64, i: usize) -> io::Result<()> {
     if x / 16 % 2 == 0 {
-        find_application(h, ns, x, i);
-        return;
+        return find_application(rt, h, ns, x, i);
     }
-    compare(h, ns, x);
+    compare(rt, h, ns, x)
 }
 
 // Makes the call of `x`, after `i` calls; the store after it.
-fn turn(h: Held, ns: &mut [Name], x: u64, i: usize) -> Held {
+fn turn(rt: &impl Print, h: Held, ns: &mut [Name], x: u64, i: usize) -> io::Result<Held> {
     let which = x / 1048576 % 8;
     if which == 0 {
-        return add_variable(h, ns, x);
+        return add_variable(rt, h, ns, x);
     }
     if which == 1 {
-        return add_literal(h, ns, literal(x));
+        return add_literal(rt, h, ns, literal(x));
     }
     if which < 6 {
-        return add_application(h, ns, x, i);
+        return add_application(rt, h, ns, x, i);
     }
     if which == 6 {
-        look(h, ns, x, i);
-        return h;
+        look(rt, h, ns, x, i)?;
+        return Ok(h);
     }
-    sort(h, ns, x);
-    h
+    sort(rt, h, ns, x)?;
+    Ok(h)
 }
 
-fn turns(ns: &mut [Name]) -> Held {
+fn turns(rt: &impl Print, ns: &mut [Name]) -> io::Result<Held> {
     let mut h = steps::empty();
     let mut x: u64 = 1;
     let mut i: usize = 0;
     while i < 2200 {
         x = next(x);
-        h = turn(h, ns, x, i);
+        h = turn(rt, h, ns, x, i)?;
         i += 1;
     }
-    h
+    Ok(h)
 }
 
-fn size(h: Held, ns: &[Name]) {
+fn size(rt: &impl Print, h: Held, ns: &[Name]) -> io::Result<()> {
     let ts = h.ts;
     match steps::size(ts, ns, h.terms, h.symbols) {
         Counted::Terms(n) => {
             let list = [n as u64];
-            run_output::write_line(b"size", &list);
+            run_output::write_line(rt, b"size", &list)
         }
-        Counted::Refused(refusal) => run_output::write_refusal(refusal),
+        Counted::Refused(refusal) => run_output::write_refusal(rt, refusal),
     }
 }
 
-fn write_literal(z: i64) {
+fn write_literal(rt: &impl Print, z: i64) -> io::Result<()> {
     if 20 < decimal::literal_length(z) {
-        return;
+        return Ok(());
     }
     let mut digits = [0u8; 20];
     let n = decimal::put_literal(&mut digits, z);
-    io::write_all(STDOUT_FILENO, &digits[..n]);
+    rt.write_all(&digits[..n])
 }
 
 fn wide(x: u8) -> usize {
@@ -204,125 +208,126 @@ fn wide(x: u8) -> usize {
 }
 
 // The name of symbol `k`.
-fn write_name(ns: &[Name], k: u64) {
+fn write_name(rt: &impl Print, ns: &[Name], k: u64) -> io::Result<()> {
     let mut names = [0u8; name::TABLE];
     lent_entries::load_names(ns, &mut names);
     if 127 < k {
-        return;
+        return Ok(());
     }
     let at = k as usize * name::WIDTH;
     let n = wide(names[at]);
     if 31 < n {
-        return;
+        return Ok(());
     }
     let a = at + 1;
     let e = a + n;
-    io::write_all(STDOUT_FILENO, &names[a..e]);
+    rt.write_all(&names[a..e])
 }
 
-fn write_record(t: Term, ns: &[Name]) {
+fn write_record(rt: &impl Print, t: Term, ns: &[Name]) -> io::Result<()> {
     if t.kind == 0 {
-        io::write_all(STDOUT_FILENO, b"literal ");
-        write_literal(t.literal);
-        return;
+        rt.write_all(b"literal ")?;
+        return write_literal(rt, t.literal);
     }
     if t.kind == 1 {
-        io::write_all(STDOUT_FILENO, b"variable ");
-        write_name(ns, t.symbol);
-        return;
+        rt.write_all(b"variable ")?;
+        return write_name(rt, ns, t.symbol);
     }
-    io::write_all(STDOUT_FILENO, b"app ");
-    write_name(ns, t.symbol);
+    rt.write_all(b"app ")?;
+    write_name(rt, ns, t.symbol)?;
     let children = t.children;
-    run_output::write_list(&children, t.count as usize);
+    run_output::write_list(rt, &children, t.count as usize)
 }
 
-fn get(h: Held, ns: &[Name], t: usize) {
+fn get(rt: &impl Print, h: Held, ns: &[Name], t: usize) -> io::Result<()> {
     let ts = h.ts;
     let got = steps::get(ts, ns, h.terms, h.symbols, t);
     let verdict = got.verdict;
     let record = got.term;
     match verdict {
         Verdict::Done => {
-            write_record(record, ns);
-            io::write_all(STDOUT_FILENO, b"\n");
+            write_record(rt, record, ns)?;
+            rt.write_all(b"\n")
         }
-        Verdict::Refused(refusal) => run_output::write_refusal(refusal),
+        Verdict::Refused(refusal) => run_output::write_refusal(rt, refusal),
     }
 }
 
-fn plain(h: Held, ns: &[Name], t: usize) {
+fn plain(rt: &impl Print, h: Held, ns: &[Name], t: usize) -> io::Result<()> {
     let ts = h.ts;
     let mut out = [0u8; 4096];
     let answer = steps::plain_text(ts, ns, h.terms, h.symbols, t, &mut out);
-    run_output::write_plain(answer, &out);
+    run_output::write_plain(rt, answer, &out)
 }
 
 // With the zero flag.
-fn bound(h: Held, ns: &[Name], t: usize) {
+fn bound(rt: &impl Print, h: Held, ns: &[Name], t: usize) -> io::Result<()> {
     let ts = h.ts;
     let mut out = [0u8; 4096];
     let answer = steps::let_text(ts, ns, h.terms, h.symbols, t, b"", b"t", 0, true, &mut out);
-    run_output::write_let(answer, &out);
+    run_output::write_let(rt, answer, &out)
 }
 
 // With a prefix, and start counts on both sides of their limit.
-fn counted(h: Held, ns: &[Name], t: usize) {
+fn counted(rt: &impl Print, h: Held, ns: &[Name], t: usize) -> io::Result<()> {
     let ts = h.ts;
     let mut out = [0u8; 4096];
     let start = 4294966000 + (t % 2048) as u64;
     let answer = steps::let_text(
         ts, ns, h.terms, h.symbols, t, b"p-", b"t", start, false, &mut out,
     );
-    run_output::write_let(answer, &out);
+    run_output::write_let(rt, answer, &out)
 }
 
 // Every eighth term and its texts, and the number past the last.
-fn all_terms(h: Held, ns: &[Name]) {
+fn all_terms(rt: &impl Print, h: Held, ns: &[Name]) -> io::Result<()> {
     let mut t: usize = 0;
     while t < 1025 {
-        get(h, ns, t);
-        plain(h, ns, t);
-        bound(h, ns, t);
-        counted(h, ns, t);
+        get(rt, h, ns, t)?;
+        plain(rt, h, ns, t)?;
+        bound(rt, h, ns, t)?;
+        counted(rt, h, ns, t)?;
         t += 8;
     }
+    Ok(())
 }
 
-fn find_literal(h: Held, ns: &[Name], x: u64) {
+fn find_literal(rt: &impl Print, h: Held, ns: &[Name], x: u64) -> io::Result<()> {
     let ts = h.ts;
     let z = value(x);
-    looked(steps::find_literal(ts, ns, h.terms, h.symbols, z));
+    looked(rt, steps::find_literal(ts, ns, h.terms, h.symbols, z))
 }
 
-fn find_variable(h: Held, ns: &[Name], x: u64) {
+fn find_variable(rt: &impl Print, h: Held, ns: &[Name], x: u64) -> io::Result<()> {
     let ts = h.ts;
     let name = [118, run_output::digit(x), 48];
-    looked(steps::find_variable(ts, ns, h.terms, h.symbols, &name));
+    looked(rt, steps::find_variable(ts, ns, h.terms, h.symbols, &name))
 }
 
-fn all_literals(h: Held, ns: &[Name]) {
+fn all_literals(rt: &impl Print, h: Held, ns: &[Name]) -> io::Result<()> {
     let mut x: u64 = 0;
     while x < 16 {
-        find_literal(h, ns, x * 16);
+        find_literal(rt, h, ns, x * 16)?;
         x += 1;
     }
+    Ok(())
 }
 
-fn all_variables(h: Held, ns: &[Name]) {
+fn all_variables(rt: &impl Print, h: Held, ns: &[Name]) -> io::Result<()> {
     let mut x: u64 = 0;
     while x < 10 {
-        find_variable(h, ns, x);
+        find_variable(rt, h, ns, x)?;
         x += 1;
     }
+    Ok(())
 }
 
-fn main() {
+fn main(rt: HostRuntime) -> io::Result<()> {
     let e = [0u8; name::WIDTH];
     let mut ns = [e; 128];
-    let h = turns(&mut ns);
-    size(h, &ns);
-    all_terms(h, &ns);
-    all_literals(h, &ns);
-    all_variables(h, &ns);
+    let h = turns(&rt, &mut ns)?;
+    size(&rt, h, &ns)?;
+    all_terms(&rt, h, &ns)?;
+    all_literals(&rt, h, &ns)?;
+    all_variables(&rt, h, &ns)
 }

@@ -2,7 +2,9 @@
 // answer, a line a call: how many terms there are then, or the refusal; and the list for the numbers, which held nines.
 // The adds are the literal 5, the variable `x`, and the third one. The file `stdout` beside src/ holds what R-term-18 says
 // of them, written by hand.
-use libc::STDOUT_FILENO;
+#![tactic(auto)]
+
+use std::io;
 use term_many::Many;
 
 fn digit(n: u64) -> u8 {
@@ -10,26 +12,26 @@ fn digit(n: u64) -> u8 {
 }
 
 // A number below 100.
-fn write_number(n: u64) {
+fn write_number(rt: &impl Print, n: u64) -> io::Result<()> {
     let two = [32, digit(n / 10), digit(n)];
-    io::write_all(STDOUT_FILENO, &two);
+    rt.write_all(&two)
 }
 
-fn write_answer(answer: Many) {
+fn write_answer(rt: &impl Print, answer: Many) -> io::Result<()> {
     match answer {
         Many::Added(terms, _) => {
-            io::write_all(STDOUT_FILENO, b"terms");
-            write_number(terms as u64);
+            rt.write_all(b"terms")?;
+            write_number(rt, terms as u64)
         }
         Many::Refused(refusal) => {
-            io::write_all(STDOUT_FILENO, b"refused");
-            write_number(refusal::number(refusal) as u64);
+            rt.write_all(b"refused")?;
+            write_number(rt, refusal::number(refusal) as u64)
         }
     }
 }
 
 // One call; the third add has this kind, symbol and count, and these first two children.
-fn three(kind: u64, symbol: u64, count: u64, a: u64, b: u64) {
+fn three(rt: &impl Print, kind: u64, symbol: u64, count: u64, a: u64, b: u64) -> io::Result<()> {
     let adds = [
         0u64, 0, 0, 0, 0, 0, 0, 0, 0, 0, 0, 1, 0, 0, 0, 0, 0, 0, 0, 0, 0, 0, kind, symbol, count,
         a, b, 0, 0, 0, 0, 0, 0,
@@ -55,22 +57,22 @@ fn three(kind: u64, symbol: u64, count: u64, a: u64, b: u64) {
         &labels,
         &mut numbers,
     );
-    write_answer(answer);
-    write_number(numbers[0]);
-    write_number(numbers[1]);
-    write_number(numbers[2]);
-    write_number(numbers[3]);
-    io::write_all(STDOUT_FILENO, b"\n");
+    write_answer(rt, answer)?;
+    write_number(rt, numbers[0])?;
+    write_number(rt, numbers[1])?;
+    write_number(rt, numbers[2])?;
+    write_number(rt, numbers[3])?;
+    rt.write_all(b"\n")
 }
 
-fn main() {
-    three(2, 1, 2, 1024, 1025);
-    three(2, 1, 2, 0, 1);
-    three(1, 0, 0, 0, 0);
-    three(2, 1, 2, 1024, 1026);
-    three(2, 1, 1, 2, 0);
-    three(3, 1, 2, 0, 1);
-    three(0, 0, 0, 0, 0);
-    three(2, 2, 2, 0, 1);
-    three(2, 1, 9, 0, 1);
+fn main(rt: HostRuntime) -> io::Result<()> {
+    three(&rt, 2, 1, 2, 1024, 1025)?;
+    three(&rt, 2, 1, 2, 0, 1)?;
+    three(&rt, 1, 0, 0, 0, 0)?;
+    three(&rt, 2, 1, 2, 1024, 1026)?;
+    three(&rt, 2, 1, 1, 2, 0)?;
+    three(&rt, 3, 1, 2, 0, 1)?;
+    three(&rt, 0, 0, 0, 0, 0)?;
+    three(&rt, 2, 2, 2, 0, 1)?;
+    three(&rt, 2, 1, 9, 0, 1)
 }

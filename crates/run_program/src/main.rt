@@ -1,10 +1,12 @@
 // The program's answers to many inputs in one run: a stream of inputs on standard input, the stream of their answers
 // on standard output. A stream has for each item its length, four bytes, the lowest first, then its bytes. It ends
 // with the input, at an item that is longer than 32,768 bytes or cut off, and after 1,000,000,000 items.
+#![tactic(auto)]
+
 ghost use Rattle.std.specs.Prelude.{◌≤◌, ◌<◌};
 
-use libc::{STDIN_FILENO, STDOUT_FILENO};
 use program_rules::replies::Answered;
+use std::io::Read;
 
 fn wide(x: u8) -> usize
     ensures { result ≤ 255 }
@@ -22,26 +24,26 @@ fn byte(x: usize) -> u8 {
 }
 
 // Reads the `n` bytes of an item to the start of `input`; whether they were there.
-fn read_item(input: &mut [u8], n: usize) -> bool {
+fn read_item(stdin: &mut impl Read, input: &mut [u8], n: usize) -> bool {
     if input.len() < n {
         return false;
     }
-    let got = io::read_full(STDIN_FILENO, &mut input[..n]);
+    let got = input::read_full(stdin, &mut input[..n]);
     got == n
 }
 
 // Writes a length.
-fn write_length(k: usize) -> bool {
+fn write_length(rt: &impl Print, k: usize) -> bool {
     let mut head = [0u8; 4];
     head[0] = byte(k);
     head[1] = byte(k / 256);
     head[2] = byte(k / 65536);
     head[3] = byte(k / 16777216);
-    io::write_all(STDOUT_FILENO, &head)
+    rt.write_all(&head).is_ok()
 }
 
 // Writes the answer to the first `n` bytes of `input`; whether it could be written.
-fn answer_item(input: &[u8], n: usize) -> bool {
+fn answer_item(rt: &impl Print, input: &[u8], n: usize) -> bool {
     if input.len() < n {
         return false;
     }
@@ -49,10 +51,10 @@ fn answer_item(input: &[u8], n: usize) -> bool {
     let answered = program::respond(&input[..n], &mut out);
     match answered {
         Answered::Written(k) => {
-            if !write_length(k) {
+            if !write_length(rt, k) {
                 return false;
             }
-            io::write_all(STDOUT_FILENO, &out[..k])
+            rt.write_all(&out[..k]).is_ok()
         }
         // None: the buffer has room for every output.
         Answered::Refused(_) => false,
@@ -60,24 +62,25 @@ fn answer_item(input: &[u8], n: usize) -> bool {
 }
 
 // Answers the next item; whether there was one.
-fn one() -> bool {
+fn one(rt: &impl Print, stdin: &mut impl Read) -> bool {
     let mut head = [0u8; 4];
-    let h = io::read_full(STDIN_FILENO, &mut head);
+    let h = input::read_full(stdin, &mut head);
     if h < 4 {
         return false;
     }
     let n = length_in(&head);
     let mut input = [0u8; 32768];
-    if !read_item(&mut input, n) {
+    if !read_item(stdin, &mut input, n) {
         return false;
     }
-    answer_item(&input, n)
+    answer_item(rt, &input, n)
 }
 
-fn main() {
+fn main(rt: HostRuntime) {
+    let mut stdin = rt.stdin();
     let mut left: u64 = 1000000000;
     while 0 < left {
-        if !one() {
+        if !one(&rt, &mut stdin) {
             return;
         }
         left -= 1;

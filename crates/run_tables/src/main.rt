@@ -1,10 +1,13 @@
 // Reads each file of data/files.bin with `file::read` and writes its verdict, one digit a file: 0 where it is
 // accepted, else the refusal's number. The files and the verdicts in `stdout` are the recorded answers of the oracle
 // (examples/recorded). In files.bin each file stands after its length, two bytes, the higher first.
+#![tactic(auto)]
+
 ghost use Rattle.std.specs.Prelude.{◌≡◌, ◌+◌, ◌≤◌, length, take};
 
 use file_reader::Outcome;
-use libc::STDOUT_FILENO;
+use std::fs::File;
+use std::io;
 
 // 0 where the file is accepted, else the number of its refusal.
 fn verdict(file: &[u8]) -> u8 {
@@ -87,17 +90,16 @@ fn verdicts(s: &[u8], out: &mut [u8]) -> usize
     k
 }
 
-fn main() {
-    let file = os::open_read(b"files.bin");
-    if file < 0 {
-        os::fail(b"files.bin");
-        return;
-    }
+fn main(rt: HostRuntime) -> io::Result<()> {
+    let mut file = match File::open(&rt, "files.bin") {
+        Ok(file) => file,
+        Err(why) => return eprintln!(rt; "files.bin: {why}"),
+    };
     let mut buffer = [0u8; 262144];
-    let n = io::read_full(file, &mut buffer);
-    libc::close(file);
+    let n = input::read_full(&mut file, &mut buffer);
+    drop(file);
     let mut out = [0u8; 4096];
     let k = verdicts(&buffer[..n], &mut out);
-    io::write_all(STDOUT_FILENO, &out[..k]);
-    io::write_all(STDOUT_FILENO, b"\n");
+    rt.write_all(&out[..k])?;
+    rt.write_all(b"\n")
 }

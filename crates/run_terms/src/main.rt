@@ -1,13 +1,15 @@
 // Makes 2,000 calls on one lent store of 40 records and 12 names and writes each answer, a line a call. The calls are
 // made of the numbers x -> (x * 1103515245 + 12345) mod 2^31 from 1. `stdout` holds what the oracle answers to them
 // (oracle/term-runs).
-use libc::STDOUT_FILENO;
+#![tactic(auto)]
+
 use order::Ordering;
 use refusal::Refusal;
+use std::io;
 use term::{Added, Compared, Looked, Verdict};
 
 // How many terms and symbols the store has.
-#[derive(Drop)]
+#[derive(Clone, Copy)]
 struct Counts {
     terms: usize,
     symbols: usize,
@@ -22,64 +24,57 @@ fn digit(n: u64) -> u8 {
 }
 
 // A number below 100.
-fn write_number(n: u64) {
+fn write_number(rt: &impl Print, n: u64) -> io::Result<()> {
     if n < 10 {
         let one = [digit(n)];
-        io::write_all(STDOUT_FILENO, &one);
-        return;
+        return rt.write_all(&one);
     }
     let two = [digit(n / 10), digit(n)];
-    io::write_all(STDOUT_FILENO, &two);
+    rt.write_all(&two)
 }
 
-fn write_term(i: usize) {
-    io::write_all(STDOUT_FILENO, b"term ");
-    write_number(i as u64);
-    io::write_all(STDOUT_FILENO, b"\n");
+fn write_term(rt: &impl Print, i: usize) -> io::Result<()> {
+    rt.write_all(b"term ")?;
+    write_number(rt, i as u64)?;
+    rt.write_all(b"\n")
 }
 
-fn write_refusal(refusal: Refusal) {
-    io::write_all(STDOUT_FILENO, b"refused ");
-    write_number(refusal::number(refusal) as u64);
-    io::write_all(STDOUT_FILENO, b"\n");
+fn write_refusal(rt: &impl Print, refusal: Refusal) -> io::Result<()> {
+    rt.write_all(b"refused ")?;
+    write_number(rt, refusal::number(refusal) as u64)?;
+    rt.write_all(b"\n")
 }
 
-fn write_order(order: Ordering) {
+fn write_order(rt: &impl Print, order: Ordering) -> io::Result<()> {
     match order {
-        Ordering::Less => {
-            io::write_all(STDOUT_FILENO, b"less\n");
-        }
-        Ordering::Same => {
-            io::write_all(STDOUT_FILENO, b"equal\n");
-        }
-        Ordering::More => {
-            io::write_all(STDOUT_FILENO, b"greater\n");
-        }
+        Ordering::Less => rt.write_all(b"less\n"),
+        Ordering::Same => rt.write_all(b"equal\n"),
+        Ordering::More => rt.write_all(b"greater\n"),
     }
 }
 
-fn write_sorted(a: u64, b: u64, c: u64, d: u64) {
-    io::write_all(STDOUT_FILENO, b"sorted ");
-    write_number(a);
-    io::write_all(STDOUT_FILENO, b" ");
-    write_number(b);
-    io::write_all(STDOUT_FILENO, b" ");
-    write_number(c);
-    io::write_all(STDOUT_FILENO, b" ");
-    write_number(d);
-    io::write_all(STDOUT_FILENO, b"\n");
+fn write_sorted(rt: &impl Print, a: u64, b: u64, c: u64, d: u64) -> io::Result<()> {
+    rt.write_all(b"sorted ")?;
+    write_number(rt, a)?;
+    rt.write_all(b" ")?;
+    write_number(rt, b)?;
+    rt.write_all(b" ")?;
+    write_number(rt, c)?;
+    rt.write_all(b" ")?;
+    write_number(rt, d)?;
+    rt.write_all(b"\n")
 }
 
 // Writes what an adding call answered; the counts after it.
-fn added(answer: Added, counts: Counts) -> Counts {
+fn added(rt: &impl Print, answer: Added, counts: Counts) -> io::Result<Counts> {
     match answer {
         Added::Term(i, terms, symbols) => {
-            write_term(i);
-            Counts { terms, symbols }
+            write_term(rt, i)?;
+            Ok(Counts { terms, symbols })
         }
         Added::Refused(refusal) => {
-            write_refusal(refusal);
-            counts
+            write_refusal(rt, refusal)?;
+            Ok(counts)
         }
     }
 }
@@ -92,40 +87,43 @@ fn value(x: u64) -> i64 {
 }
 
 fn add_literal(
+    rt: &impl Print,
     records: &mut [u64],
     literals: &mut [i64],
     names: &[u8],
     counts: Counts,
     x: u64,
-) -> Counts {
+) -> io::Result<Counts> {
     let literal = value(x);
     let terms = counts.terms;
     let symbols = counts.symbols;
     let answer = term::add_literal(records, literals, names, terms, symbols, literal);
-    added(answer, counts)
+    added(rt, answer, counts)
 }
 
 fn add_variable(
+    rt: &impl Print,
     records: &mut [u64],
     literals: &mut [i64],
     names: &mut [u8],
     counts: Counts,
     x: u64,
-) -> Counts {
+) -> io::Result<Counts> {
     let name = [118, digit(x / 16)];
     let terms = counts.terms;
     let symbols = counts.symbols;
     let answer = term::add_variable(records, literals, names, terms, symbols, &name);
-    added(answer, counts)
+    added(rt, answer, counts)
 }
 
 fn add_application(
+    rt: &impl Print,
     records: &mut [u64],
     literals: &mut [i64],
     names: &mut [u8],
     counts: Counts,
     x: u64,
-) -> Counts {
+) -> io::Result<Counts> {
     let name = [102, digit(x / 16 % 3)];
     let children = [x / 64 % 32, x / 2048 % 32, x / 65536 % 32];
     let n = (x / 16 % 4) as usize;
@@ -140,10 +138,17 @@ fn add_application(
         &name,
         &children[..n],
     );
-    added(answer, counts)
+    added(rt, answer, counts)
 }
 
-fn find_application(records: &[u64], literals: &[i64], names: &[u8], counts: Counts, x: u64) {
+fn find_application(
+    rt: &impl Print,
+    records: &[u64],
+    literals: &[i64],
+    names: &[u8],
+    counts: Counts,
+    x: u64,
+) -> io::Result<()> {
     let name = [102, digit(x / 16 % 3)];
     let children = [x / 64 % 32, x / 2048 % 32, x / 65536 % 32];
     let n = (x / 16 % 4) as usize;
@@ -159,65 +164,85 @@ fn find_application(records: &[u64], literals: &[i64], names: &[u8], counts: Cou
         &children[..n],
     );
     match answer {
-        Looked::Term(i) => write_term(i),
-        Looked::Refused(refusal) => write_refusal(refusal),
+        Looked::Term(i) => write_term(rt, i),
+        Looked::Refused(refusal) => write_refusal(rt, refusal),
     }
 }
 
-fn compare(records: &[u64], literals: &[i64], names: &[u8], counts: Counts, x: u64) {
+fn compare(
+    rt: &impl Print,
+    records: &[u64],
+    literals: &[i64],
+    names: &[u8],
+    counts: Counts,
+    x: u64,
+) -> io::Result<()> {
     let a = (x / 64 % 40) as usize;
     let b = (x / 4096 % 40) as usize;
     let terms = counts.terms;
     let symbols = counts.symbols;
     let answer = term::compare(records, literals, names, terms, symbols, a, b);
     match answer {
-        Compared::Order(order) => write_order(order),
-        Compared::Refused(refusal) => write_refusal(refusal),
+        Compared::Order(order) => write_order(rt, order),
+        Compared::Refused(refusal) => write_refusal(rt, refusal),
     }
 }
 
-fn sort(records: &[u64], literals: &[i64], names: &[u8], counts: Counts, x: u64) {
+fn sort(
+    rt: &impl Print,
+    records: &[u64],
+    literals: &[i64],
+    names: &[u8],
+    counts: Counts,
+    x: u64,
+) -> io::Result<()> {
     let mut list = [x / 64 % 40, x / 2048 % 40, x / 65536 % 40, x / 131072 % 40];
     let terms = counts.terms;
     let symbols = counts.symbols;
     let answer = term::sort(records, literals, names, terms, symbols, &mut list);
     match answer {
-        Verdict::Done => write_sorted(list[0], list[1], list[2], list[3]),
-        Verdict::Refused(refusal) => write_refusal(refusal),
+        Verdict::Done => write_sorted(rt, list[0], list[1], list[2], list[3]),
+        Verdict::Refused(refusal) => write_refusal(rt, refusal),
     }
 }
 
 // Makes the call of `x`; the counts after it.
 fn turn(
+    rt: &impl Print,
     records: &mut [u64],
     literals: &mut [i64],
     names: &mut [u8],
     counts: Counts,
     x: u64,
-) -> Counts {
+) -> io::Result<Counts> {
     let which = x / 1048576 % 8;
     if which < 2 {
-        return add_literal(records, literals, names, counts, x);
+        return add_literal(rt, records, literals, names, counts, x);
     }
     if which == 2 {
-        return add_variable(records, literals, names, counts, x);
+        return add_variable(rt, records, literals, names, counts, x);
     }
     if which < 5 {
-        return add_application(records, literals, names, counts, x);
+        return add_application(rt, records, literals, names, counts, x);
     }
     if which == 5 {
-        find_application(records, literals, names, counts, x);
-        return counts;
+        find_application(rt, records, literals, names, counts, x)?;
+        return Ok(counts);
     }
     if which == 6 {
-        compare(records, literals, names, counts, x);
-        return counts;
+        compare(rt, records, literals, names, counts, x)?;
+        return Ok(counts);
     }
-    sort(records, literals, names, counts, x);
-    counts
+    sort(rt, records, literals, names, counts, x)?;
+    Ok(counts)
 }
 
-fn turns(records: &mut [u64], literals: &mut [i64], names: &mut [u8]) {
+fn turns(
+    rt: &impl Print,
+    records: &mut [u64],
+    literals: &mut [i64],
+    names: &mut [u8],
+) -> io::Result<()> {
     let mut counts = Counts {
         terms: 0,
         symbols: 0,
@@ -226,14 +251,15 @@ fn turns(records: &mut [u64], literals: &mut [i64], names: &mut [u8]) {
     let mut i: usize = 0;
     while i < 2000 {
         x = next(x);
-        counts = turn(records, literals, names, counts, x);
+        counts = turn(rt, records, literals, names, counts, x)?;
         i += 1;
     }
+    Ok(())
 }
 
-fn main() {
+fn main(rt: HostRuntime) -> io::Result<()> {
     let mut records = [0u64; 440];
     let mut literals = [0i64; 40];
     let mut names = [0u8; 384];
-    turns(&mut records, &mut literals, &mut names);
+    turns(&rt, &mut records, &mut literals, &mut names)
 }

@@ -8,9 +8,12 @@
 // bytes each, how many records are lent, terms, symbols, the term and the room; eight bytes, the start count; prefix;
 // hint; and the store, if it is the call's own: two bytes for each number of the records, eight bytes for each literal,
 // and the names.
+#![tactic(auto)]
+
 ghost use Rattle.std.specs.Prelude.{◌+◌, ◌≤◌, length};
 
-use libc::STDOUT_FILENO;
+use std::fs::File;
+use std::io;
 use text_whole::{LetText, Text};
 
 fn wide(x: u8) -> usize
@@ -58,33 +61,40 @@ fn load_literals(literals: &mut [i64], s: &[u8], a: usize)
     }
 }
 
-fn write_number(x: u64) {
+fn write_number(rt: &impl Print, x: u64) -> io::Result<()> {
     if 20 < decimal::digits_length(x) {
-        return;
+        return Ok(());
     }
     let mut digits = [0u8; 20];
     let n = decimal::put_digits(&mut digits, x);
-    io::write_all(STDOUT_FILENO, &digits[..n]);
+    rt.write_all(&digits[..n])
 }
 
-fn write_refused(why: refusal::Refusal) {
-    io::write_all(STDOUT_FILENO, b"refused ");
-    write_number(refusal::number(why) as u64);
-    io::write_all(STDOUT_FILENO, b"\n");
+fn write_refused(rt: &impl Print, why: refusal::Refusal) -> io::Result<()> {
+    rt.write_all(b"refused ")?;
+    write_number(rt, refusal::number(why) as u64)?;
+    rt.write_all(b"\n")
 }
 
 // A length, and that much of `out` on the lines after it.
-fn write_text(out: &[u8], n: usize) {
-    write_number(n as u64);
-    io::write_all(STDOUT_FILENO, b"\n");
+fn write_text(rt: &impl Print, out: &[u8], n: usize) -> io::Result<()> {
+    write_number(rt, n as u64)?;
+    rt.write_all(b"\n")?;
     if n <= out.len() {
-        io::write_all(STDOUT_FILENO, &out[..n]);
+        rt.write_all(&out[..n])?;
     }
-    io::write_all(STDOUT_FILENO, b"\n");
+    rt.write_all(b"\n")
 }
 
 // The call for plain text that `s` describes.
-fn run_plain(s: &[u8], records: &[u64], literals: &[i64], names: &[u8], out: &mut [u8])
+fn run_plain(
+    rt: &impl Print,
+    s: &[u8],
+    records: &[u64],
+    literals: &[i64],
+    names: &[u8],
+    out: &mut [u8],
+) -> io::Result<()>
     requires { 22 ≤ length s.now }
 {
     let terms = pair(s, 6);
@@ -92,15 +102,23 @@ fn run_plain(s: &[u8], records: &[u64], literals: &[i64], names: &[u8], out: &mu
     let term = pair(s, 10);
     match text::plain_text(records, literals, names, terms, symbols, term, out) {
         Text::Written(n) => {
-            io::write_all(STDOUT_FILENO, b"plain ");
-            write_text(out, n)
+            rt.write_all(b"plain ")?;
+            write_text(rt, out, n)
         }
-        Text::Refused(why) => write_refused(why),
+        Text::Refused(why) => write_refused(rt, why),
     }
 }
 
 // The call for let text that `s` describes; prefix and hint stand in `stem`.
-fn run_let(s: &[u8], stem: &[u8], records: &[u64], literals: &[i64], names: &[u8], out: &mut [u8])
+fn run_let(
+    rt: &impl Print,
+    s: &[u8],
+    stem: &[u8],
+    records: &[u64],
+    literals: &[i64],
+    names: &[u8],
+    out: &mut [u8],
+) -> io::Result<()>
     requires { 22 ≤ length s.now }
 {
     let terms = pair(s, 6);
@@ -109,7 +127,7 @@ fn run_let(s: &[u8], stem: &[u8], records: &[u64], literals: &[i64], names: &[u8
     let start = number(s, 14, 8);
     let cut = wide(s[2]);
     if stem.len() < cut {
-        return;
+        return Ok(());
     }
     match text::let_text(
         records,
@@ -125,28 +143,35 @@ fn run_let(s: &[u8], stem: &[u8], records: &[u64], literals: &[i64], names: &[u8
         out,
     ) {
         LetText::Written(n, next) => {
-            io::write_all(STDOUT_FILENO, b"let ");
-            write_number(next);
-            io::write_all(STDOUT_FILENO, b" ");
-            write_text(out, n)
+            rt.write_all(b"let ")?;
+            write_number(rt, next)?;
+            rt.write_all(b" ")?;
+            write_text(rt, out, n)
         }
-        LetText::Refused(why) => write_refused(why),
+        LetText::Refused(why) => write_refused(rt, why),
     }
 }
 
 // The call that `s` describes, on its store.
-fn run(s: &[u8], stem: &[u8], records: &[u64], literals: &[i64], names: &[u8], out: &mut [u8])
+fn run(
+    rt: &impl Print,
+    s: &[u8],
+    stem: &[u8],
+    records: &[u64],
+    literals: &[i64],
+    names: &[u8],
+    out: &mut [u8],
+) -> io::Result<()>
     requires { 22 ≤ length s.now }
 {
     let room = pair(s, 12);
     if out.len() < room {
-        return;
+        return Ok(());
     }
     if s[0] % 2 == 0 {
-        run_plain(s, records, literals, names, &mut out[..room]);
-        return;
+        return run_plain(rt, s, records, literals, names, &mut out[..room]);
     }
-    run_let(s, stem, records, literals, names, &mut out[..room]);
+    run_let(rt, s, stem, records, literals, names, &mut out[..room])
 }
 
 // Whether a call brings its own store.
@@ -158,79 +183,94 @@ fn has_store(s: &[u8]) -> bool {
 }
 
 // Lays out the store of the call `held`, and makes the call that `s` describes on it.
-fn lay(held: &[u8], s: &[u8], out: &mut [u8]) {
+fn lay(rt: &impl Print, held: &[u8], s: &[u8], out: &mut [u8]) -> io::Result<()> {
     if held.len() < 22 {
-        return;
+        return Ok(());
     }
     if s.len() < 22 {
-        return;
+        return Ok(());
     }
     let q = 22 + wide(s[2]) + wide(s[3]);
     let p = 22 + wide(held[2]) + wide(held[3]);
     let r = pair(held, 4);
     if s.len() < q {
-        return;
+        return Ok(());
     }
     if 1040 < r {
-        return;
+        return Ok(());
     }
     let m = r * term_layout::WIDTH;
     let a = p + m * 2;
     let b = a + r * 8;
     if held.len() < b {
-        return;
+        return Ok(());
     }
     let mut records = [0u64; 11440];
     load_records(&mut records, held, p);
     let mut literals = [0i64; 1040];
     load_literals(&mut literals, held, a);
-    run(s, &s[22..q], &records[..m], &literals[..r], &held[b..], out);
+    run(
+        rt,
+        s,
+        &s[22..q],
+        &records[..m],
+        &literals[..r],
+        &held[b..],
+        out,
+    )
 }
 
 // Makes the call that `call` describes on the store of the call from `b` to `c` of `s`.
-fn lay_on(s: &[u8], b: usize, c: usize, call: &[u8], out: &mut [u8]) {
+fn lay_on(
+    rt: &impl Print,
+    s: &[u8],
+    b: usize,
+    c: usize,
+    call: &[u8],
+    out: &mut [u8],
+) -> io::Result<()> {
     if c < b {
-        return;
+        return Ok(());
     }
     if s.len() < c {
-        return;
+        return Ok(());
     }
-    lay(&s[b..c], call, out);
+    lay(rt, &s[b..c], call, out)
 }
 
 // Makes each call of `s`; the store of the last that brought one stands from `b` to `c`.
-fn run_all(s: &[u8], out: &mut [u8]) {
+fn run_all(rt: &impl Print, s: &[u8], out: &mut [u8]) -> io::Result<()> {
     let mut p: usize = 0;
     let mut b: usize = 0;
     let mut c: usize = 0;
     while p < s.len() {
         if s.len() - p < 2 {
-            return;
+            return Ok(());
         }
         let a = p + 2;
         let n = pair(s, p);
         if s.len() - a < n {
-            return;
+            return Ok(());
         }
         let e = a + n;
         if has_store(&s[a..e]) {
             b = a;
             c = e;
         }
-        lay_on(s, b, c, &s[a..e], out);
+        lay_on(rt, s, b, c, &s[a..e], out)?;
         p = e;
     }
+    Ok(())
 }
 
-fn main() {
-    let file = os::open_read(b"calls.bin");
-    if file < 0 {
-        os::fail(b"calls.bin");
-        return;
-    }
+fn main(rt: HostRuntime) -> io::Result<()> {
+    let mut file = match File::open(&rt, "calls.bin") {
+        Ok(file) => file,
+        Err(why) => return eprintln!(rt; "calls.bin: {why}"),
+    };
     let mut buffer = [0u8; 327680];
-    let n = io::read_full(file, &mut buffer);
-    libc::close(file);
+    let n = input::read_full(&mut file, &mut buffer);
+    drop(file);
     let mut out = [0u8; 65536];
-    run_all(&buffer[..n], &mut out);
+    run_all(&rt, &buffer[..n], &mut out)
 }

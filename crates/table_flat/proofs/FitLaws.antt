@@ -153,9 +153,9 @@ module _ (sorts functions rows n : ℕ)
     }
 
     -- A child that is a class is one of the n.
-    children_in : Each (ChildIn n) (children_in kinds bases arities arguments row_functions cells r)
+    children-each : Each (ChildIn n) (children_in kinds bases arities arguments row_functions cells r)
     unfolding children_in child_number
-    children_in j l small =
+    children-each j l small =
         let a = arguments-length arities arguments cells f r arguments-room in
         let b = cells-length arities arguments cells f r (omega (arith, cells-room)) in
         let t : j < get_or arities f 0 =
@@ -199,4 +199,4 @@ module _ (sorts functions rows n : ℕ)
         (arities-are-lengths kinds bases declared costs outputs arities arguments row_functions cells order rows_fit)
         n v.few_classes w.few
         (λ k d. v.output_class (get_or order k 0) (w.below k d))
-        (λ k d. children_in (get_or order k 0) (w.below k d))
+        (λ k d. children-each (get_or order k 0) (w.below k d))

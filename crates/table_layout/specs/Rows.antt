@@ -1,6 +1,6 @@
 -- How the rows that a root sort reaches lie in one slice of numbers, in scan order: twelve numbers a row. An inner
 -- definition: the rows themselves are `Rows` of `choice_rules`. Assumes nothing: definitions.
-use Rattle.std.specs.Prelude.{◌≡◌, cond, List, ◌∷◌, map, ℕ, ◌+◌, ◌-◌, ◌*◌, ◌<◌, ◌≤◌, length, get_or, take, drop, ltb}
+use Rattle.std.specs.Prelude.{cond, List, ◌∷◌, map, ℕ, ◌+◌, ◌-◌, ◌*◌, ◌<◌, ◌≤◌, length, get_or, take, drop, ltb}
 use Rattle.std.proofs.Math.Seq.{paste}
 use Rattle.choice_rules.specs.Rows.{Child, literal, class, Row, tabulate}
 

@@ -1,5 +1,7 @@
 // How the rows that a root sort reaches lie in one slice of narrow numbers: their parts read, and the one place where
 // a row is put. No crate above this one knows where in a row a part stands, or how many numbers a row has.
+#![tactic(auto)]
+
 ghost use Rattle.std.specs.Prelude.{◌≡◌, ◌≤◌, length};
 ghost use Rattle.table_layout.specs.Rows.{
   HasRow,

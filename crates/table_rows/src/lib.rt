@@ -1,4 +1,6 @@
 // A table file and a root, as far as the extractor goes by them: the first fault, a literal, or a class and flat rows.
+#![tactic(auto)]
+
 ghost use Rattle.std.specs.Prelude.{◌≡◌, pos, replicate};
 ghost use Rattle.file_rules.specs.File.{table_at};
 ghost use Rattle.table_rows.specs.Flattened.{Space};

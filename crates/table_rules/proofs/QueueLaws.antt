@@ -11,7 +11,7 @@ use borrow.Author.Tests.{ltb-true, ltb-false, lt-ltb, le-ltb}
 use lib.Dec.{ltb}
 use lib.ListN.{length, get_or, take, drop, set, length-append, length-take, length-set, get_or-append}
 use lib.Seq.{drop-length, get_or-take}
-use Rattle.table_rules.specs.Order.{has, Within, Apart, none, more, picked, in_turn, join, visits}
+use Rattle.table_rules.specs.Order.{has, Within, Apart, none, picked, in_turn, join, visits}
 use Rattle.table_rules.proofs.HasLaws.{
   by-test,
   drop-step,

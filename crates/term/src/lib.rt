@@ -1,5 +1,7 @@
 // The term store: one number per term, for good (src/termdag.rs). Every call checks the lent store for itself, and a
 // refusal leaves all that is lent as it was.
+#![tactic(auto)]
+
 ghost use Rattle.std.specs.Prelude.{◌≡◌};
 ghost use Rattle.term_rules.specs.Lent.{store};
 ghost use Rattle.term_rules.specs.WellFormed.{well_formed};

@@ -10,7 +10,6 @@ use lib.ListN.{length, set}
 use lib.IntN.{ℤ, pos}
 use Rattle.name.specs.Name.{valid}
 use Rattle.name.specs.Entries.{entries_length, entry_room, find_name, put_name}
-use Rattle.name.specs.declared.Found.{Found}
 use Rattle.name.specs.declared.Found.TheVariants.{At, Missing}
 use Rattle.term_rules.specs.Lent.{Store, store, records_length, record_room, put_record, term_room, symbol_room}
 use Rattle.term_rules.specs.Nodes.{Node, literal, variable, application, record_of}

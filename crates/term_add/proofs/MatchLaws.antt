@@ -11,7 +11,6 @@ use lib.Seq.{length-take-le}
 use lib.IntN.{ℤ, pos}
 use Rattle.name.specs.Name.{same}
 use Rattle.name.specs.Entries.{Entries, name_at}
-use Rattle.name.specs.declared.Found.{Found}
 use Rattle.name.specs.declared.Found.TheVariants.{At, Missing}
 use Rattle.term_rules.specs.declared.Term.{Term}
 use Rattle.term_rules.specs.Lent.{Store, kind_at, symbol_no, arity_at, kids_at, record_in, record_at, symbol_at}

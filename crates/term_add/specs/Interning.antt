@@ -4,9 +4,8 @@ use Rattle.name.specs.Name.{same}
 use Rattle.name.specs.Entries.{entry_room}
 use Rattle.term_rules.specs.declared.Term.{Term}
 use Rattle.term_rules.specs.Lent.{Store, store, record_room, record_in, term_room}
-use Rattle.term_rules.specs.WellFormed.{same_int, well_formed, all_below}
-use Rattle.term_rules.specs.Nodes.{Node}
-use Rattle.term_rules.specs.Adding.{Adds, at, no_room, add, with_name, with_record, symbol_for, room_for_name}
+use Rattle.term_rules.specs.WellFormed.{same_int}
+use Rattle.term_rules.specs.Adding.{Adds, at, no_room, with_name, with_record, symbol_for, room_for_name}
 use Rattle.term_record.specs.Flat.{filled}
 use Rattle.term_add.specs.declared.Added.{Added}
 use Rattle.term_add.specs.declared.Added.TheVariants.{Term as term, NoRoom}

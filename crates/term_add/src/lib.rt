@@ -1,4 +1,6 @@
 // Terms looked for and added in a lent store that is well formed: `add_node`, `lit`, `var`, `app` of src/termdag.rs.
+#![tactic(auto)]
+
 ghost use Rattle.std.specs.Prelude.{◌≡◌, true, false, ℕ, ◌≤◌, ◌<◌, length};
 ghost use Rattle.name.specs.Name.{valid};
 ghost use Rattle.term_rules.specs.Lent.{store, records_length, InRecords};

@@ -1,5 +1,7 @@
 // How a term record lies in the lent numbers: its parts read, and the one place where a record is put. No crate above
 // this one knows where in a record a part stands, or how many numbers a record has.
+#![tactic(auto)]
+
 ghost use Rattle.std.specs.Prelude.{◌≡◌, ◌≤◌, length, get_or, set, drop, pos};
 ghost use Rattle.term_rules.specs.Lent.{
   records_length,

@@ -1,5 +1,7 @@
 // Many terms added to a lent store by one call: a list of adds, the store checked once, all or nothing. It equals the
 // adds of `term` made one by one (`lit`, `var`, `app` of src/termdag.rs).
+#![tactic(auto)]
+
 ghost use Rattle.std.specs.Prelude.{◌≡◌, true, ◌≤◌, length};
 ghost use Rattle.term_rules.specs.Lent.{store};
 ghost use Rattle.term_rules.specs.WellFormed.{well_formed};

@@ -1,5 +1,7 @@
 // One add of a list, on a store that is known to be well formed: what the store's own call answers, without its check
 // of the store. (`lit`, `var`, `app` of src/termdag.rs)
+#![tactic(auto)]
+
 ghost use Rattle.std.specs.Prelude.{◌≡◌, true, map, ◌≤◌, length, take};
 ghost use Rattle.name.specs.Name.{valid};
 ghost use Rattle.term_rules.specs.Lent.{store, HasRecord, kind_at};

@@ -1,7 +1,7 @@
 -- Two records by all but their children, and where their children first differ. Assumes nothing: these are definitions.
 use Rattle.std.specs.Prelude.{ℕ, ◌≤◌, ◌<◌, ◌≡◌, List, length, get_or}
 use Rattle.order.specs.declared.Ordering.{Ordering}
-use Rattle.order.specs.declared.Ordering.TheVariants.{Less, Same, More}
+use Rattle.order.specs.declared.Ordering.TheVariants.{Less, More}
 use Rattle.order.specs.Compare.{then_by, numbers, lists}
 use Rattle.term_rules.specs.Nodes.{Node, literal, variable, application}
 use Rattle.term_order.specs.TreeOrder.{ints}

@@ -1,9 +1,9 @@
 -- Records that are the same are in one bucket, so a record that no other of its bucket is the same as is new. Assumes
 -- nothing.
-use Prim.Native.Nat.{ℕ, zero, suc, ◌+◌, ◌*◌, ◌-◌, ◌%◌, ◌≤◌, ◌<◌}
-use mathlib.Core.Path.{◌≡◌, refl, sym, ap, subst, ◌∙◌}
+use Prim.Native.Nat.{ℕ, ◌+◌, ◌*◌, ◌-◌, ◌%◌, ◌≤◌, ◌<◌}
+use mathlib.Core.Path.{◌≡◌, sym, ap, subst, ◌∙◌}
 use mathlib.Core.Bool.{Bool, true, false, not}
-use mathlib.Core.List.{List, [], ◌∷◌}
+use mathlib.Core.List.{List}
 use native.Mathlib.Numerals.{add-one}
 use native.Mathlib.Omega.{arith}
 use native.Mathlib.Decide.{ℕ_discrete}
@@ -12,7 +12,7 @@ use Prim.{Dec, yes, no}
 use borrow.Author.Tests.{leb-true, leb-false}
 use lib.Dec.{leb}
 use lib.IntN.{ℤ, pos, nat_abs}
-use lib.ListN.{length, get_or, set, take, drop, replicate, length-set, length-replicate}
+use lib.ListN.{length, get_or, set, drop, replicate, length-set, length-replicate}
 use lib.Seq.{drop-cons, get_or-set_same, get_or-set_other}
 use Rattle.name.proofs.NameLaws.{drop-end}
 use Rattle.term_rules.specs.Lent.{symbol_no, places_at, record_in}

@@ -10,7 +10,6 @@ use lib.ListN.{length, get_or, drop}
 use lib.IntN.{ℤ, pos}
 use Rattle.name.specs.Name.{valid, same}
 use Rattle.name.specs.Entries.{entries_length, entry_room, length_at, name_at, padding_at, find_name, Entries}
-use Rattle.name.specs.declared.Found.{Found}
 use Rattle.name.specs.declared.Found.TheVariants.{At, Missing}
 use Rattle.term_rules.specs.Lent.{
   store,

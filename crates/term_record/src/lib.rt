@@ -1,4 +1,6 @@
 // The lent store's records as flat numbers: one record read or written, and whether a whole lent store is well formed.
+#![tactic(auto)]
+
 ghost use Rattle.std.specs.Prelude.{◌≡◌, true, false, ℕ, ◌+◌, ◌≤◌, ◌<◌, length};
 ghost use Rattle.name.specs.Name.{same};
 ghost use Rattle.name.specs.Entries.{entries_length, HasEntry, Entries};

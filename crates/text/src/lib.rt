@@ -1,5 +1,7 @@
 // Plain text and let text, byte for byte (`src/termdag.rs`, to_string and to_string_with_let). Every call checks what
 // it is lent for itself, and a refusal leaves all of it as it was.
+#![tactic(auto)]
+
 ghost use Rattle.std.specs.Prelude.{◌≡◌};
 ghost use Rattle.term_rules.specs.Lent.{store};
 ghost use Rattle.text_whole.specs.Placed.{answer_of, told};

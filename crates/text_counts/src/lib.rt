@@ -1,4 +1,6 @@
 // Counts and sizes of the terms up to a root: each term's record is read once for each.
+#![tactic(auto)]
+
 ghost use Rattle.std.specs.Prelude.{◌≡◌, ◌+◌, ◌<◌, ◌≤◌, min, length};
 ghost use Rattle.text_pieces.specs.Readable.{Inside};
 ghost use Rattle.text_counts.specs.Tallies.{Linked, Most, Added, Given, Counts, Sizes, sum_at};

@@ -1,4 +1,6 @@
 // The lines of the bindings: their lengths, and their bytes.
+#![tactic(auto)]
+
 ghost use Rattle.std.specs.Prelude.{◌≡◌, ◌+◌, ◌*◌, ◌^◌, ◌<◌, ◌≤◌, length, get_or};
 ghost use Rattle.decimal.specs.Written.{Wrote};
 ghost use Rattle.term_rules.specs.Lent.{HasRecord};

@@ -1,4 +1,6 @@
 // The small pieces that texts are made of: bytes, let names, gaps; each with its length, cut at 2^63.
+#![tactic(auto)]
+
 ghost use Rattle.std.specs.Prelude.{◌≡◌, ◌&&◌, ◌+◌, ◌^◌, ◌<◌, ◌≤◌, length, eqb, ltb};
 ghost use Rattle.decimal.specs.Written.{Wrote};
 ghost use Rattle.text_rules.specs.LetText.{count_text};

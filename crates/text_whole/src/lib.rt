@@ -1,6 +1,8 @@
 // Plain text and let text of a store that is known to be well formed, byte for byte (`src/termdag.rs`, to_string and
 // to_string_with_let). An inner crate: `text` tests what it is lent and then calls these, and the program calls them on
 // its own store.
+#![tactic(auto)]
+
 ghost use Rattle.std.specs.Prelude.{◌≡◌, true, ◌++◌, ◌+◌, ◌-◌, ◌<◌, ◌≤◌, length};
 ghost use Rattle.decimal.specs.Written.{Wrote};
 ghost use Rattle.name.specs.Name.{valid};

@@ -1,4 +1,6 @@
 // The one writer of a term's text.
+#![tactic(auto)]
+
 ghost use Rattle.std.specs.Prelude.{◌+◌, ◌*◌, ◌<◌, ◌≤◌, length};
 ghost use Rattle.decimal.specs.Written.{Wrote};
 ghost use Rattle.text_write.specs.Piece.{piece, view, Sheet};

@@ -1,4 +1,6 @@
 // The rows of a class that are kept as its variants. (src/extract.rs, extract_variants_with_sort)
+#![tactic(auto)]
+
 ghost use Rattle.std.specs.Prelude.{◌≡◌, min, length};
 ghost use Rattle.variant_rows.specs.Kept.{KeptReady, Keeps};
 

@@ -1,5 +1,7 @@
 // The terms of rows in turn, as the variants of a class are: all of them, or nothing. (src/extract.rs,
 // extract_variants_with_sort)
+#![tactic(auto)]
+
 ghost use Rattle.std.specs.Prelude.{◌≡◌, ◌≤◌, length, get_or, take};
 ghost use Rattle.term_rules.specs.Lent.{store};
 ghost use Rattle.table_layout.specs.Rows.{children_at};

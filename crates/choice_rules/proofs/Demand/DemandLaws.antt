@@ -1,9 +1,8 @@
 -- Demand 3 over all rows, from demand 3 over the rows in scan order. Assumes nothing.
-use mathlib.Core.Path.{◌≡◌, refl, sym, ◌∙◌, subst}
+use mathlib.Core.Path.{◌≡◌, refl, ◌∙◌, subst}
 use mathlib.Core.Bool.{Bool}
 use mathlib.Core.List.{List}
-use mathlib.Core.Logic.{⊎_elim}
-use Prim.Native.Nat.{ℕ, ◌<◌, ◌≤◌}
+use Prim.Native.Nat.{ℕ, ◌≤◌}
 use native.Mathlib.Omega.{arith}
 use Rattle.choice_rules.specs.Rows.{Row, class}
 use Rattle.choice_rules.specs.Deriving.{Tree, Derives, tree_cost}

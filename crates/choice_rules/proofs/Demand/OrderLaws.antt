@@ -2,10 +2,10 @@
 use mathlib.Core.Path.{◌≡◌, refl, ap, sym, ◌∙◌, subst}
 use mathlib.Core.Bool.{Bool, true}
 use mathlib.Core.List.{List, [], ◌∷◌, map}
-use Prim.Native.Nat.{ℕ, zero, suc, ◌+◌, ◌<◌, ◌≤◌}
+use Prim.Native.Nat.{ℕ, zero, suc, ◌+◌, ◌<◌}
 use native.Mathlib.Omega.{arith}
 use lib.ListN.{length, get_or}
-use Rattle.choice_rules.specs.Rows.{Child, literal, class, Row, no_row, row_at, child_at}
+use Rattle.choice_rules.specs.Rows.{Child, literal, class, Row, no_row, row_at}
 use Rattle.choice_rules.specs.Deriving.{
   Tree,
   leaf,

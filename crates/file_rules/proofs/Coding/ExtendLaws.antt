@@ -1,31 +1,21 @@
 -- Reading looks at nothing past the first fault's field: a file that goes on after a fault keeps the fault. Assumes
 -- nothing.
-use Prim.Native.Nat.{ℕ, zero, suc, ◌+◌, ◌*◌, ◌≤◌, ◌<◌}
-use mathlib.Core.Bool.{Bool, true, false, not}
+use Prim.Native.Nat.{ℕ, zero, suc, ◌+◌, ◌*◌, ◌≤◌}
+use mathlib.Core.Bool.{Bool, true, false}
 use mathlib.Core.List.{List, [], ◌∷◌, ◌++◌, append-nil}
 use mathlib.Core.Path.{◌≡◌, refl, sym, ap, ◌∙◌}
 use native.Mathlib.Omega.{arith}
-use lib.Dec.{leb, ltb, eqb}
-use lib.ListN.{length, take, drop, get_or, length-append, length-drop}
+use lib.Dec.{eqb}
+use lib.ListN.{length, drop, length-append, length-drop}
 use lib.Seq.{take-append-le, drop-append-le}
-use borrow.Author.Tests.{eqb-true, eqb-false, ne_eqb}
+use borrow.Author.Tests.{ne_eqb}
 use Rattle.refusal.specs.declared.Refusal.{Refusal}
-use Rattle.refusal.specs.declared.Refusal.TheVariants.{
-  Short,
-  BadVersion,
-  BadSize,
-  BadName,
-  DupName,
-  BadSort,
-  BadFunction,
-  BadValue,
-  Trailing,
-}
+use Rattle.refusal.specs.declared.Refusal.TheVariants.{Short, BadName, Trailing}
 use Rattle.name.specs.Name.{all_allowed}
 use Rattle.bits.specs.Bits.{bits_of, number}
 use Rattle.bits.specs.Got.{Got, got, refused, then, must, pick, many}
 use Rattle.bits.specs.Field.{field, holds}
-use Rattle.file_rules.specs.Table.{Sort, Function, Row, Table}
+use Rattle.file_rules.specs.Table.{Sort, Function, Table}
 use Rattle.file_rules.specs.Sorts.{kinds_of, classes_of, sort_at, sorts_at}
 use Rattle.file_rules.specs.Literals.{signed, literal_at, literals_at}
 use Rattle.file_rules.specs.Functions.{

@@ -1,25 +1,20 @@
 -- An accepted file is its table's code, so that two different files never hold the same table. Assumes nothing.
-use Prim.Native.Nat.{ℕ, zero, suc, ◌+◌, ◌*◌, ◌/◌, ◌%◌, ◌^◌, ◌≤◌, ◌<◌}
-use mathlib.Core.List.{List, [], ◌∷◌, ◌++◌}
+use Prim.Native.Nat.{ℕ, zero, suc, ◌+◌, ◌*◌, ◌/◌, ◌%◌, ◌≤◌, ◌<◌}
+use mathlib.Core.List.{List, [], ◌∷◌}
 use mathlib.Core.Path.{◌≡◌, refl, sym, ap, ◌∙◌}
 use native.Mathlib.Nat.{zero-div, div-div-eq-div-mul}
 use native.Mathlib.Omega.{arith}
-use lib.IntN.{ℤ}
 use lib.ListN.{length, replicate, take, drop, get_or}
 use lib.Seq.{take_all}
 use borrow.Author.Tests.{eqb-true}
 use Rattle.bits.specs.Bits.{bits_of}
-use Rattle.bits.specs.Got.{Got, got, then, must}
+use Rattle.bits.specs.Got.{got}
 use Rattle.bits.specs.Field.{field}
 use Rattle.bits.proofs.BitsLaws.{bits_of-length}
-use Rattle.bits.proofs.FieldLaws.{field-read}
 use Rattle.bits.proofs.GotLaws.{All, all-got, all-at, all_of, all_then, all-must}
-use Rattle.file_rules.specs.Table.{Sort, Function, Row, Table}
+use Rattle.file_rules.specs.Table.{Sort, Function, Table}
 use Rattle.file_rules.specs.Every.{Every, every-nil, every-cons}
-use Rattle.file_rules.specs.Sorts.{kinds_of, sorts_at}
-use Rattle.file_rules.specs.Literals.{literals_at}
-use Rattle.file_rules.specs.Functions.{functions_at}
-use Rattle.file_rules.specs.Rows.{rows_at}
+use Rattle.file_rules.specs.Sorts.{kinds_of}
 use Rattle.file_rules.specs.Arrays.{blocks}
 use Rattle.file_rules.specs.File.{version_at, sorts_part, literals_part, functions_part, rows_part, pad_bits, end_at, table_at}
 use Rattle.file_rules.proofs.SortLaws.{sorts-length}

@@ -1,18 +1,17 @@
 -- Each thing that was read spells its code. Assumes nothing.
 use Prim.{Dec, yes, no}
 use Prim.Native.Nat.{ℕ, zero, suc, ◌+◌, ◌-◌, ◌*◌, ◌^◌, ◌≤◌, ◌<◌}
-use mathlib.Core.Bool.{Bool, true, false}
-use mathlib.Core.List.{List, [], ◌∷◌, ◌++◌, append-nil}
-use mathlib.Core.Path.{◌≡◌, refl, sym, ap, ◌∙◌, subst}
+use mathlib.Core.Bool.{false}
+use mathlib.Core.List.{List, [], ◌++◌, append-nil}
+use mathlib.Core.Path.{◌≡◌, sym, subst}
 use native.Mathlib.Decide.{dec_lt}
 use native.Mathlib.Omega.{arith}
 use lib.Dec.{eqb}
-use lib.IntN.{ℤ}
 use lib.ListN.{length, get_or}
 use borrow.Author.Tests.{eqb-true, eqb-false}
-use Rattle.bits.specs.Bits.{bits_of, number}
-use Rattle.bits.specs.Got.{Got, got, then, must, pick, many}
-use Rattle.bits.specs.Field.{field, holds}
+use Rattle.bits.specs.Bits.{bits_of}
+use Rattle.bits.specs.Got.{Got, got, pick, many}
+use Rattle.bits.specs.Field.{field}
 use Rattle.bits.proofs.BitsLaws.{bits_of-length}
 use Rattle.bits.proofs.FieldLaws.{field-read, holds-true}
 use Rattle.bits.proofs.GotLaws.{
@@ -27,23 +26,10 @@ use Rattle.bits.proofs.GotLaws.{
   many-all,
   many-length,
 }
-use Rattle.file_rules.specs.Table.{Sort, Function, Row, Table}
+use Rattle.file_rules.specs.Table.{Sort, Function}
 use Rattle.file_rules.specs.Sorts.{classes_of, sort_at, sorts_at}
 use Rattle.file_rules.specs.Literals.{signed, literal_at, literals_at}
-use Rattle.file_rules.specs.Functions.{
-  Cost,
-  Flags,
-  bytes_at,
-  name_at,
-  new_name_at,
-  cost_at,
-  flags_at,
-  output_at,
-  argument_at,
-  arguments_at,
-  function_at,
-  functions_at,
-}
+use Rattle.file_rules.specs.Functions.{bytes_at, name_at, new_name_at, cost_at, flags_at, output_at, argument_at, arguments_at, function_at, functions_at}
 use Rattle.file_rules.specs.Rows.{cell_at, cells_at, row_at, rows_at, columns, function_no, range}
 use Rattle.file_rules.proofs.CellLaws.{cells-many}
 use Rattle.file_rules.specs.Arrays.{blocks}

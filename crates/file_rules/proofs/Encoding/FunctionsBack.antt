@@ -73,7 +73,7 @@ bytes_back {k = k} (every-cons {x = b} {xs = bs} h hs) p =
     let l = spells-left (code 8 b) (blocks (code 8) bs) p in
     let o : length (code 8 b) + k ≡ k + 8 = rw code-length (omega arith) in
     let r = rw o at (spells-right (code 8 b) (blocks (code 8) bs) p) in
-    rw (number-back 8 b l h, bytes_back hs r)
+    rw (number-back 8 b l h, bytes_back {k = k + 8} hs r)
 
 bytes-end : {s : List ℕ} {k q : ℕ} (name : List ℕ) → Spells s k q (blocks (code 8) name) → k + 8 * length name ≡ q
 bytes-end name p =

@@ -1,6 +1,6 @@
 -- The longest table is within the limits, and its file has 21,385 bytes. The counts stay variables until the end, so
 -- that nothing is computed bit by bit. Assumes nothing.
-use Prim.Native.Nat.{ℕ, zero, suc, ◌+◌, ◌-◌, ◌*◌, ◌/◌, ◌%◌, ◌≤◌, ◌<◌}
+use Prim.Native.Nat.{ℕ, zero, suc, ◌+◌, ◌*◌, ◌/◌, ◌%◌, ◌≤◌, ◌<◌}
 use mathlib.Core.Bool.{true}
 use mathlib.Core.List.{List, ◌++◌}
 use mathlib.Core.Path.{◌≡◌, refl, sym, ap, ◌∙◌}

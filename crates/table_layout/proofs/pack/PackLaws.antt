@@ -1,12 +1,12 @@
 -- One row more is packed. Assumes nothing.
-use mathlib.Core.Path.{◌≡◌, ap, sym, ◌∙◌, subst}
+use mathlib.Core.Path.{◌≡◌, sym, ◌∙◌, subst}
 use mathlib.Core.List.{List}
 use Prim.{Dec, yes, no}
-use Prim.Native.Nat.{ℕ, ◌+◌, ◌*◌, ◌-◌, ◌<◌, ◌≤◌}
+use Prim.Native.Nat.{ℕ, ◌+◌, ◌-◌, ◌<◌, ◌≤◌}
 use native.Mathlib.Decide.{ℕ_discrete}
 use native.Mathlib.Omega.{arith}
 use lib.ListN.{length, get_or, drop, length-take, length-drop}
-use Rattle.table_layout.specs.Rows.{width, HasRow, put_row}
+use Rattle.table_layout.specs.Rows.{HasRow, put_row}
 use Rattle.table_layout.specs.Packed.{part_of, PackReady, PackedRow, Packed}
 use Rattle.table_layout.proofs.RowLaws.{
   put-length,

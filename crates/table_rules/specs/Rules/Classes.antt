@@ -1,5 +1,5 @@
 -- Classes and roots of a table. Assumes nothing: definitions.
-use Rattle.std.specs.Prelude.{Bool, true, false, ◌&&◌, List, ℕ, ◌+◌, eqb, ltb, length, get_or, take}
+use Rattle.std.specs.Prelude.{Bool, true, false, ◌&&◌, ℕ, ◌+◌, eqb, ltb, length, get_or, take}
 use Rattle.choice_rules.specs.Rows.{Child, literal, class}
 use Rattle.file_rules.specs.Table.{Sort, Table}
 use Rattle.file_rules.specs.Sorts.{classes_of}

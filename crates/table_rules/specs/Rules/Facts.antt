@@ -1,5 +1,5 @@
 -- What the extractor goes by in an accepted table, number for number. Assumes nothing: definitions.
-use Rattle.std.specs.Prelude.{◌≡◌, true, List, ℕ, ◌+◌, ◌<◌, ◌≤◌, length, get_or}
+use Rattle.std.specs.Prelude.{◌≡◌, true, ℕ, ◌+◌, ◌<◌, ◌≤◌, length, get_or}
 use Rattle.name.specs.Name.{valid}
 use Rattle.file_rules.specs.Table.{Table}
 use Rattle.table_rules.specs.Rules.Classes.{sort_of, class_count, range_of}

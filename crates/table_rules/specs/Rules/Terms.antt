@@ -1,7 +1,7 @@
 -- The term that a tree of rows stands for. Assumes nothing: definitions.
 use Rattle.std.specs.Prelude.{List, ℕ, ℤ, pos, get_or}
 use Rattle.choice_rules.specs.Deriving.{Tree, leaf, node, Forest, none, more}
-use Rattle.term_rules.specs.Nodes.{Tree as Term, Trees as Terms, number, named, applied, none as no_terms, more as more_terms}
+use Rattle.term_rules.specs.Nodes.{Tree as Term, Trees as Terms, number, applied, none as no_terms, more as more_terms}
 use Rattle.file_rules.specs.Table.{Table}
 use Rattle.table_rules.specs.Rules.Rows.{function_of, table_row_of}
 

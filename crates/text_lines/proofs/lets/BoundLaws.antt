@@ -1,11 +1,11 @@
 -- What holds of every binding: its term is known, and its indent is bounded by its depth. Assumes nothing.
-use mathlib.Core.Path.{◌≡◌, refl, sym, ap, subst, ◌∙◌}
+use mathlib.Core.Path.{◌≡◌, refl, sym, subst, ◌∙◌}
 use mathlib.Core.Bool.{Bool, true, false}
 use mathlib.Core.List.{List, [], ◌∷◌, ◌++◌}
 use Prim.{Dec, yes, no}
 use Prim.Native.Nat.{ℕ, zero, suc, ◌+◌, ◌*◌, ◌-◌, ◌^◌, ◌<◌, ◌≤◌}
 use native.Mathlib.Omega.{arith}
-use native.Mathlib.Decide.{dec_lt, ℕ_discrete}
+use native.Mathlib.Decide.{ℕ_discrete}
 use lib.ListN.{length, get_or}
 use Rattle.text_rules.specs.Counts.{in_turn}
 use Rattle.text_rules.specs.Bindings.{Bound, Place, nowhere, place, find, to_bind, bind, meet_in, bindings}
@@ -13,9 +13,9 @@ use Rattle.term_rules.specs.Lent.{kids_at}
 use Rattle.text_pieces.specs.Readable.{Inside}
 use Rattle.text_counts.specs.Tallies.{Linked}
 use Rattle.text_counts.specs.Met.{bounds, place_no, Met, AllMet}
-use Rattle.text_counts.proofs.bindings.FindLaws.{one, find-hit, find-miss, find_none}
+use Rattle.text_counts.proofs.bindings.FindLaws.{find-hit, find-miss, find_none}
 use Rattle.text_counts.proofs.bindings.MeetLaws.{turn-keeps, bind-no, bind-yes, whether, meet_in-step}
-use Rattle.text_counts.proofs.bindings.TableLaws.{bounds-none, bounds-step, bounds-length}
+use Rattle.text_counts.proofs.bindings.TableLaws.{bounds-step, bounds-length}
 use Rattle.text_lines.specs.Lines.{Bundle}
 
 unfoldable All : (Bound → Type 0) → List Bound → Type 0

@@ -3,33 +3,19 @@ use mathlib.Core.Path.{◌≡◌, refl, sym, ap, subst, ◌∙◌}
 use mathlib.Core.Bool.{Bool, true, false}
 use mathlib.Core.List.{List, [], ◌∷◌, ◌++◌, append_assoc, append-nil}
 use Prim.{Dec, yes, no}
-use Prim.Native.Nat.{ℕ, zero, suc, ◌+◌, ◌-◌, ◌^◌, ◌<◌, ◌≤◌}
+use Prim.Native.Nat.{ℕ, zero, suc, ◌+◌, ◌-◌, ◌<◌, ◌≤◌}
 use native.Mathlib.Omega.{arith}
 use native.Mathlib.Decide.{dec_lt, ℕ_discrete}
-use lib.ListN.{length, get_or, length-append}
+use lib.ListN.{length, get_or}
 use lib.IntN.{ℤ}
 use lib.Dec.{ltb}
 use borrow.Author.Tests.{lt-ltb, le-ltb}
 use Rattle.term_rules.specs.Nodes.{Node}
-use Rattle.text_rules.specs.Forms.{children, form, Called, by_name, by_text, shown, child_text, line_in, line}
-use Rattle.text_rules.specs.Bindings.{Bound, Place, nowhere, place, find, bindings}
-use Rattle.text_rules.specs.LetText.{
-  Naming,
-  count_text,
-  let_name,
-  called_at,
-  called,
-  several,
-  new_line,
-  own,
-  body_gap,
-  let_line,
-  let_lines,
-  text_with,
-}
+use Rattle.text_rules.specs.Forms.{children, Called, by_name, by_text, shown, child_text, line_in, line}
+use Rattle.text_rules.specs.Bindings.{Bound, Place, nowhere, place, find}
+use Rattle.text_rules.specs.LetText.{Naming, count_text, let_name, called_at, called, several, own, body_gap, let_line, let_lines, text_with}
 use Rattle.text_rules.proofs.FormLaws.{form-same, child_text-is}
 use Rattle.text_pieces.specs.Pieces.{capped, name_text, gap_text}
-use Rattle.text_pieces.proofs.PieceLaws.{gap_text-narrow, gap_text-wide}
 use Rattle.term_rules.specs.Lent.{arity_at, kids_at}
 use Rattle.text_pieces.specs.Readable.{nodes, head_text, Inside, Readable}
 use Rattle.text_pieces.proofs.heads.NodeLaws.{children-of-nodes}

@@ -1,9 +1,8 @@
 -- The terms of a well-formed store can be read. Assumes nothing.
-use mathlib.Core.Path.{◌≡◌, sym, ◌∙◌}
+use mathlib.Core.Path.{◌≡◌}
 use mathlib.Core.List.{List}
 use Prim.Native.Nat.{ℕ, ◌≤◌, ◌<◌}
 use native.Mathlib.Omega.{arith}
-use lib.ListN.{get_or}
 use lib.Seq.{get_or-take}
 use lib.IntN.{ℤ}
 use Rattle.term_rules.specs.Lent.{store, kind_at, symbol_no, arity_at, places_at, kids_at, record_in}

@@ -1,0 +1,10 @@
+-- `copies::bytes` meets its contract. The bytes are copied in order. Assumes nothing.
+use Prim.Native.Nat.{◌-◌}
+use Rattle.copies.proofs.CopiedLaws.{Copying}
+use Rattle.copies.proofs.bytes.Given as goal
+
+abbrev pub invariant-loop-i : goal.invariant-loop-i
+invariant-loop-i l = Copying l.initial.to l.from l.n l.i l.to
+
+abbrev pub decreases-loop-i : goal.decreases-loop-i
+decreases-loop-i l = l.n - l.i

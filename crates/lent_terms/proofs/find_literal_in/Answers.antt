@@ -1,0 +1,15 @@
+-- `lent_terms::find_literal_in` meets its contract: the entries are copied, and `term::find_literal` does the work. Assumes
+-- nothing.
+use Rattle.std.proofs.Common.{ap, ◌∙◌}
+use mir.Syntax.{w64}
+use mir.ValLaws.{to_z-of_z}
+use Rattle.term_rules.specs.Lent.{Store}
+use Rattle.term.specs.Calls.{find_literal}
+use Rattle.lent.proofs.StoreLaws.{store_in-is}
+use Rattle.lent_terms.proofs.find_literal_in.Goals as goal
+
+pub returns : goal.returns
+returns c =
+    let g = c.args in
+    (rw (to_z-of_z w64 g.literal c.ranges.literal) at c.find_literal.ensures)
+    ∙ ap (λ (s : Store). find_literal s g.literal) (store_in-is g.f g.ns.now g.terms g.symbols _ c.load_names-k.ensures.bytes)

@@ -1,0 +1,13 @@
+-- `lent_terms::find_variable_in` meets its contract: the entries are copied, and `term::find_variable` does the work. Assumes
+-- nothing.
+use Rattle.std.proofs.Common.{ap, ◌∙◌}
+use Rattle.term_rules.specs.Lent.{Store}
+use Rattle.term.specs.Calls.{find_variable}
+use Rattle.lent.proofs.StoreLaws.{store_in-is}
+use Rattle.lent_terms.proofs.find_variable_in.Goals as goal
+
+pub returns : goal.returns
+returns c =
+    let g = c.args in
+    c.find_variable.ensures
+    ∙ ap (λ (s : Store). find_variable s g.name.now) (store_in-is g.f g.ns.now g.terms g.symbols _ c.load_names-k.ensures.bytes)

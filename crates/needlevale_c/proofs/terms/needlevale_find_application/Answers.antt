@@ -1,0 +1,7 @@
+-- `terms::needlevale_find_application` meets its contract: `lent_terms::find_application` does the work, and its answer is told. Assumes nothing.
+use Rattle.std.proofs.Common.{ap, ◌∙◌}
+use Rattle.c_told.specs.Terms.{number_of}
+use Rattle.needlevale_c.proofs.terms.needlevale_find_application.Goals as goal
+
+pub returns : goal.returns
+returns c = c.told_found.ensures ∙ ap number_of c.find_application-r.ensures

@@ -1,0 +1,41 @@
+-- `table_flat::rows::lay_children` meets its contract. The children of the rows below place `k` are laid. Assumes
+-- nothing.
+use mathlib.Core.Path.{◌∙◌}
+use Rattle.table_rules.proofs.PickedLaws.{gathers-end, gathers-room, gathers-on}
+use Rattle.table_flat.specs.Rows.{children_in}
+use native.Mathlib.Omega.{arith}
+use Rattle.table_flat.proofs.rows.lay_children.Goals as goal
+
+pub lay_row-m-requires : goal.lay_row-m-requires
+lay_row-m-requires c =
+    let a = c.args in
+    let l = c.loop-k in
+    record {
+      children_fit = c.requires.each l.k (omega arith);
+      r_in_bounds = gathers-room (children_in a.kinds.now a.bases.now a.arities.now a.arguments.now
+          a.rowfunctions.now
+          a.cells.now) a.order.now l.list l.m l.k l.invariant.0 (omega arith)
+          (omega (arith, c.requires.order_in_bounds, l.invariant.1));
+    }
+
+pub loop-k-preserved : goal.loop-k-preserved
+loop-k-preserved c =
+    let a = c.args in
+    let l = c.loop-k in
+    let w = c.lay_row-m in (
+      gathers-on (children_in a.kinds.now a.bases.now a.arities.now a.arguments.now
+          a.rowfunctions.now
+          a.cells.now) a.order.now l.list l.m l.k l.invariant.0 (omega arith)
+          w.new.list w.result w.ensures.room w.ensures.held,
+      w.auto.list ∙ l.invariant.1,
+    )
+
+pub returns : goal.returns
+returns c =
+    let a = c.args in
+    let l = c.loop-k in
+    record {
+      room = l.invariant.0.room;
+      held = gathers-end (children_in a.kinds.now a.bases.now a.arities.now a.arguments.now
+          a.rowfunctions.now a.cells.now) a.order.now l.list l.m l.k l.invariant.0 (omega arith);
+    }
