@@ -9,7 +9,7 @@ ghost use Rattle.best_class.specs.Flat.{RowsReady, RowsAnswer, seen};
 use build::{Built, whole};
 
 // The cost, the term's number, the passes and the counts of terms and symbols then; or the refusal.
-#[derive(Drop)]
+#[derive(Clone, Copy)]
 pub enum Best {
     Found(u64, usize, u64, usize, usize),
     NoTerm,

@@ -1,5 +1,7 @@
 // The best term of a root, once a table is laid flat: a literal, or a class's, over a lent store.
 // A refusal leaves all that is lent as it was. (src/extract.rs, extract_best_with_sort)
+#![tactic(auto)]
+
 ghost use Rattle.std.specs.Prelude.{◌≡◌, ◌<◌, pos, length, get_or};
 ghost use Rattle.term_rules.specs.Lent.{store};
 ghost use Rattle.best_class.specs.Flat.{BestReady, BestAnswers};
@@ -10,7 +12,7 @@ use refusal::Refusal;
 use table_layout::pack;
 
 // The cost, the term's number, the passes and the counts of terms and symbols then; or the refusal.
-#[derive(Drop)]
+#[derive(Clone, Copy)]
 pub enum BestAnswer {
     Found(u64, usize, u64, usize, usize),
     Refused(Refusal),

@@ -6,7 +6,7 @@ ghost use Rattle.bits.specs.Bits.{number};
 ghost use Rattle.bits.specs.Field.{field, holds, got_of};
 
 // A field's value and the position after it, or that the input ends before the field does.
-#[derive(Drop)]
+#[derive(Clone, Copy)]
 pub enum Field {
     Value(u64, usize),
     Short,

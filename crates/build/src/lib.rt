@@ -15,7 +15,7 @@ use term_add::Added;
 pub mod whole; // whole.rt: a class's best term as one call: all or nothing
 
 // The term's number and the counts of terms and symbols then; or that the store has no room for a term.
-#[derive(Drop)]
+#[derive(Clone, Copy)]
 pub enum Built {
     Done(usize, usize, usize),
     Full,

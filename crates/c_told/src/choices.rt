@@ -8,7 +8,7 @@ use variants_root::VariantsAnswer;
 
 // 0, the cost, the term and the passes; or minus a refusal's number, and zeros. Then the store's counts.
 #[repr(C)]
-#[derive(Drop)]
+#[derive(Clone, Copy)]
 pub struct Best {
     pub status: i64,
     pub cost: u64,
@@ -20,7 +20,7 @@ pub struct Best {
 
 // 0, how many variants are kept and the passes; or minus a refusal's number, and zeros. Then the store's counts.
 #[repr(C)]
-#[derive(Drop)]
+#[derive(Clone, Copy)]
 pub struct Variants {
     pub status: i64,
     pub count: usize,

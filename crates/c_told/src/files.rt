@@ -8,7 +8,7 @@ use file_reader::Outcome;
 
 // 0, and how many sorts, literals, functions and rows the table has; or minus a refusal's number, and zeros.
 #[repr(C)]
-#[derive(Drop)]
+#[derive(Clone, Copy)]
 pub struct Shape {
     pub status: i64,
     pub sorts: usize,

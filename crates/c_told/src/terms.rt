@@ -11,7 +11,7 @@ use term_rules::Term;
 
 // 0 and a count or a term's number; or minus a refusal's number, and 0.
 #[repr(C)]
-#[derive(Drop)]
+#[derive(Clone, Copy)]
 pub struct Number {
     pub status: i64,
     pub number: usize,
@@ -19,7 +19,7 @@ pub struct Number {
 
 // 0 and a term's number; or minus a refusal's number, and 0. Then the store's counts.
 #[repr(C)]
-#[derive(Drop)]
+#[derive(Clone, Copy)]
 pub struct Adding {
     pub status: i64,
     pub term: usize,
@@ -29,7 +29,7 @@ pub struct Adding {
 
 // 0, and below, at or above 0 as the first term stands to the second; or minus a refusal's number, and 0.
 #[repr(C)]
-#[derive(Drop)]
+#[derive(Clone, Copy)]
 pub struct Standing {
     pub status: i64,
     pub order: i64,
@@ -37,7 +37,7 @@ pub struct Standing {
 
 // 0 and a record; or minus a refusal's number, and a record of zeros.
 #[repr(C)]
-#[derive(Drop)]
+#[derive(Clone, Copy)]
 pub struct Got {
     pub status: i64,
     pub term: Term,

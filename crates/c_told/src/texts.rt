@@ -9,7 +9,7 @@ use text_whole::{LetText, Text};
 
 // The length of a let text and the next unused count; or minus a refusal's number, and 0.
 #[repr(C)]
-#[derive(Drop)]
+#[derive(Clone, Copy)]
 pub struct LetLength {
     pub length: i64,
     pub next: u64,

@@ -10,7 +10,7 @@ use file_rules::Step;
 use refusal::Refusal;
 
 // A sort's kind, its class count and the position after it, or the first fault.
-#[derive(Drop)]
+#[derive(Clone, Copy)]
 pub enum SortRead {
     Sort(u64, u64, usize),
     Refused(Refusal),

@@ -1,13 +1,12 @@
 -- Laws of the table of names so far. Assumes nothing.
 use Prim.Native.Nat.{ℕ, zero, suc, ◌+◌, ◌-◌, ◌≤◌, ◌<◌}
 use mathlib.Core.Bool.{Bool, true, false, not, ◌||◌}
-use mathlib.Core.List.{List, [], ◌∷◌, ◌++◌}
+use mathlib.Core.List.{List, [], ◌++◌}
 use mathlib.Core.Path.{◌≡◌, refl, sym, ap, ◌∙◌, fun_ext}
 use native.Mathlib.Omega.{arith}
 use native.Mathlib.Numerals.{add-one}
-use native.Mathlib.Nat.{add-zero}
 use lib.ListN.{length, take, drop, replicate, drop_of_length-le}
-use lib.Seq.{drop-cons, take-append_seam}
+use lib.Seq.{drop-cons}
 use Rattle.refusal.specs.declared.Refusal.{Refusal}
 use Rattle.refusal.specs.declared.Refusal.TheVariants.{DupName}
 use Rattle.name.specs.Name.{same}
@@ -23,15 +22,14 @@ use Rattle.name.specs.Entries.{
   find_name,
 }
 use Rattle.name.specs.declared.Found.{Found}
-use Rattle.name.specs.declared.Found.TheVariants.{At, Missing}
+use Rattle.name.specs.declared.Found.TheVariants.{At}
 use Rattle.name.proofs.EntryLaws.{entry_length, length_at-of-entry, name_at-of-entry}
 use Rattle.bits.specs.Got.{Got, got, refused, then, must}
 use Rattle.bits.proofs.GotLaws.{All, all-got, all-at, all_then, all-must}
 use Rattle.file_rules.specs.Table.{Function}
-use Rattle.file_rules.specs.Every.{Every}
 use Rattle.file_rules.specs.Rows.{function_no}
 use Rattle.file_rules.specs.Functions.{taken, name_at, new_name_at}
-use Rattle.file_rules.specs.Arrays.{pad_with, pad, blocks}
+use Rattle.file_rules.specs.Arrays.{pad_with, blocks}
 use Rattle.file_rules.proofs.FunctionLaws.{NameKept, name-kept}
 use Rattle.file_rules.proofs.BlockLaws.{every_map, every_get, blocks-drop, blocks-length}
 use Rattle.file_rules.proofs.ArraysLaws.{pad_with-length}

@@ -1,8 +1,8 @@
 -- Laws of the reading of a name's bytes. Assumes nothing.
 use Prim.Native.Nat.{ℕ, zero, suc, ◌+◌, ◌*◌, ◌≤◌, ◌<◌}
-use mathlib.Core.Bool.{Bool, true, false}
+use mathlib.Core.Bool.{true, false}
 use mathlib.Core.List.{List, [], ◌∷◌, ◌++◌}
-use mathlib.Core.Path.{◌≡◌, refl, sym, ap, ◌∙◌}
+use mathlib.Core.Path.{◌≡◌, ap}
 use native.Mathlib.Omega.{arith}
 use native.Mathlib.Numerals.{add-one}
 use lib.ListN.{length, take, set}
@@ -11,7 +11,7 @@ use borrow.Author.Tests.{le-leb, lt-leb}
 use Rattle.refusal.specs.declared.Refusal.TheVariants.{Short, BadName}
 use Rattle.name.specs.Name.{all_allowed}
 use Rattle.bits.specs.Bits.{number}
-use Rattle.bits.specs.Got.{Got, got, refused, then, must}
+use Rattle.bits.specs.Got.{got, refused, then, must}
 use Rattle.bits.specs.Field.{field, holds}
 use Rattle.file_rules.specs.Functions.{bytes_at, name_at}
 

@@ -14,7 +14,7 @@ use name::Found;
 use refusal::Refusal;
 
 // A name's length and the position after it, or the first fault.
-#[derive(Drop)]
+#[derive(Clone, Copy)]
 pub enum NameRead {
     Name(usize, usize),
     Refused(Refusal),

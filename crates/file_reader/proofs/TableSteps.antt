@@ -17,13 +17,12 @@ use Rattle.file_rules.specs.Every.{Every}
 use Rattle.file_rules.specs.Sorts.{kinds_of}
 use Rattle.file_rules.specs.Reading.{OnGot}
 use Rattle.file_rules.specs.File.{version_at, sorts_part, literals_part, functions_part, rows_part, end_at, table_at}
-use Rattle.file_rules.specs.Arrays.{pad_with, pad, HoldsSorts, HoldsFunctions}
+use Rattle.file_rules.specs.Arrays.{pad_with, HoldsSorts, HoldsFunctions}
 use Rattle.file_rules.proofs.ReadingLaws.{Read-to}
 use Rattle.file_rules.proofs.ArraysLaws.{pad_with-length}
 use Rattle.file_rules.proofs.TableLaws.{version-end, sorts-in, literals-in, FunctionsIn, functions-in}
 use Rattle.file_rows.proofs.InLaws.{rows_are}
 use Rattle.file_reader.specs.Parts.{rows_part_in, tail_in}
-use Rattle.file_reader.specs.declared.Outcome.{Outcome}
 use Rattle.file_reader.specs.declared.Outcome.TheVariants.{Read, Refused}
 use Rattle.file_reader.specs.Outcome.{Answers}
 

@@ -17,7 +17,7 @@ pub mod functions; // functions.rt: the reader of a table file's functions: each
 pub mod parts; // parts.rt: the parts of a table file: version, sorts, literals, functions, rows, each with its count, and the end
 
 // How many sorts, literals, functions and rows the table has, or the first fault.
-#[derive(Drop)]
+#[derive(Clone, Copy)]
 pub enum Outcome {
     Read {
         sorts: usize,

@@ -8,18 +8,18 @@ use mathlib.Core.Path.{◌≡◌, refl, sym, ap, ◌∙◌, fun_ext}
 use native.Mathlib.Decide.{dec_lt}
 use native.Mathlib.Omega.{arith}
 use lib.Dec.{ltb}
-use lib.ListN.{length, get_or, drop, replicate, length-append, get_or-append, get_or-map}
+use lib.ListN.{length, get_or, replicate, length-append, get_or-append, get_or-map}
 use lib.Seq.{get_or-drop, get_or-append_seam}
-use borrow.Author.Tests.{ltb-true, ltb-false}
+use borrow.Author.Tests.{ltb-true}
 use Rattle.refusal.specs.declared.Refusal.{Refusal}
 use Rattle.refusal.specs.declared.Refusal.TheVariants.{BadFunction}
-use Rattle.bits.specs.Got.{Got, got, refused, then, must, pick, many}
+use Rattle.bits.specs.Got.{Got, got, then, must, many}
 use Rattle.bits.specs.Field.{field}
-use Rattle.file_rules.specs.Table.{Sort, Function, Row}
-use Rattle.file_rules.specs.Every.{Every, every-nil, every-cons}
+use Rattle.file_rules.specs.Table.{Sort, Function}
+use Rattle.file_rules.specs.Every.{Every}
 use Rattle.file_rules.specs.Rows.{sort_no, function_no, columns, range, cell_at, cells_at, row_at, rows_at}
 use Rattle.file_rules.specs.Arrays.{pad_with, pad, blocks, HoldsSorts, HoldsFunctions}
-use Rattle.file_rules.proofs.ArraysLaws.{pad_with-get, pad_with-length}
+use Rattle.file_rules.proofs.ArraysLaws.{pad_with-length}
 use Rattle.file_rules.proofs.BlockLaws.{every_map, every_get, blocks-drop}
 use Rattle.file_rules.proofs.CellLaws.{cell_after, cells-many}
 use Rattle.file_rows.specs.In.{range_in, column_in, cell_in, cells_in, row_in, rows_in}

@@ -7,21 +7,21 @@ ghost use Rattle.file_rules.specs.Literals.{signed};
 use refusal::Refusal;
 
 // The position after what was read, or the first fault.
-#[derive(Drop)]
+#[derive(Clone, Copy)]
 pub enum Step {
     Done(usize),
     Refused(Refusal),
 }
 
 // How many things were read, and the position after them.
-#[derive(Drop)]
+#[derive(Clone, Copy)]
 pub struct Counted {
     pub count: usize,
     pub next: usize,
 }
 
 // What was counted, or the first fault.
-#[derive(Drop)]
+#[derive(Clone, Copy)]
 pub enum Part {
     Done(Counted),
     Refused(Refusal),

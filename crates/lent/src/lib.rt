@@ -27,7 +27,7 @@ pub fn put_at(ts: &mut [Term], i: usize, t: Term)
 }
 
 // A call's own copy of the records: their numbers and a literal each, and how many there are.
-#[derive(Drop)]
+#[derive(Clone, Copy)]
 pub struct Flat {
     pub records: [u64; term_layout::RECORDS],
     pub literals: [i64; 1024],

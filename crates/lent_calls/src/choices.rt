@@ -6,14 +6,14 @@ use term_rules::Term;
 use variants_root::VariantsAnswer;
 
 // What best answered, and the records after it.
-#[derive(Drop)]
+#[derive(Clone, Copy)]
 pub struct Chosen {
     pub ts: [Term; 1024],
     pub answer: BestAnswer,
 }
 
 // The same of variants.
-#[derive(Drop)]
+#[derive(Clone, Copy)]
 pub struct Varied {
     pub ts: [Term; 1024],
     pub answer: VariantsAnswer,

@@ -7,14 +7,14 @@ use term_rules::Term;
 use text_whole::{LetText, Text};
 
 // What an adding call answered, and the records after it.
-#[derive(Drop)]
+#[derive(Clone, Copy)]
 pub struct Step {
     pub ts: [Term; 1024],
     pub answer: Added,
 }
 
 // A store's records, and how many terms and symbols it has.
-#[derive(Drop)]
+#[derive(Clone, Copy)]
 pub struct Held {
     pub ts: [Term; 1024],
     pub terms: usize,

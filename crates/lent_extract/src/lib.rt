@@ -18,14 +18,14 @@ use term_rules::Term;
 use variants_root::VariantsAnswer;
 
 // A call's own copy of the records after it, and what it answers.
-#[derive(Drop)]
+#[derive(Clone, Copy)]
 pub struct Chosen {
     pub flat: Flat,
     pub answer: BestAnswer,
 }
 
 // The same of variants.
-#[derive(Drop)]
+#[derive(Clone, Copy)]
 pub struct Varied {
     pub flat: Flat,
     pub answer: VariantsAnswer,

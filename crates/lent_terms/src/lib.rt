@@ -27,7 +27,7 @@ use term::{Added, Compared, Counted, Got, Looked, Verdict};
 use term_rules::Term;
 
 // A call's own copy of the records after it, and what it answers.
-#[derive(Drop)]
+#[derive(Clone, Copy)]
 pub struct Adding {
     pub flat: Flat,
     pub added: Added,

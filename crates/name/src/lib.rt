@@ -24,7 +24,7 @@ pub const WIDTH: usize = 32;
 pub const TABLE: usize = 4096;
 
 // Where a name stands, or that it does not.
-#[derive(Drop)]
+#[derive(Clone, Copy)]
 pub enum Found {
     At(usize),
     Missing,

@@ -36,7 +36,7 @@ pub fn one_pass(
 }
 
 // What a run tells besides the costs and ranks: the number of passes, and the last rank.
-#[derive(Drop)]
+#[derive(Clone, Copy)]
 pub struct Run {
     pub passes: u64,
     pub last: u64,

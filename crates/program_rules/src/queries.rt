@@ -7,7 +7,7 @@ use bits::Field;
 use refusal::Refusal;
 
 // Mode, sort, value and n; or the first fault.
-#[derive(Drop)]
+#[derive(Clone, Copy)]
 pub enum Asked {
     Refused(Refusal),
     Query(u64, u64, u64, u64),

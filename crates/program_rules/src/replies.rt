@@ -2,7 +2,7 @@
 use refusal::Refusal;
 
 // How long the text is that was written, or why none was.
-#[derive(Drop)]
+#[derive(Clone, Copy)]
 pub enum Answered {
     Written(usize),
     Refused(Refusal),

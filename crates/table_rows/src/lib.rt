@@ -14,7 +14,7 @@ pub mod prepare; // prepare.rt: what the extractor goes by, out of the arrays of
 
 // The first fault, a literal's index, or a flat class with the number of rows that its sort reaches, of their
 // children and of all classes.
-#[derive(Drop)]
+#[derive(Clone, Copy)]
 pub enum Loaded {
     Refused(Refusal),
     Literal(u64),

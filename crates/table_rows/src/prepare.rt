@@ -7,7 +7,7 @@ ghost use Rattle.table_rows.specs.Flattened.{Space, Flattens};
 ghost use Rattle.table_rows.specs.Opening.{Opens};
 
 // A root: out of the table's range, a flat class, or the index of a literal.
-#[derive(Drop)]
+#[derive(Clone, Copy)]
 pub enum Root {
     Bad,
     Class(u64),
@@ -45,7 +45,7 @@ pub fn root_of(
 }
 
 // How many rows the root sorts reach, how many children they have in all, and how many classes the table has.
-#[derive(Drop)]
+#[derive(Clone, Copy)]
 pub struct Flat {
     pub rows: usize,
     pub children: usize,
@@ -127,7 +127,7 @@ pub fn flatten(
 
 // What a root asks for: nothing of the table, a literal's index, or a flat class with the number of rows that its sort
 // reaches, of their children and of all classes.
-#[derive(Drop)]
+#[derive(Clone, Copy)]
 pub enum Opened {
     Bad,
     Literal(u64),

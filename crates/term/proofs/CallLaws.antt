@@ -14,7 +14,7 @@ use Rattle.refusal.specs.declared.Refusal.{Refusal}
 use Rattle.refusal.specs.declared.Refusal.TheVariants.{BadStore, BadName, BadSize, BadTerm, NoRoom, Absent}
 use Rattle.term_rules.specs.Lent.{Store, store, record_at, InRecords}
 use Rattle.term_rules.specs.WellFormed.{all_below, well_formed}
-use Rattle.term_rules.specs.Nodes.{Node, literal}
+use Rattle.term_rules.specs.Nodes.{Node}
 use Rattle.term_rules.specs.Adding.{find_term, at, no_room, add}
 use Rattle.term_rules.proofs.FactsLaws.{sound-of-well_formed}
 use Rattle.order.specs.declared.Ordering.{Ordering}

@@ -26,42 +26,42 @@ use refusal::Refusal;
 use term_rules::Term;
 
 // The term's number, and how many terms and symbols the store has now.
-#[derive(Drop)]
+#[derive(Clone, Copy)]
 pub enum Added {
     Term(usize, usize, usize),
     Refused(Refusal),
 }
 
 // The term's number.
-#[derive(Drop)]
+#[derive(Clone, Copy)]
 pub enum Looked {
     Term(usize),
     Refused(Refusal),
 }
 
 // How many terms there are.
-#[derive(Drop)]
+#[derive(Clone, Copy)]
 pub enum Counted {
     Terms(usize),
     Refused(Refusal),
 }
 
 // How the first term stands to the second.
-#[derive(Drop)]
+#[derive(Clone, Copy)]
 pub enum Compared {
     Order(Ordering),
     Refused(Refusal),
 }
 
 // Whether a call was done.
-#[derive(Drop)]
+#[derive(Clone, Copy)]
 pub enum Verdict {
     Done,
     Refused(Refusal),
 }
 
 // A record, all zero where the call was refused.
-#[derive(Drop)]
+#[derive(Clone, Copy)]
 pub struct Got {
     pub verdict: Verdict,
     pub term: Term,

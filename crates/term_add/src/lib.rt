@@ -12,7 +12,7 @@ ghost use Rattle.term_add.specs.Interning.{has, has_at, room_in, name_room_in, L
 use name::Found;
 
 // The number of a term that is in the store now, with the store's counts, or that there is no room for it.
-#[derive(Drop)]
+#[derive(Clone, Copy)]
 pub enum Added {
     Term(usize, usize, usize),
     NoRoom,

@@ -2,7 +2,6 @@
 -- Assumes nothing.
 use Prim.Native.Nat.{ℕ}
 use mathlib.Core.Path.{◌≡◌, refl}
-use mathlib.Core.Bool.{true, false}
 use mathlib.Core.List.{List, [], ◌∷◌, ◌++◌}
 use lib.ListN.{replicate}
 use lib.IntN.{pos}
@@ -45,7 +44,7 @@ use Rattle.term_rules.specs.Adding.{
   room_for,
   add,
 }
-use Rattle.term.specs.Answers.{given, refused}
+use Rattle.term.specs.Answers.{refused}
 use Rattle.term.specs.Calls.{
   unless,
   literal_faults,

@@ -1,6 +1,6 @@
 -- Laws that follow the code of `add_many`: the list of adds as one call. Assumes nothing.
 use Prim.Native.Nat.{ℕ, ◌+◌, ◌≤◌, min}
-use mathlib.Core.Path.{◌≡◌, refl, sym, ap, ◌∙◌}
+use mathlib.Core.Path.{◌≡◌, sym, ap, ◌∙◌}
 use mathlib.Core.Bool.{true, false}
 use mathlib.Core.List.{List, [], ◌++◌}
 use native.Mathlib.Nat.{zero-add}

@@ -1,5 +1,5 @@
 -- The call keeps its promises. Assumes nothing.
-use Prim.Native.Nat.{ℕ, zero, suc, ◌+◌, ◌-◌, ◌≤◌, ◌<◌, min}
+use Prim.Native.Nat.{ℕ, ◌-◌, ◌≤◌, ◌<◌}
 use mathlib.Core.Path.{◌≡◌, refl, sym, ap, subst, ◌∙◌}
 use mathlib.Core.Bool.{true, false}
 use mathlib.Core.List.{List, [], ◌∷◌, ◌++◌}
@@ -10,16 +10,14 @@ use lib.Dec.{ltb}
 use lib.IntN.{ℤ}
 use lib.ListN.{length, get_or, take, drop, get_or-append}
 use lib.Seq.{take_at, take-append-le, get_or_at}
-use Rattle.refusal.specs.declared.Refusal.TheVariants.{BadStore}
 use Rattle.refusal.proofs.NumberLaws.{number-once}
 use Rattle.term_rules.specs.Lent.{Store, store}
 use Rattle.term_rules.specs.WellFormed.{well_formed}
 use Rattle.term_rules.specs.Nodes.{Node, literal, variable, application}
 use Rattle.term_rules.specs.Growing.{Grows, Takes}
 use Rattle.term_rules.proofs.TestLaws.{cases, no_both}
-use Rattle.term.specs.Answers.{Answer, given, refused, refuse}
-use Rattle.term.specs.Outcomes.{IsTerm}
-use Rattle.term.proofs.DeterminedLaws.{given-same, refused-same, given-refused}
+use Rattle.term.specs.Answers.{Answer, given, refused}
+use Rattle.term.proofs.DeterminedLaws.{refused-same, given-refused}
 use Rattle.term.proofs.Promises.{promises}
 use Rattle.term_one.specs.Wanted.{Wanted, add_count, node, asked_at, settled}
 use Rattle.term_one.specs.One.{single, add_one}

@@ -1,6 +1,6 @@
 -- The definition of the call and the adds made one by one, as the promises speak of them, are the same. Assumes
 -- nothing.
-use Prim.Native.Nat.{ℕ, zero, suc, ◌+◌, ◌-◌, ◌≤◌, ◌<◌}
+use Prim.Native.Nat.{ℕ, zero, suc, ◌+◌, ◌-◌, ◌≤◌}
 use mathlib.Core.Path.{◌≡◌, refl, sym, ap, subst, ◌∙◌}
 use mathlib.Core.Bool.{true}
 use mathlib.Core.List.{List, [], ◌∷◌, ◌++◌}
@@ -13,7 +13,6 @@ use Rattle.term_rules.proofs.Adding.AddingLaws.{grows-refl, grows-trans}
 use Rattle.term.specs.Answers.{Answer, given, refused}
 use Rattle.term.proofs.DeterminedLaws.{given-same, refused-same, given-refused}
 use Rattle.term_one.specs.Wanted.{Wanted, add_count, asked_at}
-use Rattle.term_one.specs.One.{add_one}
 use Rattle.term_many.specs.Many.{add_from}
 use Rattle.term_many.specs.Promises.{OneByOne, none, more, Stops, own, no_place, FirstFault}
 use Rattle.term_many.proofs.FromLaws.{

@@ -1,5 +1,5 @@
 -- Laws that follow the code of `add_all`: the definition one add at a time. Assumes nothing.
-use Prim.Native.Nat.{ℕ, zero, suc, ◌+◌, ◌-◌, ◌≤◌, ◌<◌}
+use Prim.Native.Nat.{ℕ, suc, ◌+◌, ◌-◌, ◌≤◌, ◌<◌}
 use mathlib.Core.Path.{◌≡◌, refl, sym, ap, subst, ◌∙◌}
 use mathlib.Core.Bool.{true}
 use mathlib.Core.List.{List, [], ◌∷◌, ◌++◌}
@@ -14,7 +14,7 @@ use Rattle.term_rules.specs.Lent.{Store, store}
 use Rattle.term_rules.specs.WellFormed.{well_formed}
 use Rattle.term_rules.specs.Growing.{Beyond, Grows}
 use Rattle.term_rules.proofs.Adding.AddingLaws.{grows-refl, grows-trans}
-use Rattle.term.specs.Answers.{Answer, given, refused, refuse}
+use Rattle.term.specs.Answers.{Answer, given, refuse}
 use Rattle.term_one.specs.Wanted.{Wanted, add_count, asked_at}
 use Rattle.term_one.specs.One.{add_one}
 use Rattle.term_many.specs.Many.{add_from}

@@ -6,12 +6,12 @@ use Rattle.term_rules.specs.Lent.{Store, kind_at, symbol_no}
 use Rattle.term_rules.specs.WellFormed.{well_formed}
 use Rattle.term_rules.specs.Nodes.{Node, literal, variable, application}
 use Rattle.term_rules.specs.Growing.{Grows}
-use Rattle.term.specs.Answers.{Answer, given, refused}
+use Rattle.term.specs.Answers.{given, refused}
 use Rattle.term.specs.Orders.{Telling, never, must, Refuses}
 use Rattle.term.specs.Outcomes.{IsTerm, There, Room, asks_literal, asks_variable, asks_application}
 use Rattle.term_one.specs.Wanted.{Wanted, add_count, node, kids_of, asked_at, child_number, settled}
 use Rattle.term_one.specs.One.{single, add_one}
-use Rattle.term_many.specs.Many.{number_room, Left, add_many, seen_many}
+use Rattle.term_many.specs.Many.{number_room, add_many, seen_many}
 use Rattle.term_many.specs.declared.Many.{Many}
 
 -- Adds were made one by one, from store s on: they got these numbers, and the last left store t.

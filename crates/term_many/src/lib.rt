@@ -13,7 +13,7 @@ use refusal::Refusal;
 use term::Added;
 
 // How many terms and symbols the store has now.
-#[derive(Drop)]
+#[derive(Clone, Copy)]
 pub enum Many {
     Added(usize, usize),
     Refused(Refusal),

@@ -26,7 +26,7 @@ use Rattle.term_rules.specs.Nodes.{
 use Rattle.term_rules.specs.Trees.{tree_at}
 use Rattle.term_rules.specs.Growing.{Grows}
 use Rattle.term.proofs.Promises.{promises as store-promises}
-use Rattle.text_rules.specs.LetText.{Naming, bindings_of, let_text, next_count}
+use Rattle.text_rules.specs.LetText.{Naming, let_text, next_count}
 use Rattle.text_rules.specs.PlainText.{plain_text}
 use Rattle.text_whole.specs.Alike.{Both, Lower, SameNode, Alike}
 use Rattle.text_whole.proofs.Alike.TextLaws.{plain-both, let-both, bound-length}

@@ -1,6 +1,6 @@
 -- What the texts promise: document 01, 'Terms' and 'Refusal numbers'. Assumes nothing: a record, with one field for
 -- each theorem.
-use Rattle.std.specs.Prelude.{ℕ, suc, ◌+◌, ◌*◌, ◌-◌, ◌≤◌, ◌<◌, ◌≡◌, true, false, List, [], ◌∷◌, ◌++◌, length, drop, get_or, ℤ, pos, negsuc}
+use Rattle.std.specs.Prelude.{ℕ, suc, ◌+◌, ◌*◌, ◌-◌, ◌≤◌, ◌<◌, ◌≡◌, true, false, List, [], ◌∷◌, ◌++◌, length, drop, get_or, pos, negsuc}
 use Rattle.decimal.specs.Decimal.{digits}
 use Rattle.name.specs.Name.{valid}
 use Rattle.term_rules.specs.Lent.{Store}
@@ -11,7 +11,7 @@ use Rattle.text_rules.specs.PlainText.{plain_text}
 use Rattle.text_rules.specs.LetText.{Naming, let_text, next_count}
 use Rattle.text_whole.specs.declared.Text.{Text}
 use Rattle.text_whole.specs.declared.LetText.{LetText}
-use Rattle.text_whole.specs.Placed.{Told, told, written, refusal, answer_of}
+use Rattle.text_whole.specs.Placed.{told, written, refusal, answer_of}
 use Rattle.text.specs.Told.{plain_told}
 use Rattle.text_whole.specs.LetPlaced.{let_answer_of, valid_prefix}
 use Rattle.text.specs.LetTold.{let_told}

@@ -2,7 +2,7 @@
 use Rattle.std.specs.Prelude.{ℕ, List}
 use Rattle.term_rules.specs.Lent.{Store}
 use Rattle.term_rules.specs.Nodes.{Node, node_at}
-use Rattle.text_rules.specs.Forms.{Called, by_text, line}
+use Rattle.text_rules.specs.Forms.{by_text, line}
 
 -- on one line, every child by its own text
 unfoldable pub plain_line : (ℕ → Node) → ℕ → List ℕ

@@ -7,7 +7,6 @@ use native.Mathlib.Omega.{arith}
 use lib.ListN.{length, get_or, replicate, length-replicate}
 use lib.IntN.{ℤ}
 use Rattle.text_rules.specs.Forms.{children}
-use Rattle.text_rules.specs.Bindings.{Bound, bindings}
 use Rattle.text_rules.specs.LetText.{several, text_with, bindings_of, let_layout}
 use Rattle.text_whole.proofs.Alike.KidLaws.{bindings-same}
 use Rattle.term_rules.specs.Lent.{kids_at}

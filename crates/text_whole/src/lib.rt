@@ -20,14 +20,14 @@ use text_lines::lets;
 use text_write::widths;
 
 // The length of the text that was written, or why none was.
-#[derive(Drop)]
+#[derive(Clone, Copy)]
 pub enum Text {
     Written(usize),
     Refused(Refusal),
 }
 
 // The length of the let text that was written and the next unused count, or why none was.
-#[derive(Drop)]
+#[derive(Clone, Copy)]
 pub enum LetText {
     Written(usize, u64),
     Refused(Refusal),

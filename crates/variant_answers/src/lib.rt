@@ -1,5 +1,7 @@
 // What the kept rows of a class answer: their costs and terms, all of them or nothing. (src/extract.rs,
 // extract_variants_with_sort)
+#![tactic(auto)]
+
 ghost use Rattle.std.specs.Prelude.{◌≡◌, ◌≤◌, length};
 ghost use Rattle.std.proofs.Math.Seq.{paste};
 ghost use Rattle.term_rules.specs.Lent.{store};
@@ -12,7 +14,7 @@ ghost use Rattle.variant_answers.specs.Kept.{AnswerReady, Answers};
 use variant_terms::Turned;
 
 // How many are kept, the passes and the counts of terms and symbols then; or the refusal.
-#[derive(Drop)]
+#[derive(Clone, Copy)]
 pub enum Variants {
     Kept(usize, u64, usize, usize),
     TooDear,

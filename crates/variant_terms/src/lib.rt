@@ -17,7 +17,7 @@ use build::Built;
 pub mod row; // row.rt: the term of one row, as a variant is: each child class by its best term, then the row's own
 
 // The counts of terms and symbols then; or that the store has no room for a term.
-#[derive(Drop)]
+#[derive(Clone, Copy)]
 pub enum Turned {
     All(usize, usize),
     Full,

@@ -14,7 +14,7 @@ use variant_answers::Variants;
 pub mod kept_rows; // kept_rows.rt: the variants of a class, over flat rows: costs and choice, the rows that are kept, then their terms
 
 // How many are kept, the passes and the counts of terms and symbols then; or the refusal.
-#[derive(Drop)]
+#[derive(Clone, Copy)]
 pub enum VariantsAnswer {
     Kept(usize, u64, usize, usize),
     Refused(Refusal),

@@ -1,16 +1,14 @@
 -- The loop over the argument sorts of a function. Assumes nothing.
-use Prim.Native.Nat.{ℕ, zero, suc, ◌+◌, ◌*◌, ◌≤◌, ◌<◌}
+use Prim.Native.Nat.{ℕ, ◌+◌, ◌*◌, ◌≤◌, ◌<◌}
 use mathlib.Core.List.{List, [], ◌∷◌, ◌++◌}
-use mathlib.Core.Path.{◌≡◌, refl, sym, ap, ◌∙◌}
+use mathlib.Core.Path.{◌≡◌, refl, sym}
 use native.Mathlib.Omega.{arith}
-use lib.ListN.{length, length-append, set}
-use lib.Seq.{sets}
+use lib.ListN.{set}
 use Rattle.refusal.specs.declared.Refusal.{Refusal}
-use Rattle.refusal.specs.declared.Refusal.TheVariants.{Short, BadSort}
-use Rattle.bits.specs.Got.{Got, got, refused, many}
+use Rattle.bits.specs.Got.{got, refused, many}
 use Rattle.bits.specs.Field.{field}
 use Rattle.bits.proofs.FieldLaws.{field-read}
-use Rattle.bits.proofs.GotLaws.{All, all-got, all-at, many-all, Loop, loop-start, loop-more, loop-refuses, loop-ends}
+use Rattle.bits.proofs.GotLaws.{Loop, loop-start, loop-more, loop-refuses, loop-ends}
 use Rattle.file_rules.proofs.ArraysLaws.{sets-snoc}
 use Rattle.file_fields.specs.Put.{PutList, argument_of}
 use Rattle.file_fields.proofs.function_fields.StepLaws.{argument-in}

@@ -6,9 +6,9 @@ use lib.ListN.{length, get_or, take}
 use lib.Seq.{length-take-le, get_or-take}
 use borrow.Author.Tests.{lt-ltb, le-ltb, le-leb, lt-leb, eq-eqb, ne_eqb}
 use Rattle.refusal.specs.declared.Refusal.TheVariants.{Short, BadSize, BadSort}
-use Rattle.bits.specs.Got.{Got, got, refused, then, must, pick, many}
+use Rattle.bits.specs.Got.{got, refused, then, must, pick, many}
 use Rattle.bits.specs.Field.{field}
-use Rattle.file_rules.specs.Functions.{Cost, Flags, cost_at, flags_at, output_at, argument_at, arguments_at}
+use Rattle.file_rules.specs.Functions.{cost_at, flags_at, output_at, argument_at, arguments_at}
 use Rattle.file_fields.specs.Put.{argument_of}
 
 module _ (s : List ℕ) (at : ℕ) where

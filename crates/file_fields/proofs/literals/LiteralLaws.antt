@@ -1,7 +1,7 @@
 -- Laws of the reading of literals. Assumes nothing.
 use Prim.Native.Nat.{ℕ, ◌+◌, ◌*◌, ◌≤◌, ◌<◌}
 use mathlib.Core.List.{List, [], ◌∷◌, ◌++◌}
-use mathlib.Core.Path.{◌≡◌, refl, sym, ◌∙◌}
+use mathlib.Core.Path.{◌≡◌, sym, ◌∙◌}
 use native.Mathlib.Omega.{arith}
 use lib.IntN.{ℤ, pos}
 use lib.ListN.{replicate, set}
@@ -13,7 +13,7 @@ use Rattle.bits.specs.Field.{field}
 use Rattle.bits.proofs.FieldLaws.{field-read}
 use Rattle.bits.proofs.GotLaws.{Loop, loop-start, loop-more, loop-refuses, loop-ends}
 use Rattle.file_rules.specs.Literals.{signed, literal_at, literals_at}
-use Rattle.file_rules.specs.Arrays.{HoldsLiterals, pad_with}
+use Rattle.file_rules.specs.Arrays.{HoldsLiterals}
 use Rattle.file_rules.proofs.SignedLaws.{signed-kept}
 use Rattle.file_rules.proofs.ArraysLaws.{pad_with-nil, pad_with-set}
 

@@ -1,21 +1,20 @@
 -- Laws of the reading of sorts. Assumes nothing.
-use Prim.Native.Nat.{ℕ, suc, ◌+◌, ◌*◌, ◌-◌, ◌≤◌, ◌<◌}
+use Prim.Native.Nat.{ℕ, ◌+◌, ◌*◌, ◌≤◌, ◌<◌}
 use mathlib.Core.List.{List, [], ◌∷◌, ◌++◌}
 use mathlib.Core.Path.{◌≡◌, refl, sym, ◌∙◌}
 use mathlib.Core.Bool.{Bool, true, false}
 use native.Mathlib.Omega.{arith}
-use lib.Dec.{leb, eqb}
-use lib.ListN.{length, length-append, replicate, set}
-use borrow.Author.Tests.{le-leb, lt-leb, leb-true, ne_eqb, eq-eqb}
+use lib.Dec.{leb}
+use lib.ListN.{replicate, set}
+use borrow.Author.Tests.{le-leb, lt-leb, ne_eqb, eq-eqb}
 use Rattle.refusal.specs.declared.Refusal.{Refusal}
 use Rattle.refusal.specs.declared.Refusal.TheVariants.{Short, BadSize}
 use Rattle.bits.specs.Got.{Got, got, refused, then, must, pick}
 use Rattle.bits.specs.Field.{field}
-use Rattle.bits.proofs.FieldLaws.{field-read}
 use Rattle.bits.proofs.GotLaws.{all-at, Loop, loop-start, loop-more, loop-refuses, loop-ends}
 use Rattle.file_rules.specs.Table.{Sort}
 use Rattle.file_rules.specs.Sorts.{classes_of, sort_at, sorts_at}
-use Rattle.file_rules.specs.Arrays.{HoldsSorts, pad}
+use Rattle.file_rules.specs.Arrays.{HoldsSorts}
 use Rattle.file_rules.proofs.SortLaws.{sort-kept, classes_of-snoc}
 use Rattle.file_rules.proofs.ArraysLaws.{pad_with-nil, pad-set-map}
 

@@ -4,7 +4,6 @@ use mathlib.Core.Path.{sym, ap, ◌∙◌}
 use native.Mathlib.Omega.{arith}
 use lib.ListN.{length}
 use lib.Seq.{length-take-le}
-use borrow.Author.Tests.{not-true, not-false}
 use Rattle.name.specs.Name.{all_allowed}
 use Rattle.bits.proofs.FieldLaws.{field-value, field-short, field-read, holds-true}
 use Rattle.file_names.proofs.TextLaws.{name_short, name-empty, name-cut, name-bad, name-good}

@@ -3,20 +3,20 @@ use Prim.Native.Nat.{ℕ, ◌+◌, ◌*◌, ◌≤◌, ◌<◌}
 use mathlib.Core.List.{List, [], ◌∷◌, ◌++◌}
 use mathlib.Core.Path.{◌≡◌, refl, sym, ap, ◌∙◌}
 use native.Mathlib.Omega.{arith}
-use lib.ListN.{length, set}
+use lib.ListN.{length}
 use lib.Seq.{sets, sets-eq, take_all}
 use Rattle.refusal.specs.declared.Refusal.{Refusal}
 use Rattle.name.specs.Entries.{entry_width, entries_length, table_length, Entries, entry, put_name}
 use Rattle.name.proofs.EntryLaws.{entry_length}
-use Rattle.bits.specs.Got.{Got, got, refused}
+use Rattle.bits.specs.Got.{got, refused}
 use Rattle.bits.proofs.GotLaws.{all-at, Loop, loop-start, loop-more, loop-refuses, loop-ends}
 use Rattle.file_rules.specs.Table.{Function}
 use Rattle.file_rules.specs.Every.{Every, every-nil}
 use Rattle.file_rules.specs.Functions.{function_at, functions_at}
-use Rattle.file_rules.specs.Arrays.{pad_with, pad, blocks, HoldsFunctions}
+use Rattle.file_rules.specs.Arrays.{pad, blocks, HoldsFunctions}
 use Rattle.file_rules.proofs.ArraysLaws.{pad_with-nil, pad_with-length, pad-set-map}
 use Rattle.file_rules.proofs.BlockLaws.{every-snoc, every_map, blocks-snoc, blocks-length, pad-block, pad-of-pad}
-use Rattle.file_rules.proofs.FunctionLaws.{FunctionKept, function-kept}
+use Rattle.file_rules.proofs.FunctionLaws.{function-kept}
 use Rattle.file_names.specs.Name.{HoldsNames}
 use Rattle.file_names.proofs.EntriesLaws.{entry_of, names-length, held-length, held-entries}
 use Rattle.file_reader.specs.Put.{PutFunction, Zeros}

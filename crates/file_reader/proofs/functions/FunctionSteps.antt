@@ -4,7 +4,7 @@ use mathlib.Core.List.{List}
 use mathlib.Core.Path.{◌≡◌}
 use lib.ListN.{length}
 use Rattle.refusal.specs.declared.Refusal.{Refusal}
-use Rattle.bits.specs.Got.{Got, got, refused, then}
+use Rattle.bits.specs.Got.{got, refused, then}
 use Rattle.bits.proofs.GotLaws.{all-at}
 use Rattle.file_rules.specs.Table.{Function}
 use Rattle.file_rules.specs.Functions.{Cost, Flags, new_name_at, cost_at, flags_at, output_at, arguments_at, function_at}

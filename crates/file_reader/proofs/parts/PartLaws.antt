@@ -1,10 +1,8 @@
 -- Laws of the parts of a table file, one for each way that their reading goes. Assumes nothing.
-use Prim.{Dec, yes, no}
-use Prim.Native.Nat.{ℕ, ◌+◌, ◌-◌, ◌*◌, ◌/◌, ◌%◌, ◌≤◌, ◌<◌}
+use Prim.Native.Nat.{ℕ, ◌+◌, ◌*◌, ◌/◌, ◌%◌, ◌≤◌, ◌<◌}
 use mathlib.Core.List.{List}
-use mathlib.Core.Path.{◌≡◌, refl, sym, ◌∙◌}
+use mathlib.Core.Path.{◌≡◌}
 use native.Mathlib.Omega.{arith}
-use lib.Dec.{leb}
 use lib.ListN.{length}
 use borrow.Author.Tests.{leb-true, le-leb, lt-leb, eq-eqb, ne_eqb}
 use Rattle.refusal.specs.declared.Refusal.TheVariants.{Short, BadVersion, BadSize, Trailing}
@@ -12,7 +10,7 @@ use Rattle.bits.specs.Got.{Got, got, refused, then, must}
 use Rattle.bits.specs.Field.{field}
 use Rattle.bits.proofs.FieldLaws.{field-read}
 use Rattle.bits.proofs.GotLaws.{All, all-at, all_of, all_then, all-must}
-use Rattle.file_rules.specs.Table.{Sort, Function, Row}
+use Rattle.file_rules.specs.Table.{Row}
 use Rattle.file_rules.specs.Sorts.{sorts_at}
 use Rattle.file_rules.specs.Literals.{literals_at}
 use Rattle.file_rules.specs.Functions.{functions_at}

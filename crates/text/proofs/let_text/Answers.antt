@@ -1,42 +1,34 @@
 -- `text::let_text` meets its contract: each refusal in its order, and then the text. Assumes nothing.
 use mathlib.Core.Path.{sym, ◌∙◌}
 use borrow.Author.Tests.{not-true, not-false}
-use Rattle.term_rules.specs.Lent.{Store, store}
-use Rattle.text_rules.specs.LetText.{Naming}
+use Rattle.term_rules.specs.Lent.{store}
 use Rattle.text_whole.specs.LetPlaced.{naming}
 use Rattle.text.proofs.LetToldLaws.{let-store-refuses, let-term-refuses, let-prefix-refuses, let-hint-refuses, let-start-refuses, let-placed}
 use Rattle.text.proofs.let_text.Goals as goal
 
-abbrev lent : tie.Start → Store
-lent s =
-    store s.args.records.now s.args.literals.now s.args.names.now s.args.terms s.args.symbols
-
-abbrev names : tie.Start → Naming
-names s = naming s.args.prefix.now s.args.hint.now s.args.start s.args.bare
-
 pub returns-then-not-is_well_formed : goal.returns-then-not-is_well_formed
 returns-then-not-is_well_formed c =
     sym
-    (let-store-refuses (lent s) (names s) c.args.term c.args.out.now
+    (let-store-refuses (store c.args.records.now c.args.literals.now c.args.names.now c.args.terms c.args.symbols) (naming c.args.prefix.now c.args.hint.now c.args.start c.args.bare) c.args.term c.args.out.now
     (sym c.is_well_formed.ensures ∙ not-true _ c.if-not-is_well_formed.true-raw))
 
 pub returns-then-terms-term : goal.returns-then-terms-term
 returns-then-terms-term c =
     sym
-    (let-term-refuses (lent s) (names s) c.args.term c.args.out.now
+    (let-term-refuses (store c.args.records.now c.args.literals.now c.args.names.now c.args.terms c.args.symbols) (naming c.args.prefix.now c.args.hint.now c.args.start c.args.bare) c.args.term c.args.out.now
     (sym c.is_well_formed.ensures ∙ not-false _ c.if-not-is_well_formed.false-raw) c.if-terms-term.true)
 
 pub returns-then-not-is_prefix : goal.returns-then-not-is_prefix
 returns-then-not-is_prefix c =
     sym
-    (let-prefix-refuses (lent s) (names s) c.args.term c.args.out.now
+    (let-prefix-refuses (store c.args.records.now c.args.literals.now c.args.names.now c.args.terms c.args.symbols) (naming c.args.prefix.now c.args.hint.now c.args.start c.args.bare) c.args.term c.args.out.now
     (sym c.is_well_formed.ensures ∙ not-false _ c.if-not-is_well_formed.false-raw) c.if-terms-term.false
     (sym c.is_prefix.ensures ∙ not-true _ c.if-not-is_prefix.true-raw))
 
 pub returns-then-not-is_valid : goal.returns-then-not-is_valid
 returns-then-not-is_valid c =
     sym
-    (let-hint-refuses (lent s) (names s) c.args.term c.args.out.now
+    (let-hint-refuses (store c.args.records.now c.args.literals.now c.args.names.now c.args.terms c.args.symbols) (naming c.args.prefix.now c.args.hint.now c.args.start c.args.bare) c.args.term c.args.out.now
     (sym c.is_well_formed.ensures ∙ not-false _ c.if-not-is_well_formed.false-raw) c.if-terms-term.false
     (sym c.is_prefix.ensures ∙ not-false _ c.if-not-is_prefix.false-raw)
     (sym c.is_valid.ensures ∙ not-true _ c.if-not-is_valid.true-raw))
@@ -44,7 +36,7 @@ returns-then-not-is_valid c =
 pub returns-then-start-gt4294966271 : goal.returns-then-start-gt4294966271
 returns-then-start-gt4294966271 c =
     sym
-    (let-start-refuses (lent s) (names s) c.args.term c.args.out.now
+    (let-start-refuses (store c.args.records.now c.args.literals.now c.args.names.now c.args.terms c.args.symbols) (naming c.args.prefix.now c.args.hint.now c.args.start c.args.bare) c.args.term c.args.out.now
     (sym c.is_well_formed.ensures ∙ not-false _ c.if-not-is_well_formed.false-raw) c.if-terms-term.false
     (sym c.is_prefix.ensures ∙ not-false _ c.if-not-is_prefix.false-raw)
     (sym c.is_valid.ensures ∙ not-false _ c.if-not-is_valid.false-raw) c.if-start-gt4294966271.true)
@@ -65,7 +57,7 @@ pub returns : goal.returns
 returns c =
     c.let_of.ensures
     ∙ sym
-    (let-placed (lent s) (names s) c.args.term c.args.out.now
+    (let-placed (store c.args.records.now c.args.literals.now c.args.names.now c.args.terms c.args.symbols) (naming c.args.prefix.now c.args.hint.now c.args.start c.args.bare) c.args.term c.args.out.now
     (sym c.is_well_formed.ensures ∙ not-false _ c.if-not-is_well_formed.false-raw) c.if-terms-term.false
     (sym c.is_prefix.ensures ∙ not-false _ c.if-not-is_prefix.false-raw)
     (sym c.is_valid.ensures ∙ not-false _ c.if-not-is_valid.false-raw) c.if-start-gt4294966271.false)

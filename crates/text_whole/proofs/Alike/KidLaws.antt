@@ -1,11 +1,11 @@
 -- Counts, sizes and bindings go by the terms, not by their numbers. Assumes nothing.
-use mathlib.Core.Path.{◌≡◌, refl, sym, ap, subst, ◌∙◌}
-use mathlib.Core.Bool.{Bool, true, false, ◌&&◌, ◌||◌}
+use mathlib.Core.Path.{◌≡◌, refl, ap, subst, ◌∙◌}
+use mathlib.Core.Bool.{Bool, true, false}
 use mathlib.Core.List.{List, [], ◌∷◌, ◌++◌}
 use Prim.Native.Nat.{ℕ, zero, suc, ◌+◌, ◌<◌}
 use native.Mathlib.Omega.{arith}
 use lib.ListN.{length, get_or}
-use lib.Dec.{eqb, ltb, leb}
+use lib.Dec.{eqb}
 use Rattle.text_rules.specs.Counts.{in_turn, member, reach_in, reached, places, places_in, count, sum_of, size_in, size}
 use Rattle.text_rules.specs.Bindings.{Bound, Place, nowhere, place, find, to_bind, bind, meet_in, bindings}
 use Rattle.text_whole.specs.Alike.{Both, Lower, Once, AlikeKids, SameBound}

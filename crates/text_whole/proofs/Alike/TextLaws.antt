@@ -1,34 +1,17 @@
 -- Plain text and let text go by the terms, not by their numbers. Assumes nothing.
-use mathlib.Core.Path.{◌≡◌, refl, sym, ap, subst, ◌∙◌}
-use mathlib.Core.Bool.{Bool, true, false, ◌||◌}
-use mathlib.Core.List.{List, [], ◌∷◌, ◌++◌}
+use mathlib.Core.Path.{◌≡◌, refl, sym, ap, ◌∙◌}
+use mathlib.Core.Bool.{Bool, true, false}
+use mathlib.Core.List.{List, [], ◌∷◌}
 use Prim.Native.Nat.{ℕ, zero, suc, ◌+◌, ◌<◌}
 use native.Mathlib.Omega.{arith}
 use lib.ListN.{length}
-use lib.Dec.{ltb}
 use Rattle.term_rules.specs.Nodes.{Node, literal, variable, application}
 use Rattle.text_rules.specs.Forms.{children, each, form, Called, by_text, shown, child_text, line_in, line}
-use Rattle.text_rules.specs.Bindings.{Bound, find, bindings}
-use Rattle.text_rules.specs.LetText.{
-  Naming,
-  let_name,
-  called_at,
-  called,
-  several,
-  any_several,
-  new_line,
-  breaks,
-  own_in,
-  own,
-  let_line,
-  let_lines,
-  text_with,
-  bindings_of,
-  let_layout,
-}
+use Rattle.text_rules.specs.Bindings.{Bound}
+use Rattle.text_rules.specs.LetText.{Naming, called_at, called, any_several, new_line, breaks, own_in, own, let_lines, text_with, bindings_of, let_layout}
 use Rattle.text_rules.specs.PlainText.{plain_line}
 use Rattle.text_rules.proofs.FormLaws.{child_text-is}
-use Rattle.text_whole.specs.Alike.{Both, Lower, Once, AlikeKids, SameNode, Alike, SameBound}
+use Rattle.text_whole.specs.Alike.{Both, Lower, AlikeKids, SameNode, Alike, SameBound}
 use Rattle.text_whole.proofs.Alike.KidLaws.{pick, pick-both, both-length, find-both, bindings-both}
 
 -- ---- forms

@@ -47,18 +47,6 @@ returns-in_default c =
     (name_in a.labels.now a.rows.now) (children_at a.rows.now) _
     a.list.now _ _ l.found l.j l.invariant c.loop-j-test.true _ _ _ _ w
 
-pub offset_bounds-found-j : goal.offset_bounds-found-j
-offset_bounds-found-j c =
-    let g = c.before.before.before.before.before.before.before.before.before.before.before.before.before.before.before.before.before.before.before.before.before.before.before.before.before.before.before.well-formed in
-    let l = c.loop-j-test.true in
-    omega (arith, g)
-
-pub overflow_add-j : goal.overflow_add-j
-overflow_add-j c =
-    let g = c.before.before.before.before.before.before.before.before.before.before.before.before.before.before.before.before.before.before.before.before.before.before.before.before.before.before.before.well-formed in
-    let l = c.loop-j-test.true in
-    omega (arith, g)
-
 pub loop-j-preserved : goal.loop-j-preserved
 loop-j-preserved c =
     let a = c.args in

@@ -5,9 +5,6 @@ use native.Mathlib.Omega.{arith}
 use borrow.Author.Rules.{rules}
 use Rattle.program_rules.proofs.headlines.put_variant.Goals as goal
 
-slice-aggregate-put-word : tie.Need-slice-aggregate-put-word
-slice-aggregate-put-word c = search rules
-
 pub put_word-a-requires : goal.put_word-a-requires
 put_word-a-requires c =
     omega (
