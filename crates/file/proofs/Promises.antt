@@ -1,11 +1,10 @@
 -- The promises of the crate `file`, each from its law. Assumes nothing.
-use Prim.Native.Nat.{ℕ, ◌*◌, ◌≤◌}
+use Prim.Native.Nat.{ℕ, ◌*◌}
 use mathlib.Core.Path.{◌≡◌, sym, ap, subst, ◌∙◌}
 use mathlib.Core.List.{List, ◌++◌}
 use native.Mathlib.Omega.{arith}
 use lib.ListN.{length}
 use Rattle.refusal.specs.Numbers.{refusal_no}
-use Rattle.refusal.specs.declared.Refusal.{Refusal}
 use Rattle.refusal.specs.declared.Refusal.TheVariants.{Short, Trailing}
 use Rattle.bits.proofs.GotLaws.{all-at}
 use Rattle.file_rules.specs.Table.{Table}

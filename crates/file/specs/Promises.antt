@@ -7,7 +7,7 @@ use Rattle.refusal.specs.Numbers.{refusal_no}
 use Rattle.refusal.specs.Answer.{value, refusal}
 use Rattle.refusal.specs.declared.Refusal.TheVariants.{Short, Trailing}
 use Rattle.bits.specs.Bits.{bits_of}
-use Rattle.bits.specs.Got.{Got, got}
+use Rattle.bits.specs.Got.{got}
 use Rattle.file_rules.specs.Table.{Table}
 use Rattle.file_rules.specs.Every.{Every}
 use Rattle.file_rules.specs.File.{table_at}
