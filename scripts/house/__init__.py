@@ -10,7 +10,11 @@ from .antt import ATOM, Decl, Module, bound_by, crates_in, free, is_name, patter
 from .common import Fault, files, read, root_folder, run
 from .rt import Source
 
-KIT = ("std", "check", "libc", "io", "os", "bytes")
+# The kit's libraries that a crate lists where it names them; std is always there and never listed.
+KIT = ("anyhow", "bytes", "check", "io", "itertools", "libc", "os", "thiserror")
+
+# What a path of .antt begins with where it names a library: Rattle.CRATE.specs.FILE.NAME.
+LIBRARY = "Rattle"
 
 # The floors of document 01, lowest first: its heading, and the crates of each, by name or by what a name begins with.
 FLOORS = (
@@ -117,7 +121,8 @@ class House:
     def code_type(source, name, kind, text, lines):
         decl = Decl(source.ghost, "type", name, True, lines)
         if kind == "enum":
-            text = " ".join(re.findall(r"\(([^()]*)\)", text))
+            inner = re.sub(r"#\[[^\]]*\]", "", text[text.find("{") + 1 :])
+            text = " ".join(a or b for a, b in re.findall(r"\(([^()]*)\)|\{([^{}]*)\}", inner))
         decl.uses = source.named_types(text) - {(source.crate,) + source.path + (name,)}
         return decl
 
@@ -165,7 +170,7 @@ class House:
             return module.own[steps[0]]
         if steps[0] in module.imports:
             return self.at(self.whole(module, module.imports[steps[0]]) + steps[1:])
-        modules = steps[0] in module.aliases or steps[0] in module.children or steps[0].startswith("Rattle·")
+        modules = steps[0] in module.aliases or steps[0] in module.children or steps[0] == LIBRARY
         if modules and len(steps) > 1:
             return self.at(self.whole(module, steps))
         for path, _ in module.globs:
@@ -181,22 +186,17 @@ class House:
     def whole(module, steps):
         """A path of a module from its library on: it may begin with a child of the module or a name for another."""
         if steps[0] in module.children:
-            return ("Rattle·" + module.crate, module.part) + module.path + steps
+            return (LIBRARY, module.crate, module.part) + module.path + steps
         alias = module.aliases.get(steps[0], steps)
         return steps if alias[0] == steps[0] else House.whole(module, alias) + steps[1:]
 
     def at(self, steps):
         """What a whole path means, from its library on."""
-        if not steps[0].startswith("Rattle·"):
+        if steps[0] != LIBRARY or len(steps) < 2 or steps[1] not in self.listed:
             return "kit"
-        crate, _, part = steps[0][len("Rattle·") :].partition("·")
-        if crate not in self.listed:
-            return "kit"
-        rest = steps[1:]
-        part = rest[0] if rest else part
+        crate, part, rest = steps[1], steps[2] if len(steps) > 2 else None, steps[3:]
         if part not in ("specs", "proofs"):
             return None
-        rest = rest[1:]
         if part == "specs" and rest[:1] == ("declared",):
             return self.declared(crate, rest[1:])
         for cut in range(len(rest), -1, -1):
@@ -206,7 +206,7 @@ class House:
         return None
 
     def declared(self, crate, steps):
-        """A type of the code, by the path that the generated module has: m.Type.Type, m.Type.the-variants.V."""
+        """A type of the code, by the path that the generated module has: m.Type.Type, m.Type.TheVariants.V."""
         for cut in range(len(steps), 0, -1):
             if (crate,) + steps[:cut] in self.types:
                 return self.types[(crate,) + steps[:cut]]
@@ -252,10 +252,12 @@ class House:
         """The declarations that a function's clauses and signature name."""
         source = self.sources[function.crate, function.path]
         out = set()
-        params = set(re.findall(r"(\w+)\s*:", function.head))
+        params = set(re.findall(r"(\w+)\s*:", function.head)) | {"result", "self"}
         for _, text in function.clauses:
             free(tree(words(text)[0]), lambda name: False, params, out)
         found = {self.resolve(source.ghost, name) for name in out}
+        # a variant `E.V` needs no import: E is the code's own name for the type
+        found |= {self.types.get(source.full((name.split(".")[0],))) for name in out if "." in name}
         found |= {self.types.get(path) for path in source.named_types(function.head)}
         return {d for d in found if isinstance(d, Decl)}
 

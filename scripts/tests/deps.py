@@ -18,7 +18,7 @@ FILES = {
                              "pub fn top() -> u64 {\n    let x = next::make();\n    1\n}\n",
     "crates/said/src/main.rt": "// A program.\nfn main() {\n    io::print(b\"\");\n}\n",
     "crates/said/proofs/Lib.antt": "-- Laws.\npub mod SaidLaws\n",
-    "crates/said/proofs/SaidLaws.antt": "-- Rattle·next is in a comment alone.\nuse Rattle·low.specs.Low.{low}\n",
+    "crates/said/proofs/SaidLaws.antt": "-- Rattle.next is in a comment alone.\nuse Rattle.low.specs.Low.{low}\n",
     "crates/edit/src/lib.rt": "pub fn edit() -> u64 {\n    0\n}\n",
     "crates/edit/must-fail/one.edit": "file: src/lib.rt\nold:     0\nnew:     low::deep::count()\n",
 }

@@ -14,7 +14,7 @@ PROOF = "crates/low/proofs/find/Proof.antt"
 OFFER = """fn low::is: proved
 fn low::find: no proof: expected `find-spec` in crates/low/proofs/find/Proof.antt
 help: write crates/low/proofs/find/Proof.antt with these lines, and check again
-    use Rattle·low·proofs.proofs.find.Tie as tie
+    use Rattle.low.proofs.find.Tie as tie
 
     abbrev Inv-loop : tie.InvT-loop
     Inv-loop s i = ?
@@ -28,7 +28,7 @@ logic=not-proved
 SKELETON = """-- `low::find` meets its contract. Assumes nothing.
 use native.Mathlib.Omega.{arith}
 use borrow.Author.Needs.{needs}
-use Rattle·low·proofs.proofs.find.Tie as tie
+use Rattle.low.proofs.find.Tie as tie
 
 abbrev Inv-loop : tie.InvT-loop
 Inv-loop s i = ?

@@ -25,19 +25,19 @@ pub struct Place {
 """,
     "crates/low/specs/Lib.antt": "-- Low.\npub mod Lists\npub mod Facade\npub mod Deep\nmod Hidden\n",
     "crates/low/specs/Lists.antt": """-- Lists: a header, which belongs to no definition.
-use Prim.Native.Nat.{ℕ, zero, suc}
-use mathlib.Core.Path.{_≡_}
+use Rattle.std.specs.Prelude.{ℕ, zero, suc}
+use Rattle.std.specs.Prelude.{◌≡◌}
 
-infixr 50 _⊕_
+infixr 50 ◌⊕◌
 
 -- The sum.
 -- In two lines.
-unfoldable pub _⊕_ : ℕ → ℕ → ℕ
+unfoldable pub ◌⊕◌ : ℕ → ℕ → ℕ
 zero ⊕ n = n
 (suc m) ⊕ n = suc (m ⊕ n)
 
 -- A choice.
-abbrev pub if_then_else_ : ℕ → ℕ → ℕ → ℕ
+abbrev pub if◌then◌else◌ : ℕ → ℕ → ℕ → ℕ
 if b then x else y = x ⊕ y
 
 data Hue : Type 0 where
@@ -62,13 +62,13 @@ mutual
   odd zero = blue
   odd (suc n) = even n
 """,
-    "crates/low/specs/Facade.antt": """pub use Rattle·low·specs.specs.Lists.{Pair, red as crimson}
-use Rattle·low·specs.specs.Lists.{secret}
+    "crates/low/specs/Facade.antt": """pub use Rattle.low.specs.Lists.{Pair, red as crimson}
+use Rattle.low.specs.Lists.{secret}
 """,
     "crates/low/specs/Deep.antt": """pub mod Below
 pub use Below.*
 use Below.{deepest as own}
-use Rattle·low·specs.specs as low
+use Rattle.low.specs as low
 use low.Lists.{Hue}
 
 by-child : Hue
@@ -77,8 +77,8 @@ by-child = own Below.value low.Lists.secret
     "crates/low/specs/Deep/Below.antt": "pub deepest : ℕ\ndeepest = 1\n\npub value : ℕ\nvalue = 2\n",
     "crates/low/specs/Hidden.antt": "pub hidden : ℕ\nhidden = 1\n",
     "crates/term/src/lib.rt": """// Terms.
-ghost use mathlib.Core.Path.{_≡_};
-ghost use Rattle·term·specs.specs.Uses.{
+ghost use Rattle.std.specs.Prelude.{◌≡◌};
+ghost use Rattle.term.specs.Uses.{
   plus, // a comment
   chosen as picked,
 };
@@ -89,8 +89,8 @@ mod inner; // inner.rt
 // The sum, with `picked` in a comment.
 #[no_mangle]
 pub extern "C" fn sum(m: u64, plus: u64) -> Answer
-    requires { ⌜ m ≡ picked ⌝ }
-    ensures { λ r. ⌜ plus ≡ m ⌝ }
+    requires { m ≡ picked }
+    ensures { plus ≡ m }
 {
     let inner = m;
 }
@@ -99,21 +99,21 @@ fn unseen() -> u64 {
     0
 }
 """,
-    "crates/term/src/calls.rt": """ghost use Rattle·term·specs.specs.Uses.{plus};
+    "crates/term/src/calls.rt": """ghost use Rattle.term.specs.Uses.{plus};
 pub fn call() -> u64
-    ensures { λ r. ⌜ plus r ⌝ }
+    ensures { plus result }
 {
     0
 }
 """,
     "crates/term/src/inner.rt": "pub fn kept() -> u64 {\n    0\n}\n",
     "crates/term/specs/Lib.antt": "pub mod Uses\n",
-    "crates/term/specs/Uses.antt": """use mathlib.Core.Path.{_≡_}
-use Rattle·low.specs.Lists.{_⊕_, if_then_else_ as choose_by_or_, Pair as Two, Hue, red, blue as azure, even}
-use Rattle·low.specs.Facade as facade
-use Rattle·low.specs.Deep.{deepest, Below.value as inner}
-use Rattle·low.specs.declared.Answer.{Answer}
-use Rattle·low.specs.declared.Answer.the-variants.{Found as found}
+    "crates/term/specs/Uses.antt": """use Rattle.std.specs.Prelude.{◌≡◌}
+use Rattle.low.specs.Lists.{◌⊕◌, if◌then◌else◌ as choose◌by◌or◌, Pair as Two, Hue, red, blue as azure, even}
+use Rattle.low.specs.Facade as facade
+use Rattle.low.specs.Deep.{deepest, Below.value as inner}
+use Rattle.low.specs.declared.Answer.{Answer}
+use Rattle.low.specs.declared.Answer.TheVariants.{Found as found}
 
 plus : ℕ → ℕ
 plus n = n ⊕ 1
@@ -122,7 +122,7 @@ renamed : ℕ
 renamed = choose 1 by 2 or 3
 
 projected : Two ℕ → ℕ
-projected p = p .left
+projected p = p.left
 
 -- A variable of the name of a definition, in every kind of binder.
 shadowed : (plus : ℕ) → ℕ
@@ -145,7 +145,7 @@ through : facade.Pair ℕ → Hue
 through p = facade.crimson
 
 whole : ℕ
-whole = Rattle·low.specs.Deep.Below.deepest
+whole = Rattle.low.specs.Deep.Below.deepest
 
 chosen : Answer → ℕ
 chosen (found n p) = n
@@ -187,10 +187,10 @@ class Reading(unittest.TestCase):
         self.assertEqual(sorted(d.name for d in self.house.uses(self.decl(name))), sorted(expected))
 
     def test_operators(self):
-        self.uses("plus", "_⊕_")
+        self.uses("plus", "◌⊕◌")
 
     def test_imports_with_as(self):
-        self.uses("renamed", "if_then_else_")
+        self.uses("renamed", "if◌then◌else◌")
 
     def test_fields_are_no_names(self):
         self.uses("projected", "Pair")
@@ -229,7 +229,7 @@ class Reading(unittest.TestCase):
 
     def test_lines(self):
         lists = ("low", "specs", ("Lists",))
-        self.assertEqual(len(self.decl("_⊕_", lists).lines), 5)
+        self.assertEqual(len(self.decl("◌⊕◌", lists).lines), 5)
         self.assertEqual(len(self.decl("Pair", lists).lines), 5)
         self.assertEqual(len(self.decl("Hue", lists).lines), 3)
 
