@@ -54,21 +54,29 @@ def floor_of(crate):
 
 def read_list(root):
     """The comment lines at the top of crates.txt, and each crate's list of others, in its order."""
-    head, listed = [], {}
+    head, listed, _ = read_rows(root)
+    return head, listed
+
+
+def read_rows(root):
+    """What read_list gives, and of each crate what stands before its colon: its name, and perhaps `staticlib`."""
+    head, listed, told = [], {}, {}
     for number, line in enumerate(read(os.path.join(root, "crates.txt")).splitlines(), 1):
         body = line.split("#", 1)[0].strip()
         if not body:
             if not listed:
                 head.append(line)
             continue
-        name, colon, rest = body.partition(":")
-        name = name.strip()
-        if not colon or not re.fullmatch(r"[A-Za-z_]\w*", name):
-            raise Fault("crates.txt, line %d: 'NAME: DEP DEP ..' is expected, not '%s'" % (number, body))
+        before, colon, rest = body.partition(":")
+        row = re.fullmatch(r"([A-Za-z_]\w*)(?: staticlib)?", " ".join(before.split()))
+        if not colon or not row:
+            raise Fault("crates.txt, line %d: 'NAME: DEP DEP ..' or 'NAME staticlib: DEP ..' is expected, not '%s'" % (
+                number, body))
+        name = row.group(1)
         if name in listed:
             raise Fault("crates.txt, line %d: %s is listed twice" % (number, name))
-        listed[name] = rest.split()
-    return head, listed
+        listed[name], told[name] = rest.split(), row.group()
+    return head, listed, told
 
 
 def below(listed, crate):
@@ -312,7 +320,7 @@ class House:
 
     def named(self, crate):
         """The crates, of the repository and of the kit, that a crate's own files name."""
-        known = set(self.listed) | set(KIT) - {"std"}
+        known = set(self.listed).union(KIT, *self.listed.values()) - {"std"}
         out = set()
         for (c, _, _), module in self.modules.items():
             if c == crate:
@@ -328,6 +336,15 @@ class House:
             out |= crates_in(new) | set(re.findall(r"(?<![:\w])(\w+)::", new)) - own
         return out & known - {crate}
 
+    def called(self, path):
+        """The function of a path of the code, `m::f` or the method `m::Type::f`, and its file; or None for each."""
+        for steps in (1, 2):
+            other = self.sources.get((path[0], path[1:-steps]))
+            name = "::".join(path[-steps:])
+            if other and len(path) > steps and name in other.functions:
+                return other.functions[name], other
+        return None, None
+
     def reached_types(self, crate):
         """The crates of whose types a value is reached through a call, though no file names them.
 
@@ -338,9 +355,9 @@ class House:
             if c != crate:
                 continue
             for path in source.paths():
-                other = self.sources.get((path[0], path[1:-1])) if path[0] != crate else None
-                if other and path[-1] in other.functions:
-                    todo += other.named_types(other.functions[path[-1]].head)
+                called, other = self.called(path) if path[0] != crate else (None, None)
+                if called:
+                    todo += other.named_types(called.head)
                 if path in self.types:
                     todo.append(path)
         while todo:

@@ -6,6 +6,19 @@ from .antt import Module
 
 # A clause's beginning: its kind, perhaps a star, a name, and of a ghost value its colon.
 CLAUSE = re.compile(r"(requires|ensures)\*?(?:\s+[^\s{}]+)?\s*\{|(ghost)\s+\w+\s*:\s*\{")
+# The head of an impl block, up to its bracket.
+IMPL = re.compile(r"^[ \t]*(?:unsafe )?impl\b([^{;]*)(?=\{)", re.M)
+
+
+def implemented(head):
+    """The name of an impl's type, and how its methods are told: `Type`, or `<Type as Trait>` of a trait's."""
+    while "<" in head:
+        head = re.sub(r"<[^<>]*>", " ", head.replace("->", "  "))
+    steps = re.findall(r"[\w:]+", re.sub(r"\bwhere\b.*", "", head, flags=re.S))
+    names = [step.split("::")[-1] for step in steps]
+    if "for" in names[1:-1]:
+        return names[-1], "<%s as %s>" % (names[-1], names[names.index("for") - 1])
+    return (names[-1], names[-1]) if names else (None, None)
 
 
 def imported(text):
@@ -55,8 +68,7 @@ class Source:
         for m in re.finditer(r"^\s*(?:pub(?:\([^)]*\))? )?(struct|enum|type) (\w+)\b", self.code, re.M):
             end = self.end_of(m.end())
             self.types[m.group(2)] = (m.group(1), self.code[m.end() : end], self.span(m.start(1), end))
-        self.impls = [(m.start(), self.end_of(m.end()), m.group(1)) for m in re.finditer(
-            r"^[ \t]*(?:unsafe )?impl\b(?:[^{;]*?\bfor\s+|[^{;]*?)(\w+)(?:<[^{;]*>)?\s*(?=(?:where\b[^{;]*)?\{)", self.code, re.M)]
+        self.impls = [(m.start(), self.end_of(m.end())) + implemented(m.group(1)) for m in IMPL.finditer(self.code)]
         form = r'^[ \t]*(?:(pub )|pub\([^)]*\) )?(?:const )?(?:unsafe )?(?:extern "C" )?fn (\w+)'
         for m in re.finditer(form, self.code, re.M):
             self.function(m)
@@ -100,12 +112,14 @@ class Source:
         first = CLAUSE.search(self.code, match.end(), at)
         head = self.code[match.end() : first.start() if first else at]
         line = self.code.count("\n", 0, match.start(2)) + 1
+        while self.code[at - 1].isspace():
+            at -= 1
         lines = self.span(match.start(2), at)
         # a method is told by its type's name too
-        owner = next((name for start, end, name in self.impls if start <= match.start() < end), None)
-        name = match.group(2) if owner is None else "%s::%s" % (owner, match.group(2))
-        if owner:
-            head = re.sub(r"\bSelf\b", owner, head)
+        name = match.group(2)
+        for start, end, owner, told in self.impls:
+            if owner and start <= match.start() < end:
+                name, head = told + "::" + name, re.sub(r"\bSelf\b", owner, head)
         self.functions[name] = Function(self.crate, self.path, name, bool(match.group(1)), line, head, clauses, lines)
 
     def full(self, path):

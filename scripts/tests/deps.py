@@ -55,6 +55,23 @@ class Deps(unittest.TestCase):
         self.wrong("top: low next", "top: next",
                    "top: calls a function that takes or gives a type of low, and does not list it")
 
+    def test_static_library(self):
+        """The word before the colon stays, and is no crate."""
+        listed = FILES["crates.txt"].replace("top:", "top staticlib:")
+        with Tree(dict(FILES, **{"crates.txt": listed})) as tree:
+            self.assertEqual(tree.run("deps", "check")[0], 0)
+            tree.edit("crates.txt", "top staticlib: low next", "top staticlib: low")
+            self.assertEqual(tree.run("deps", "check")[1].splitlines()[0], "top: names next, and does not list it")
+            tree.run("deps", "write")
+            self.assertEqual(tree.read("crates.txt"), listed)
+
+    def test_imports(self):
+        """A `use` of several names, one under another name, names their crate; std's own modules are std's."""
+        with Tree(FILES) as tree:
+            tree.write("crates/next/src/lib.rt", "use std::{fs, io};\nuse low::{Low as Lowest, deep};\n\n"
+                       "pub fn make() -> Lowest {\n    io::nothing(deep::count());\n    Lowest::One\n}\n")
+            self.assertEqual(tree.run("deps", "check")[0], 0)
+
     def test_above(self):
         with Tree(FILES) as tree:
             self.assertEqual(tree.run("deps", "above", "next"), (0, "top\n"))

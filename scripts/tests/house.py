@@ -168,6 +168,46 @@ section-free = 1 -- plus in a comment
 }
 
 
+# Clauses with names and stars, a ghost value, a method, grouped imports, a variant that no `ghost use` names.
+FORMS = """#![tactic(auto)]
+
+use low::{Answer, lists as kept, deep::{self, Place as Spot}};
+pub(crate) use low::all::*;
+
+pub struct Pile {
+    pub spots: [u64; 4],
+}
+
+impl Pile {
+    ghost use Rattle.low.specs.Lists.{if◌then◌else◌};
+
+    // The sum with the least.
+    #[inline]
+    pub fn least(&self, n: u64) -> Self
+        ghost top: { Hue }
+        requires low { n ≤ self.now.spots }
+        requires high { n ≤ (record { of = top }).of }
+        ensures* { ⌜ n ≡ n ⌝ }
+        ensures picked { result ≡ if n then n else n }
+    {
+        if n == 0 { self } else { kept::none() }
+    }
+}
+
+impl Display for Pile where Pile: Copy {
+    fn least(&self) -> u64 {
+        0
+    }
+}
+
+pub(crate) fn inner(a: &[Spot]) -> u64
+    ensures { result ≡ Answer.None a.now }
+{
+    0
+}
+"""
+
+
 class Reading(unittest.TestCase):
     @classmethod
     def setUpClass(cls):
@@ -247,6 +287,22 @@ class Reading(unittest.TestCase):
         self.assertEqual(sorted(d.name for d in self.house.contract(found[0])), ["Answer", "chosen"])
         self.assertEqual([d.name for d in self.house.contract(found[1])], ["plus"])
 
+    def test_forms(self):
+        with Tree(dict(FILES, **{"crates.txt": "low:\nforms staticlib: low\n", "crates/forms/src/lib.rt": FORMS})) as tree:
+            here = house.House(tree.root)
+            source = here.sources["forms", ()]
+            self.assertEqual(source.imports, {
+                "Answer": ("low", "Answer"), "kept": ("low", "lists"), "deep": ("low", "deep"),
+                "Spot": ("low", "deep", "Place")})
+            self.assertEqual(sorted(source.functions), ["<Pile as Display>::least", "Pile::least", "inner"])
+            least, = here.public_functions("forms")
+            self.assertEqual([kind for kind, _ in least.clauses], ["ghost", "requires", "requires", "ensures", "ensures"])
+            self.assertEqual(len(least.lines), 8)
+            self.assertEqual(sorted(d.name for d in here.contract(least)), ["Pile", "if◌then◌else◌"])
+            # the code's path deep::Place has no file here; a variant is told by its type's own name
+            self.assertEqual([d.name for d in here.contract(source.functions["inner"])], ["Answer"])
+            self.assertEqual(here.named("forms"), {"low"})
+
     def test_closure(self):
         found = self.house.closure(self.house.contract(self.house.public_functions("term")[0]))
         self.assertEqual(sorted(d.name for d in found), ["Answer", "Place", "chosen"])
@@ -281,6 +337,9 @@ class Reading(unittest.TestCase):
         with Tree(dict(FILES, **{"crates/low/specs/Lists.antt": "strange\n"})) as tree:
             with self.assertRaisesRegex(house.Fault, "Lists.antt, line 1: 'strange ..' is no declaration"):
                 house.House(tree.root).modules["low", "specs", ("Lists",)].decls
+        with Tree(dict(FILES, **{"crates.txt": "low:\nlow wrong: low\n"})) as tree:
+            with self.assertRaisesRegex(house.Fault, "line 2: 'NAME: DEP DEP ..' or 'NAME staticlib: DEP ..' is expected"):
+                house.House(tree.root)
         with Tree(dict(FILES, **{"crates.txt": "low:\nlow:\n"})) as tree:
             with self.assertRaisesRegex(house.Fault, "line 2: low is listed twice"):
                 house.House(tree.root)
