@@ -12,7 +12,8 @@ from made_up import SCRIPTS, Tree
 
 TOP = os.path.dirname(SCRIPTS)
 SCRIPT = "#!/bin/sh\n"
-RT = SCRIPT + 'case $1 in ci) echo "rt: one proved (1 s)"; echo "3 passed, 0 failed" ;; esac\n'
+OK = "rt: ok; handles allowed: none; every proof and must-fail edit was done in this run"
+RT = SCRIPT + 'case $* in ci) echo "rt: one proved"; echo "%s"; echo "3 passed, 0 failed" ;; *) exit 7 ;; esac\n' % OK
 
 
 def put(tree, path, text):
@@ -30,9 +31,10 @@ def run(tree, path, *words):
 
 
 class Gate(unittest.TestCase):
-    def gate(self, steps, rt=RT):
-        """What ./test says with these steps, from 'all of it' on, and its exit status."""
-        with Tree({}) as tree:
+    def gate(self, steps, rt=RT, edits=0):
+        """What ./test says with these steps and so many must-fail edits, from 'all of it' on, and its exit status."""
+        with Tree({"crates/one/must-fail/%d.edit" % number: "" for number in range(edits)}) as tree:
+            os.makedirs(tree.path("crates/one/out"), exist_ok=True)
             shutil.copy(os.path.join(TOP, "test"), tree.path("test"))
             put(tree, "bin/rt", rt)
             for name, text in steps.items():
@@ -57,8 +59,25 @@ class Gate(unittest.TestCase):
         self.assertEqual(self.gate({"after-a": "exit 3\n"}), (1, [failed % "after-a"]))
         self.assertEqual(self.gate({"check-a": "echo fine\n"}, RT.replace("0 failed", "1 failed")),
                          (1, ["test: rt ci did not end in 'N passed, 0 failed'"]))
-        self.assertEqual(self.gate({}, SCRIPT + "[ $1 = fmt ] && exit\necho '2 passed, 1 failed'\nexit 1\n"),
-                         (1, ["2 passed, 1 failed"]))
+        self.assertEqual(self.gate({}, SCRIPT + "echo '2 passed, 1 failed'\nexit 1\n"), (1, ["2 passed, 1 failed"]))
+        self.assertEqual(self.gate({}, SCRIPT + "echo '3 passed, 0 failed'\n"),
+                         (1, ["test: rt ci has passed without its line 'rt: ok'"]))
+
+    def test_edits(self):
+        """A bad edit fails, and so does one that rt ci did not try; one that only a limit refused passes."""
+        bad = (1, ["test: must-fail edits are bad; see above what rt ci says of each: bring them to the code"])
+        for said, edits, wanted in (
+            ("2 refused", 2, (0, ["3 passed, 0 failed"])),
+            ("2 refused, 1 of them only by a limit", 2, (0, ["3 passed, 0 failed"])),
+            ("1 refused, 1 bad", 2, bad),
+            ("2 refused, 1 of them only by a limit, 1 bad", 2, bad),
+            ("0 refused, 2 bad", 2, bad),
+            ("2 refused", 3, (1, ["test: rt ci has refused 2 must-fail edits, and 3 are there"])),
+        ):
+            with self.subTest(said=said):
+                rt = RT.replace("none;", "none; must-fail edits: %s;" % said)
+                self.assertEqual(self.gate({"after-a": "echo fine\n"}, rt, edits), wanted)
+        self.assertEqual(self.gate({}, edits=1), (1, ["test: rt ci has refused 0 must-fail edits, and 1 are there"]))
 
     def test_words(self):
         """Help is an answer, on standard output; another word is refused. Neither starts a step."""
