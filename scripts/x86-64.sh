@@ -15,19 +15,19 @@ find_tools() {
   [ -e "$tools/lib/ld-linux-x86-64.so.2" ] || { why="the Rattle kit has no loader for x86-64 programs"; return 1; }
 }
 
-# The emulator that runs x86-64 programs on Arm, as $emulator: Debian's. On x86-64 none is needed, and it is empty.
+# The emulator that runs x86-64 programs on Arm, as $qemu: Debian's. On x86-64 none is needed, and it is empty.
 find_emulator() {
-  emulator=
+  qemu=
   arm || return 0
-  emulator=qemu-x86_64-static
-  command -v "$emulator" >/dev/null 2>&1 || { why="there is no $emulator, which runs x86-64 programs here"; return 1; }
+  qemu=qemu-x86_64-static
+  command -v "$qemu" >/dev/null 2>&1 || { why="there is no $qemu, which runs x86-64 programs here"; return 1; }
 }
 
 # Becomes a program that runs through the kit's loader, on Arm under the emulator.
 exec_loaded() {
   local v
   for v in $(env | sed -n 's/^\(QEMU_[A-Z_]*\)=.*/\1/p'); do unset "$v"; done
-  exec ${emulator:+"$emulator"} "$tools/lib/ld-linux-x86-64.so.2" --library-path "$tools/lib" "$@"
+  exec ${qemu:+"$qemu"} "$tools/lib/ld-linux-x86-64.so.2" --library-path "$tools/lib" "$@"
 }
 
 # Runs what have_c and have_rust built.
