@@ -19,7 +19,7 @@ find_tools() {
 find_emulator() {
   qemu=
   arm || return 0
-  qemu=qemu-x86_64-static
+  qemu='qemu-x86_64-static'
   command -v "$qemu" >/dev/null 2>&1 || { why="there is no $qemu, which runs x86-64 programs here"; return 1; }
 }
 
