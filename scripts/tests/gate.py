@@ -3,6 +3,7 @@
 crate's Rust where no compiler can be had. Usage: scripts/tests/gate.py"""
 import os
 import shutil
+import struct
 import subprocess
 import sys
 import unittest
@@ -90,15 +91,25 @@ class Gate(unittest.TestCase):
                 self.assertFalse([line for line in lines if line.startswith("==")], lines)
 
 
-class WithoutRust(unittest.TestCase):
-    """With the crate's Rust there, but neither cargo nor rustc nor a way to install them."""
+def stream(*parts):
+    return b"".join(struct.pack("<I", len(part)) + part for part in parts)
 
-    def without(self, script, shared=True):
-        with Tree({}) as tree:
-            for path in ("oracle/build", "oracle/compare", "scripts/x86-64.sh", "scripts/" + script):
+
+class WithoutRust(unittest.TestCase):
+    """With the crate's Rust there, or not, but neither cargo nor rustc nor a way to install them."""
+
+    def without(self, script, shared=True, answer=b"answered\n"):
+        with Tree({"here/crates.txt": ""}) as tree:
+            for path in ("oracle/build", "oracle/compare", "scripts/x86-64.sh", "scripts/recorded", "scripts/" + script):
                 os.makedirs(os.path.dirname(tree.path("here/" + path)), exist_ok=True)
                 shutil.copy(os.path.join(TOP, path), tree.path("here/" + path))
-            put(tree, "here/scripts/exec-program", SCRIPT)
+            shutil.copytree(os.path.join(SCRIPTS, "house"), tree.path("here/scripts/house"))
+            put(tree, "here/scripts/exec-program", SCRIPT + "cat >/dev/null\nexec cat answers\n")
+            os.makedirs(tree.path("here/examples/recorded"))
+            for path, content in (("examples/recorded/replay-0.bin", stream(b"asked", b"answered\n")),
+                                  ("answers", stream(answer))):
+                with open(tree.path("here/" + path), "wb") as file:
+                    file.write(content)
             if shared:
                 for name in ("extract", "termdag", "util"):
                     tree.write("shared/docs/src/src/%s.rs" % name, "")
@@ -114,14 +125,25 @@ class WithoutRust(unittest.TestCase):
         for script in ("check-oracle", "after-compare"):
             status, lines = self.without(script)
             self.assertEqual(status, 0, lines)
-            self.assertRegex(lines[-1], r"^not compared: .*: no oracle can be built here$")
+            told = [line for line in lines if line.startswith("not compared: ")]
+            self.assertRegex("\n".join(told), r"^not compared: .*: no oracle can be built here$")
             self.assertIn("cargo-web rustc-web cannot be installed here (E: Permission denied)", "\n".join(lines))
 
     def test_no_rust_text(self):
         for script in ("check-oracle", "after-compare"):
             status, lines = self.without(script, shared=False)
-            self.assertEqual((status, len(lines)), (0, 1), lines)
+            self.assertEqual(status, 0, lines)
             self.assertRegex(lines[0], r"^not compared: .*: the crate's Rust is not at \.\./shared/docs/src/src$")
+            last = {"check-oracle": "not compared: document 01's own path with the recorded answers: it cannot be built here",
+                    "after-compare": "scripts/exec-program run_program: replay-*.bin, 1 recorded answers"}
+            self.assertEqual(lines[-1], last[script])
+
+    def test_recorded_answers(self):
+        """Without the oracle the program is held to the recorded answers all the same."""
+        for shared in (True, False):
+            status, lines = self.without("after-compare", shared, b"another\n")
+            self.assertEqual(status, 1, lines)
+            self.assertIn("case 0 gets another answer than the recorded one", lines[-1])
 
 
 unittest.main()
