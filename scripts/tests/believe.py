@@ -19,8 +19,8 @@ pub record Table : Type 0 where
   pub rows : ℕ
 
 -- What is read.
-pub tableAt : ℕ → Table
-tableAt n = record { rows = n; }
+pub table_at : ℕ → Table
+table_at n = record { rows = n; }
 
 pub spare : ℕ
 spare = 1
@@ -32,7 +32,7 @@ large t = t.rows
     "crates/price/src/lib.rt": "// Prices.\n",
     "crates/price/specs/Lib.antt": "pub mod Cost\n",
     "crates/price/specs/Cost.antt": "pub cost : ℕ\ncost = 1\n",
-    "crates/file/src/lib.rt": """ghost use Rattle.file_rules.specs.Table.{tableAt};
+    "crates/file/src/lib.rt": """ghost use Rattle.file_rules.specs.Table.{table_at};
 
 // What is answered.
 pub enum Read {
@@ -41,7 +41,7 @@ pub enum Read {
 
 // Reads a table.
 pub fn read(n: u64) -> Read
-    ensures { tableAt n }
+    ensures { table_at n }
 {
     Read::Done
 }
@@ -79,7 +79,7 @@ class Believe(unittest.TestCase):
             self.assertEqual(tree.run("believe", "write"), (0, ""))
             self.assertEqual(self.said(tree), [])
             self.assertEqual(tree.run("believe")[1], tree.read("docs/BELIEVE.md"))
-            self.assertIn("- [Table](../%s), 8 of 15 lines: `Table` 3, `tableAt` 3; for the pages `large` 2" % TABLE,
+            self.assertIn("- [Table](../%s), 8 of 15 lines: `Table` 3, `table_at` 3; for the pages `large` 2" % TABLE,
                           tree.read("docs/BELIEVE.md"))
             self.assertIn("- file_rules: Inner\n- price: Cost\n", tree.read("docs/BELIEVE.md"))
 
@@ -119,20 +119,20 @@ class Believe(unittest.TestCase):
 
     def test_nothing_held(self):
         with Tree(FILES) as tree:
-            tree.edit("crates/file/src/lib.rt", "tableAt n", "n")
+            tree.edit("crates/file/src/lib.rt", "table_at n", "n")
             tree.edit("crates/file/specs/Promises.antt", "(t : Table) → large t ≡ 1", "1 ≡ 1")
             tree.run("believe", "write")
             self.assertEqual(len(self.said(tree)), 1)
             self.assertIn("TRUSTED of scripts/believe names file_rules, which holds nothing", self.said(tree)[0])
 
     def test_asked(self):
-        self.complains("crates/file/src/lib.rt", "    ensures {", "    requires { tableAt n }\n    ensures {",
+        self.complains("crates/file/src/lib.rt", "    ensures {", "    requires { table_at n }\n    ensures {",
                        "file: the public call `read` has a `requires`")
 
     def test_why(self):
         with Tree(FILES) as tree:
             self.assertEqual(tree.run("believe", "why", "Table"), (
-                0, "file::read -> file_rules.specs.Table.tableAt -> file_rules.specs.Table.Table\n"))
+                0, "file::read -> file_rules.specs.Table.table_at -> file_rules.specs.Table.Table\n"))
             self.assertEqual(tree.run("believe", "why", "spare")[0], 2)
 
 
