@@ -24,12 +24,13 @@ library_stamp() { sum_of crates crates.txt && sha256sum <"$library"; }
 program_stamp() { sum_of rust && sha256sum <"$library" && sha256sum <"$program"; }
 
 # Whether nothing of the given files and folders, entries that came or went among it, has changed since the stamp was
-# written: by the system's own time of change, which no copying sets back.
+# written: by the system's own time of change, which no copying sets back. A crate's own folder, whose time tells of the
+# out/ in it, is not asked, but all that it holds beside.
 untouched() {
   local stamp=$1
   shift
-  [ -z "$(find "$@" \( -name target -o -regex '.*/crates/[^/]*/out' \) -prune -o \
-    -newercm "$stamp" ! -name Cargo.lock -print -quit 2>&1)" ]
+  [ -z "$(find "$@" \( -name target -o -regex '.*/crates/[^/]*/out' \) -prune -o -newercm "$stamp" ! -name Cargo.lock \
+    ! \( -type d -regex '.*/crates/[^/]*' \) -print -quit 2>&1)" ]
 }
 
 # Whether the library and the program are those of the sources: nothing was touched, or all is as the stamp says.
@@ -93,17 +94,25 @@ tell_rt() {
   return 1
 }
 
-# The proved library of the sources as they are.
+# The proved library of the sources as they are: over what `rt ci` has just left, or else by `rt lib`.
 build_library() {
   have_rt ||
     { why="the library is not built of these sources, and the Rattle kit's 'rt', which builds it, is not on the PATH"; return 1; }
-  rm -f "$library.stamp"
+  rm -f "$library.stamp" "$library"
+  mkdir -p "$house/target"
+  if "$house/scripts/library-after-ci" >"$house/target/library.log" 2>&1 && [ -r "$library" ]; then
+    library_stamp >"$library.stamp"
+    return
+  fi
   if ! tell_rt needlevale_c lib || [ ! -r "$library" ]; then
     why="the library could not be proved and built; all that rt says of it is in $house/target/library.log"
     return 1
   fi
   library_stamp >"$library.stamp"
 }
+
+# Whether the program, $core, was built after the last change of the sources, by `rt ci` or `rt run`.
+core_fresh() { [ -x "$core" ] && untouched "$core" "$house/crates" "$house/crates.txt"; }
 
 # The proved program of the sources as they are, $core. `rt run` builds it and then asks it nothing: what the program
 # answers does not matter, and rt's own stamp, new beside it, tells that it was built.

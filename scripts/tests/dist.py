@@ -8,6 +8,7 @@ import shutil
 import struct
 import subprocess
 import sys
+import time
 import unittest
 
 sys.dont_write_bytecode = True
@@ -31,6 +32,19 @@ esac
 echo "crate $name: modules loaded=0 checked=1"
 """
 LOADER = '#!/bin/sh\nshift 2\nexec sh "$@"\n'
+RTLIB = """import os
+KIT = os.path.dirname(os.path.dirname(os.path.abspath(__file__)))
+RATTLE = KIT + "/bin/rattle"
+class Crate:
+    def __init__(self, folder, root, known, above=(), name=None):
+        self.name = os.path.basename(folder)
+    def words(self, flags, keeps=True):
+        return ["--crate-name", self.name]
+"""
+RATTLE = """#!/bin/sh
+[ "$1 $2 $3" = "build --crate-name needlevale_c" ] && [ "${*% -o out/libneedlevale_c.a}" != "$*" ] || exit 2
+cat "$(dirname "$0")/../bytes" ../*/src/* | cksum >out/libneedlevale_c.a
+"""
 NONE = "#!/bin/sh\necho 'E: none here' >&2\nexit 1\n"
 ANSWER = "cat >/dev/null\necho answered\n"
 PROGRAM, LIBRARY, IDENTITY, SUMS = ("dist/" + name for name in (
@@ -53,7 +67,7 @@ class Dist(unittest.TestCase):
     def setUp(self):
         self.tree = Tree(FILES).__enter__()
         self.addCleanup(self.tree.__exit__)
-        for name in ("dist", "after-dist", "recorded", "x86-64.sh", "command-line.sh"):
+        for name in ("dist", "after-dist", "recorded", "x86-64.sh", "command-line.sh", "library-after-ci"):
             os.makedirs(self.tree.path("scripts"), exist_ok=True)
             shutil.copy(os.path.join(SCRIPTS, name), self.tree.path("scripts/" + name))
         shutil.copytree(os.path.join(SCRIPTS, "house"), self.tree.path("scripts/house"))
@@ -194,6 +208,34 @@ class Dist(unittest.TestCase):
         self.tree.write("kit/bin/rt", RT.replace("[ $1 != version ]", "[ $1 != run ] || exit 1\n[ $1 != version ]"))
         self.assertIn("the program could not be proved and built", self.said("dist", "write", status=2))
         self.assertIn("run 'scripts/dist write'", self.said("dist", "check", status=1))
+
+    def test_after_ci(self):
+        """Over what rt ci has just left rt need prove nothing; over anything else the library is rt lib's."""
+        built = "crates/needlevale_c/out/libneedlevale_c.a"
+        self.tree.write("kit/bin/rtlib.py", RTLIB)
+        self.tree.write("kit/bin/rattle", RATTLE)
+        os.chmod(self.tree.path("kit/bin/rattle"), 0o755)
+        self.tree.write("kit/bin/rt", RT.replace("lib-needlevale_c)", "lib-needlevale_c) echo asked >../../asked;"))
+        rlib, asked = "crates/low/out/rlib/low.rlib/format", self.tree.path("asked")
+        for what, is_asked in (("nothing left", True), ("left by rt ci", False), ("an earlier check's", True),
+                               ("older than the sources", True), ("with another kit", True)):
+            with self.subTest(what=what):
+                shutil.rmtree(self.tree.path("crates/low/out"), ignore_errors=True)
+                os.remove(self.tree.path(built))
+                if what != "nothing left":
+                    time.sleep(0.02)
+                    self.tree.write(rlib, "")
+                if what == "an earlier check's":
+                    self.tree.write("crates/low/out/rlib/stamp", "")
+                if what == "older than the sources":
+                    time.sleep(0.02)
+                    self.tree.write("crates/low/src/lib.rt", FILES["crates/low/src/lib.rt"])
+                if what == "with another kit":
+                    self.tree.write("kit/bin/rtlib.py", RTLIB.replace("def words", "def no_words"))
+                self.passes()
+                self.assertEqual(os.path.exists(asked), is_asked)
+                if is_asked:
+                    os.remove(asked)
 
     def test_words(self):
         self.said("dist", status=2)
