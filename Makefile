@@ -39,7 +39,7 @@ PAGES = man/needlevale-core.1 man/needlevale.3
 OPEN := (
 CALLS := $(shell sed -n 's/^[a-z].*[ *]\(needlevale_[a-z_]*\)$(OPEN).*/\1/p' include/needlevale.h)
 BUILT = $(OUT)/libneedlevale.a $(OUT)/$(SHARED) $(OUT)/needlevale-core $(PAGES:man/%=$(OUT)/%)
-SOURCES := crates.txt $(shell find crates -name '*.rt' -o -name '*.antt')
+SOURCES := crates.txt $(shell find crates -regex 'crates/[^/]*/out' -prune -o \( -name '*.rt' -o -name '*.antt' \) -print)
 
 INSTALLED = $(BINDIR)/needlevale-core $(INCLUDEDIR)/needlevale.h $(LIBDIR)/libneedlevale.a $(LIBDIR)/$(SHARED) \
     $(LIBDIR)/$(SONAME) $(LIBDIR)/libneedlevale.so $(LIBDIR)/pkgconfig/needlevale.pc \
@@ -57,16 +57,18 @@ PROGRAM ?= dist/needlevale-core
 endif
 # rt tells by content what must be proved again, and leaves a file that is still right as old as it was.
 ifeq ($(origin ARCHIVE),undefined)
-ARCHIVE = target/staticlib/libneedlevale_c.a
+ARCHIVE = crates/needlevale_c/out/libneedlevale_c.a
 $(ARCHIVE): $(SOURCES)
 	@$(HAVE_RT)
-	rt staticlib needlevale_c && touch $@
+	cd crates/needlevale_c && rt lib && touch out/libneedlevale_c.a
 endif
 ifeq ($(origin PROGRAM),undefined)
-PROGRAM = target/bin/needlevale
+PROGRAM = crates/needlevale/out/needlevale
+# `rt run` builds it and then asks it nothing; rt's stamp beside it tells that it was built.
 $(PROGRAM): $(SOURCES)
 	@$(HAVE_RT)
-	rt check needlevale && touch $@
+	cd crates/needlevale && rm -f out/needlevale.stamp && \
+	    { rt run </dev/null >/dev/null; [ -s out/needlevale.stamp ]; } && touch out/needlevale
 endif
 HAVE_RT = command -v rt >/dev/null || \
     { echo "make: the Rattle kit's 'rt' is not on the PATH; ARCHIVE=.. and PROGRAM=.. do without" >&2; exit 1; }

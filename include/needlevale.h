@@ -1,11 +1,11 @@
 /* Needlevale as a C library: the program's answer, a term store of the caller's with its calls, the texts of terms,
  * and best and variants of a table file (x86-64 Linux). Installed, it is linked by the words of `pkg-config
- * --cflags --libs needlevale`; else with the archive of `rt staticlib needlevale_c`. The rules are in
+ * --cflags --libs needlevale`; else with the archive of `rt lib` in crates/needlevale_c. The rules are in
  * docs/RULES.md; R-order-4 and the like are its names. Paths are those of the sources.
  *
  * Proved of every call, for every content of the buffers and every number: it returns; it reads and writes nothing
  * but its buffers, and of those that are const it writes nothing; what comes back and what the buffers hold then is
- * exactly what the definitions written from the rules say (each call names its own; `lentStore` of
+ * exactly what the definitions written from the rules say (each call names its own; `lent_store` of
  * crates/lent/specs/Records.antt makes a store of two arrays); a refusal comes back as one of -1 to -17, is the
  * first of the call's order that holds, and changes no buffer. The statements are in crates/needlevale_c/src, what
  * follows from them in crates/needlevale_c/specs/Promises.antt and on the page of each definition's crate.
@@ -137,8 +137,8 @@ typedef struct needlevale_shape {
     size_t sorts, literals, functions, rows;
 } needlevale_shape;
 
-/* Whether a table file is accepted, and how much it holds. Equal to `shapeOf` of crates/c_told/specs/Files.antt, of
- * `tableAt` of crates/file_rules/specs/File.antt. Refusals (R-order-2): the file's first fault, 1 to 9. */
+/* Whether a table file is accepted, and how much it holds. Equal to `shape_of` of crates/c_told/specs/Files.antt, of
+ * `table_at` of crates/file_rules/specs/File.antt. Refusals (R-order-2): the file's first fault, 1 to 9. */
 needlevale_shape needlevale_read(const uint8_t *file, size_t file_length);
 
 /* ---- A term store of the caller's */
@@ -190,52 +190,52 @@ typedef struct needlevale_order {
 } needlevale_order;
 
 /* The number of a literal's term, which is added if it is not there. If it is there, that needs no room. Equal to
- * `addLiteral` of crates/term/specs/Calls.antt. Refusals, in order (R-order-6): 17, 13. */
+ * `add_literal` of crates/term/specs/Calls.antt. Refusals, in order (R-order-6): 17, 13. */
 needlevale_added needlevale_add_literal(needlevale_term *terms, size_t terms_length, const needlevale_entry *names,
                                         size_t names_length, size_t term_count, size_t name_count, int64_t literal);
 
 /* The number of a variable's term, which is added if it is not there, with its name if that is new. Equal to
- * `addVariable` there. Refusals, in order (R-order-5): 17, 4, 13. */
+ * `add_variable` there. Refusals, in order (R-order-5): 17, 4, 13. */
 needlevale_added needlevale_add_variable(needlevale_term *terms, size_t terms_length, needlevale_entry *names,
                                          size_t names_length, size_t term_count, size_t name_count,
                                          const uint8_t *name, size_t name_length);
 
 /* The number of an application's term, likewise: its head's name, and the numbers of its children, 0 to 8. Equal to
- * `addApplication` there. Refusals, in order (R-order-4): 17, 4, 3, 14, 13. */
+ * `add_application` there. Refusals, in order (R-order-4): 17, 4, 3, 14, 13. */
 needlevale_added needlevale_add_application(needlevale_term *terms, size_t terms_length, needlevale_entry *names,
                                             size_t names_length, size_t term_count, size_t name_count,
                                             const uint8_t *name, size_t name_length, const uint64_t *children,
                                             size_t children_length);
 
-/* The number of a literal's term that is there. Equal to `findLiteral` there. Refusals, in order (R-order-9): 17,
+/* The number of a literal's term that is there. Equal to `find_literal` there. Refusals, in order (R-order-9): 17,
  * 15. */
 needlevale_number needlevale_find_literal(const needlevale_term *terms, size_t terms_length,
                                           const needlevale_entry *names, size_t names_length, size_t term_count,
                                           size_t name_count, int64_t literal);
 
-/* The number of a variable's term that is there. Equal to `findVariable` there. Refusals, in order (R-order-8): 17, 4,
+/* The number of a variable's term that is there. Equal to `find_variable` there. Refusals, in order (R-order-8): 17, 4,
  * 15. */
 needlevale_number needlevale_find_variable(const needlevale_term *terms, size_t terms_length,
                                            const needlevale_entry *names, size_t names_length, size_t term_count,
                                            size_t name_count, const uint8_t *name, size_t name_length);
 
-/* The number of an application's term that is there. Equal to `findApplication` there. Refusals, in order (R-order-7):
+/* The number of an application's term that is there. Equal to `find_application` there. Refusals, in order (R-order-7):
  * 17, 4, 3, 14, 15. */
 needlevale_number needlevale_find_application(const needlevale_term *terms, size_t terms_length,
                                               const needlevale_entry *names, size_t names_length, size_t term_count,
                                               size_t name_count, const uint8_t *name, size_t name_length,
                                               const uint64_t *children, size_t children_length);
 
-/* How many terms there are, once the store is found well formed. Equal to `sizeOf` there. Refusals (R-order-10):
+/* How many terms there are, once the store is found well formed. Equal to `size_of` there. Refusals (R-order-10):
  * 17. */
 needlevale_number needlevale_size(const needlevale_term *terms, size_t terms_length, const needlevale_entry *names,
                                   size_t names_length, size_t term_count, size_t name_count);
 
-/* The record of a term. Equal to `getTerm` there. Refusals, in order (R-order-11): 17, 14. */
+/* The record of a term. Equal to `get_term` there. Refusals, in order (R-order-11): 17, 14. */
 needlevale_got needlevale_get(const needlevale_term *terms, size_t terms_length, const needlevale_entry *names,
                               size_t names_length, size_t term_count, size_t name_count, size_t term);
 
-/* How two terms stand in the order of terms (R-term-14). Equal to `compareTerms` there. It goes down into the first
+/* How two terms stand in the order of terms (R-term-14). Equal to `compare_terms` there. It goes down into the first
  * children that differ, with no list of pairs that wait and without calling itself: its stack is that of reading the
  * store, however deep the terms are. Refusals, in order (R-order-11): 17, 14. */
 needlevale_order needlevale_compare(const needlevale_term *terms, size_t terms_length, const needlevale_entry *names,
@@ -243,7 +243,7 @@ needlevale_order needlevale_compare(const needlevale_term *terms, size_t terms_l
                                     size_t second);
 
 /* Sorts a list of term numbers into that order, and keeps repeats: 0, or minus a refusal's number. Equal to
- * `sortTerms` there. Its stack does not grow with the list. Refusals, in order (R-order-11): 17, 14. */
+ * `sort_terms` there. Its stack does not grow with the list. Refusals, in order (R-order-11): 17, 14. */
 int64_t needlevale_sort(const needlevale_term *terms, size_t terms_length, const needlevale_entry *names,
                         size_t names_length, size_t term_count, size_t name_count, uint64_t *list,
                         size_t list_length);
@@ -257,14 +257,14 @@ typedef struct needlevale_let_length {
 } needlevale_let_length;
 
 /* The plain text of a term, without a zero at the end, at the start of output: its length, or minus a refusal's
- * number. Bytes past the text stay. Equal to `plainTold` of crates/text/specs/Told.antt. Refusals, in order
+ * number. Bytes past the text stay. Equal to `plain_told` of crates/text/specs/Told.antt. Refusals, in order
  * (R-order-12): 17, 14, 13. */
 int64_t needlevale_plain_text(const needlevale_term *terms, size_t terms_length, const needlevale_entry *names,
                               size_t names_length, size_t term_count, size_t name_count, size_t term, uint8_t *output,
                               size_t output_length);
 
 /* The let text of a term, likewise. A let name is the prefix, which may be empty, the hint and a count from start on;
- * where bare is true, count 0 is not printed. Equal to `letTold` of crates/text/specs/LetTold.antt. Refusals, in order
+ * where bare is true, count 0 is not printed. Equal to `let_told` of crates/text/specs/LetTold.antt. Refusals, in order
  * (R-order-13): 17, 14, 4 of the prefix, 4 of the hint, 3 of start, 13. */
 needlevale_let_length needlevale_let_text(const needlevale_term *terms, size_t terms_length,
                                           const needlevale_entry *names, size_t names_length, size_t term_count,
@@ -293,7 +293,7 @@ typedef struct needlevale_kept {
     size_t term_count, name_count;
 } needlevale_kept;
 
-/* The best term of a root of the table file at file, built in the store. Equal to `bestAt` of
+/* The best term of a root of the table file at file, built in the store. Equal to `best_at` of
  * crates/answer_rules/specs/Best.antt. Refusals, in order (R-order-3): the file's first fault (1 to 9), 10, 17, 11,
  * 12, 13. */
 needlevale_best_term needlevale_best(const uint8_t *file, size_t file_length, uint64_t sort, uint64_t value,
@@ -302,7 +302,7 @@ needlevale_best_term needlevale_best(const uint8_t *file, size_t file_length, ui
 
 /* At most `most` variants of a root of the table file at file, built in the store: their costs and term numbers at
  * the start of costs and found, the cheapest first; what is past them stays. A base root has one, whatever `most`
- * is. Equal to `variantsAt` of crates/answer_rules/specs/Variants.antt. Refusals, in order (R-order-3): the file's
+ * is. Equal to `variants_at` of crates/answer_rules/specs/Variants.antt. Refusals, in order (R-order-3): the file's
  * first fault (1 to 9), 10, 17, 12, 13, which is given too where costs or found is too short. */
 needlevale_kept needlevale_variants(const uint8_t *file, size_t file_length, uint64_t sort, uint64_t value, size_t most,
                                     needlevale_term *terms, size_t terms_length, needlevale_entry *names,
@@ -313,7 +313,7 @@ needlevale_kept needlevale_variants(const uint8_t *file, size_t file_length, uin
 
 /* The number of a literal's term in a flat store of so many terms and symbols, added if it is not there; or minus a
  * refusal's number. Where the number is terms, the store has one term more after the call. Lengths count elements:
- * NEEDLEVALE_RECORD numbers and one literal a term, NEEDLEVALE_NAME bytes a symbol. Equal to `addLiteral` of
+ * NEEDLEVALE_RECORD numbers and one literal a term, NEEDLEVALE_NAME bytes a symbol. Equal to `add_literal` of
  * crates/term/specs/Calls.antt. Refusals, in order (R-order-6): 17, 13. */
 int64_t needlevale_add_literal_flat(uint64_t *records, size_t records_length, int64_t *literals, size_t literals_length,
                                     const uint8_t *names, size_t names_length, size_t terms, size_t symbols,

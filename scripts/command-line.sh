@@ -10,12 +10,13 @@
 
 : "${house:?the folder of the repository}"
 triple=x86_64-unknown-linux-gnu
-library=$house/target/staticlib/libneedlevale_c.a
+library=$house/crates/needlevale_c/out/libneedlevale_c.a
+core=$house/crates/needlevale/out/needlevale
 program=$house/rust/target/$triple/release/needlevale
 
-# One number for all files of the given folders and files, by name and content.
+# One number for all files of the given folders and files, by name and content, but for what is built there.
 sum_of() (
-  cd "$house" && find "$@" -name target -prune -o -type f ! -name Cargo.lock -print0 |
+  cd "$house" && find "$@" \( -name target -o -regex 'crates/[^/]*/out' \) -prune -o -type f ! -name Cargo.lock -print0 |
     LC_ALL=C sort -z | xargs -0 sha256sum | sha256sum
 )
 
@@ -23,11 +24,13 @@ library_stamp() { sum_of crates crates.txt && sha256sum <"$library"; }
 program_stamp() { sum_of rust && sha256sum <"$library" && sha256sum <"$program"; }
 
 # Whether nothing of the given files and folders, entries that came or went among it, has changed since the stamp was
-# written: by the system's own time of change, which no copying sets back.
+# written: by the system's own time of change, which no copying sets back. A crate's own folder, whose time tells of the
+# out/ in it, is not asked, but all that it holds beside.
 untouched() {
   local stamp=$1
   shift
-  [ -z "$(find "$@" -name target -prune -o -newercm "$stamp" ! -name Cargo.lock -print -quit 2>&1)" ]
+  [ -z "$(find "$@" \( -name target -o -regex '.*/crates/[^/]*/out' \) -prune -o -newercm "$stamp" ! -name Cargo.lock \
+    ! \( -type d -regex '.*/crates/[^/]*' \) -print -quit 2>&1)" ]
 }
 
 # Whether the library and the program are those of the sources: nothing was touched, or all is as the stamp says.
@@ -71,13 +74,15 @@ crates_below() {
 
 have_rt() { command -v rt >/dev/null 2>&1 || { why="the Rattle kit's 'rt' is not on the PATH"; return 1; }; }
 
-# rt on a crate: the words are rt's. What it says goes to a file; on a terminal one line tells which crate is proved.
+# rt on a crate: its name, and then rt's words. What it says goes to a file; on a terminal one line tells which crate is
+# proved.
 tell_rt() {
-  local log=$house/target/library.log crates line done=0 status
-  crates=$(crates_below "${@: -1}" | wc -l)
+  local log=$house/target/library.log crate=$1 crates line done=0 status
+  shift
+  crates=$(crates_below "$crate" | wc -l)
   mkdir -p "$house/target"
-  (cd "$house" && RT_JOBS=${RT_JOBS:-6} rt "$@" 2>&1) | tee "$log" | while read -r line; do
-    [[ $line =~ ^rt:\ ([a-z_]+)\ proved ]] || continue
+  (cd "$house/crates/$crate" && rt "$@" 2>&1) </dev/null | tee "$log" | while read -r line; do
+    [[ $line =~ ^crate\ ([a-z0-9_]+):\ modules ]] || continue
     done=$((done + 1))
     if [ -t 2 ]; then printf '\r\033[K%d of %d: %s' "$done" "$crates" "${BASH_REMATCH[1]}" >&2; fi
   done
@@ -85,20 +90,39 @@ tell_rt() {
   if [ -t 2 ]; then printf '\r\033[K' >&2; fi
   [ "$status" -eq 0 ] && return
   tail -n 5 "$log" >&2
-  why="'rt $*' failed; all that it says is in $log"
+  why="'rt $*' in crates/$crate failed; all that it says is in $log"
   return 1
 }
 
-# The proved library of the sources as they are.
+# The proved library of the sources as they are: over what `rt ci` has just left, or else by `rt lib`.
 build_library() {
   have_rt ||
     { why="the library is not built of these sources, and the Rattle kit's 'rt', which builds it, is not on the PATH"; return 1; }
-  rm -f "$library.stamp"
-  if ! tell_rt staticlib needlevale_c || [ ! -r "$library" ]; then
+  rm -f "$library.stamp" "$library"
+  mkdir -p "$house/target"
+  if "$house/scripts/library-after-ci" >"$house/target/library.log" 2>&1 && [ -r "$library" ]; then
+    library_stamp >"$library.stamp"
+    return
+  fi
+  if ! tell_rt needlevale_c lib || [ ! -r "$library" ]; then
     why="the library could not be proved and built; all that rt says of it is in $house/target/library.log"
     return 1
   fi
   library_stamp >"$library.stamp"
+}
+
+# Whether the program, $core, was built after the last change of the sources, by `rt ci` or `rt run`.
+core_fresh() { [ -x "$core" ] && untouched "$core" "$house/crates" "$house/crates.txt"; }
+
+# The proved program of the sources as they are, $core. `rt run` builds it and then asks it nothing: what the program
+# answers does not matter, and rt's own stamp, new beside it, tells that it was built.
+build_core() {
+  have_rt || return 1
+  rm -f "$core.stamp"
+  tell_rt needlevale run
+  [ -x "$core" ] && [ -s "$core.stamp" ] && return
+  why="the program could not be proved and built; all that rt says of it is in $house/target/library.log"
+  return 1
 }
 
 # Debian's packages for the command line: cargo, and the crates that rust/ names.
@@ -141,14 +165,11 @@ build_program() {
   program_stamp >"$program.stamp"
 }
 
-# The proved program alone, dist/needlevale-core: its input in, its answer out. On Arm the kit's emulator runs it, or
-# Debian's. Assumes that scripts/dist has checked it.
+# The proved program alone, dist/needlevale-core: its input in, its answer out. On Arm Debian's emulator runs it. Assumes
+# that scripts/dist has checked it.
 run_core() (
-  core=$house/dist/needlevale-core
-  arm || exec "$core"
-  if find_tools && [ -x "$tools/bin/qemu-x86_64" ]; then exec_loaded "$tools/bin/qemu-x86_64" "$core"; fi
   mapfile -t emulator < <(emulation)
-  exec "${emulator[@]}" "$core"
+  exec "${emulator[@]}" "$house/dist/needlevale-core"
 )
 
 # A number in digits, at most so large.

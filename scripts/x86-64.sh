@@ -3,7 +3,7 @@
 
 arm() { [ "$(uname -m)" = aarch64 ]; }
 
-# The kit's folder of tools for this machine, as $tools.
+# The kit's folder with the loader and the C library that its programs are linked with, as $tools.
 find_tools() {
   local rt
   if [ -n "${RATTLE_HOME:-}" ]; then tools=$RATTLE_HOME
@@ -11,21 +11,28 @@ find_tools() {
     rt=$(command -v rt) || { why="the Rattle kit's command 'rt' is not on the PATH"; return 1; }
     tools=$(cd "$(dirname "$(readlink -f "$rt")")/.." && pwd)
   fi
-  tools=$tools/on/$(uname -m)/toolchain
-  [ -d "$tools" ] || { why="the Rattle kit has no tools for this machine"; return 1; }
+  tools=$tools/toolchain
+  [ -e "$tools/lib/ld-linux-x86-64.so.2" ] || { why="the Rattle kit has no loader for x86-64 programs"; return 1; }
 }
 
-# Becomes a program that runs through the kit's loader, under the given emulator, or under none if that is empty.
+# The emulator that runs x86-64 programs on Arm, as $qemu: Debian's. On x86-64 none is needed, and it is empty.
+find_emulator() {
+  qemu=
+  arm || return 0
+  qemu='qemu-x86_64-static'
+  command -v "$qemu" >/dev/null 2>&1 || { why="there is no $qemu, which runs x86-64 programs here"; return 1; }
+}
+
+# Becomes a program that runs through the kit's loader, on Arm under the emulator.
 exec_loaded() {
-  local emulator=$1 v
-  shift
+  local v
   for v in $(env | sed -n 's/^\(QEMU_[A-Z_]*\)=.*/\1/p'); do unset "$v"; done
-  exec ${emulator:+"$emulator"} "$tools/lib/ld-linux-x86-64.so.2" --library-path "$tools/lib" "$@"
+  exec ${qemu:+"$qemu"} "$tools/lib/ld-linux-x86-64.so.2" --library-path "$tools/lib" "$@"
 }
 
-# Runs what have_c and have_rust built. On Arm the kit's emulator serves C; Rust's start needs Debian's.
-run_c() (if arm; then find_tools && exec_loaded "$tools/bin/qemu-x86_64" "$@"; else exec "$@"; fi)
-run_rust() (if arm; then find_tools && exec_loaded qemu-x86_64-static "$@"; else exec "$@"; fi)
+# Runs what have_c and have_rust built.
+run_c() (if arm; then find_tools && find_emulator && exec_loaded "$@"; else exec "$@"; fi)
+run_rust() (run_c "$@")
 
 # Installs Debian packages.
 install_packages() {
@@ -44,9 +51,9 @@ install_packages() {
 
 # A C compiler for x86-64, as $cc.
 have_c() {
-  if arm; then cc=x86_64-linux-gnu-gcc; set -- gcc-x86-64-linux-gnu libc6-dev-amd64-cross
+  if arm; then cc=x86_64-linux-gnu-gcc; set -- gcc-x86-64-linux-gnu libc6-dev-amd64-cross qemu-user-static
   else cc=gcc; set -- gcc libc6-dev; fi
-  c_links || install_packages "$@" || return 1
+  c_links && find_emulator || install_packages "$@" || return 1
   c_links || { why="$cc is there but links no C program"; return 1; }
 }
 
@@ -87,8 +94,6 @@ find_rust() {
   done
   return 1
 }
-
-find_emulator() { ! arm || command -v qemu-x86_64-static >/dev/null 2>&1; }
 
 # Compiles Rust for x86-64: the words are rustc's.
 build_rust() { "$rustc" -O --edition 2021 --target x86_64-unknown-linux-gnu -C linker="$cc" "$@"; }

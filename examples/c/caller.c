@@ -1,11 +1,11 @@
 /* Asks a question through the C boundary: document 01's worked example, or the query and table of a file.
  *
  *   gcc -O2 examples/c/caller.c $(pkg-config --cflags --libs needlevale) -o caller
- *   gcc -O2 -Iinclude examples/c/caller.c target/staticlib/libneedlevale_c.a -o caller
+ *   gcc -O2 -Iinclude examples/c/caller.c crates/needlevale_c/out/libneedlevale_c.a -o caller
  *   ./caller [FILE]
  *
  * The answer goes to standard output, exit status 0; a refusal's name to standard error, 1; wrong usage is 2.
- * Assumes an x86-64 Linux and, of the first two lines, that `make install` was run, or `rt staticlib needlevale_c`; on
+ * Assumes an x86-64 Linux and, of the first two lines, that `make install` was run, or `rt lib` in crates/needlevale_c; on
  * Arm examples/README.md says how. */
 #include <stdio.h>
 #include <string.h>

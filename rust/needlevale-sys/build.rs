@@ -1,4 +1,4 @@
-//! Tells the linker where the proved library is: `NEEDLEVALE_LIBRARY`, a folder, or the repository's target/staticlib.
+//! Tells the linker where the proved library is: `NEEDLEVALE_LIBRARY`, a folder, or the crate's own out/.
 use std::env;
 use std::path::PathBuf;
 
@@ -6,12 +6,12 @@ fn main() {
     println!("cargo:rerun-if-env-changed=NEEDLEVALE_LIBRARY");
     let manifest = PathBuf::from(env::var_os("CARGO_MANIFEST_DIR").unwrap_or_default());
     let folder =
-        env::var_os("NEEDLEVALE_LIBRARY").map_or_else(|| manifest.join("../../target/staticlib"), PathBuf::from);
+        env::var_os("NEEDLEVALE_LIBRARY").map_or_else(|| manifest.join("../../crates/needlevale_c/out"), PathBuf::from);
     let archive = folder.join("libneedlevale_c.a");
     println!("cargo:rerun-if-changed={}", archive.display());
     if !archive.is_file() {
         println!(
-            "cargo:warning={} is not there: 'rt staticlib needlevale_c' makes it, and nothing links without it",
+            "cargo:warning={} is not there: 'rt lib' in crates/needlevale_c makes it, and nothing links without it",
             archive.display()
         );
     }

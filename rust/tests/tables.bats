@@ -151,12 +151,12 @@ setup() { cd "$BATS_TEST_TMPDIR" && cp "$house/examples/worked/table.bin" .; }
 }
 
 @test "./run runs no library and no program that is not of the sources" {
-  mkdir -p made/crates made/rust made/target/staticlib "made/rust/target/$triple/release"
+  mkdir -p made/crates/needlevale_c/out made/rust "made/rust/target/$triple/release"
   echo code >made/crates/lib.rt
   echo list >made/crates.txt
   echo code >made/rust/main.rs
-  echo archive >made/target/staticlib/libneedlevale_c.a
-  program=made/rust/target/$triple/release/needlevale library=made/target/staticlib/libneedlevale_c.a house=made
+  echo archive >made/crates/needlevale_c/out/libneedlevale_c.a
+  program=made/rust/target/$triple/release/needlevale library=made/crates/needlevale_c/out/libneedlevale_c.a house=made
   echo program >"$program" && chmod +x "$program"
   run ! library_fresh
   run ! program_fresh
@@ -164,6 +164,9 @@ setup() { cd "$BATS_TEST_TMPDIR" && cp "$house/examples/worked/table.bin" .; }
   sleep 0.1
   library_fresh && program_fresh
   touch made/crates/lib.rt made/rust/main.rs
+  library_fresh && program_fresh
+  sleep 0.1
+  mkdir made/crates/other && echo made >made/crates/needlevale_c/out/work && rmdir made/crates/other
   library_fresh && program_fresh
   sleep 0.1
   cp -p made/crates/lib.rt old && echo more >>made/crates/lib.rt && touch -r old made/crates/lib.rt
@@ -181,7 +184,7 @@ setup() { cd "$BATS_TEST_TMPDIR" && cp "$house/examples/worked/table.bin" .; }
 
 @test "./run needs no kit where all is built, and says so where it is not" {
   says "needlevale 0.2.0" env PATH=/usr/bin:/bin "$house/run" --version
-  mkdir -p made && cp -r "$house/run" "$house/scripts" "$house/crates.txt" "$house/kit.txt" made && mkdir made/crates
+  mkdir -p made && cp -r "$house/run" "$house/scripts" "$house/crates.txt" "$house/kit.txt" made && mkdir -p made/crates/needlevale_c
   run -4 env PATH=/usr/bin:/bin made/run --version
   [ "${lines[-1]}" = "run: the library is not built of these sources, and the Rattle kit's 'rt', which builds it, is not on the PATH" ]
   mkdir made/bin
@@ -190,5 +193,5 @@ setup() { cd "$BATS_TEST_TMPDIR" && cp "$house/examples/worked/table.bin" .; }
   [[ "${lines[0]}" = "run: the kit here is 'rt: refusal proved'; all of this was last proved with "*" (kit.txt)" ]]
   [[ "${lines[1]}" = "run: proving and building the library from these sources, "*" crates: "* ]]
   [[ "${lines[-1]}" = "run: the library could not be proved and built; all that rt says of it is in "*/made/target/library.log ]]
-  [ ! -e made/target/staticlib/libneedlevale_c.a.stamp ]
+  [ ! -e made/crates/needlevale_c/out/libneedlevale_c.a.stamp ]
 }

@@ -10,7 +10,11 @@ from .antt import ATOM, Decl, Module, bound_by, crates_in, free, is_name, patter
 from .common import Fault, files, read, root_folder, run
 from .rt import Source
 
-KIT = ("std", "check", "libc", "io", "os", "bytes")
+# The kit's libraries that a crate lists where it names them; std is always there and never listed.
+KIT = ("anyhow", "bytes", "check", "io", "itertools", "libc", "os", "thiserror")
+
+# What a path of .antt begins with where it names a library: Rattle.CRATE.specs.FILE.NAME.
+LIBRARY = "Rattle"
 
 # The floors of document 01, lowest first: its heading, and the crates of each, by name or by what a name begins with.
 FLOORS = (
@@ -50,21 +54,29 @@ def floor_of(crate):
 
 def read_list(root):
     """The comment lines at the top of crates.txt, and each crate's list of others, in its order."""
-    head, listed = [], {}
+    head, listed, _ = read_rows(root)
+    return head, listed
+
+
+def read_rows(root):
+    """What read_list gives, and of each crate what stands before its colon: its name, and perhaps `staticlib`."""
+    head, listed, told = [], {}, {}
     for number, line in enumerate(read(os.path.join(root, "crates.txt")).splitlines(), 1):
         body = line.split("#", 1)[0].strip()
         if not body:
             if not listed:
                 head.append(line)
             continue
-        name, colon, rest = body.partition(":")
-        name = name.strip()
-        if not colon or not re.fullmatch(r"[A-Za-z_]\w*", name):
-            raise Fault("crates.txt, line %d: 'NAME: DEP DEP ..' is expected, not '%s'" % (number, body))
+        before, colon, rest = body.partition(":")
+        row = re.fullmatch(r"([A-Za-z_]\w*)(?: staticlib)?", " ".join(before.split()))
+        if not colon or not row:
+            raise Fault("crates.txt, line %d: 'NAME: DEP DEP ..' or 'NAME staticlib: DEP ..' is expected, not '%s'" % (
+                number, body))
+        name = row.group(1)
         if name in listed:
             raise Fault("crates.txt, line %d: %s is listed twice" % (number, name))
-        listed[name] = rest.split()
-    return head, listed
+        listed[name], told[name] = rest.split(), row.group()
+    return head, listed, told
 
 
 def below(listed, crate):
@@ -117,7 +129,8 @@ class House:
     def code_type(source, name, kind, text, lines):
         decl = Decl(source.ghost, "type", name, True, lines)
         if kind == "enum":
-            text = " ".join(re.findall(r"\(([^()]*)\)", text))
+            inner = re.sub(r"#\[[^\]]*\]", "", text[text.find("{") + 1 :])
+            text = " ".join(a or b for a, b in re.findall(r"\(([^()]*)\)|\{([^{}]*)\}", inner))
         decl.uses = source.named_types(text) - {(source.crate,) + source.path + (name,)}
         return decl
 
@@ -165,7 +178,7 @@ class House:
             return module.own[steps[0]]
         if steps[0] in module.imports:
             return self.at(self.whole(module, module.imports[steps[0]]) + steps[1:])
-        modules = steps[0] in module.aliases or steps[0] in module.children or steps[0].startswith("Rattle·")
+        modules = steps[0] in module.aliases or steps[0] in module.children or steps[0] == LIBRARY
         if modules and len(steps) > 1:
             return self.at(self.whole(module, steps))
         for path, _ in module.globs:
@@ -181,22 +194,17 @@ class House:
     def whole(module, steps):
         """A path of a module from its library on: it may begin with a child of the module or a name for another."""
         if steps[0] in module.children:
-            return ("Rattle·" + module.crate, module.part) + module.path + steps
+            return (LIBRARY, module.crate, module.part) + module.path + steps
         alias = module.aliases.get(steps[0], steps)
         return steps if alias[0] == steps[0] else House.whole(module, alias) + steps[1:]
 
     def at(self, steps):
         """What a whole path means, from its library on."""
-        if not steps[0].startswith("Rattle·"):
+        if steps[0] != LIBRARY or len(steps) < 2 or steps[1] not in self.listed:
             return "kit"
-        crate, _, part = steps[0][len("Rattle·") :].partition("·")
-        if crate not in self.listed:
-            return "kit"
-        rest = steps[1:]
-        part = rest[0] if rest else part
+        crate, part, rest = steps[1], steps[2] if len(steps) > 2 else None, steps[3:]
         if part not in ("specs", "proofs"):
             return None
-        rest = rest[1:]
         if part == "specs" and rest[:1] == ("declared",):
             return self.declared(crate, rest[1:])
         for cut in range(len(rest), -1, -1):
@@ -206,7 +214,7 @@ class House:
         return None
 
     def declared(self, crate, steps):
-        """A type of the code, by the path that the generated module has: m.Type.Type, m.Type.the-variants.V."""
+        """A type of the code, by the path that the generated module has: m.Type.Type, m.Type.TheVariants.V."""
         for cut in range(len(steps), 0, -1):
             if (crate,) + steps[:cut] in self.types:
                 return self.types[(crate,) + steps[:cut]]
@@ -252,10 +260,12 @@ class House:
         """The declarations that a function's clauses and signature name."""
         source = self.sources[function.crate, function.path]
         out = set()
-        params = set(re.findall(r"(\w+)\s*:", function.head))
+        params = set(re.findall(r"(\w+)\s*:", function.head)) | {"result", "self"}
         for _, text in function.clauses:
             free(tree(words(text)[0]), lambda name: False, params, out)
         found = {self.resolve(source.ghost, name) for name in out}
+        # a variant `E.V` needs no import: E is the code's own name for the type
+        found |= {self.types.get(source.full((name.split(".")[0],))) for name in out if "." in name}
         found |= {self.types.get(path) for path in source.named_types(function.head)}
         return {d for d in found if isinstance(d, Decl)}
 
@@ -310,7 +320,7 @@ class House:
 
     def named(self, crate):
         """The crates, of the repository and of the kit, that a crate's own files name."""
-        known = set(self.listed) | set(KIT) - {"std"}
+        known = set(self.listed).union(KIT, *self.listed.values()) - {"std"}
         out = set()
         for (c, _, _), module in self.modules.items():
             if c == crate:
@@ -326,6 +336,15 @@ class House:
             out |= crates_in(new) | set(re.findall(r"(?<![:\w])(\w+)::", new)) - own
         return out & known - {crate}
 
+    def called(self, path):
+        """The function of a path of the code, `m::f` or the method `m::Type::f`, and its file; or None for each."""
+        for steps in (1, 2):
+            other = self.sources.get((path[0], path[1:-steps]))
+            name = "::".join(path[-steps:])
+            if other and len(path) > steps and name in other.functions:
+                return other.functions[name], other
+        return None, None
+
     def reached_types(self, crate):
         """The crates of whose types a value is reached through a call, though no file names them.
 
@@ -336,9 +355,9 @@ class House:
             if c != crate:
                 continue
             for path in source.paths():
-                other = self.sources.get((path[0], path[1:-1])) if path[0] != crate else None
-                if other and path[-1] in other.functions:
-                    todo += other.named_types(other.functions[path[-1]].head)
+                called, other = self.called(path) if path[0] != crate else (None, None)
+                if called:
+                    todo += other.named_types(called.head)
                 if path in self.types:
                     todo.append(path)
         while todo:

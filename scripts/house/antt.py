@@ -24,6 +24,7 @@ class Word:
 
 
 SIGNS = "(){}.;,@\""
+PLACE = "◌"  # where an operator's argument stands in its name
 ATOM = re.compile(r"(?:«[^»]*»|[^\s(){}.;,@\"«»])+")
 PATH = re.compile(ATOM.pattern + r"(?:\." + ATOM.pattern + ")*")
 
@@ -436,11 +437,11 @@ class Module:
 
 
 def pieces(name):
-    """The words that an operator's name is used by: `if_then_else_` by if, then and else."""
-    if name.startswith("«") or "_" not in name or name == "_":
+    """The words that an operator's name is used by: `if◌then◌else◌` by if, then and else."""
+    if name.startswith("«") or PLACE not in name or name == PLACE:
         return []
-    return [p for p in name.split("_") if p]
+    return [p for p in name.split(PLACE) if p]
 
 
 def crates_in(text):
-    return set(re.findall(r"Rattle·(\w+)", text))
+    return set(re.findall(r"(?<![\w.])Rattle\.(\w+)", text))

@@ -5,7 +5,9 @@ from .common import Fault
 
 KEPT = os.path.join("docs", "seconds.txt")
 HEAD = ("# Seconds in the gate, by 'scripts/seconds LOG': all of it, each crate's proofs, must-fail edit and run.\n"
-        "# Several crates run at a time, so a single number is rough, and sums say more.\n")
+        "# Several crates run at a time, so a single number is rough, and sums say more.\n"
+        "# Today's rt tells no seconds: a crate's come from './check --above'; those of edits and runs, and of crates that\n"
+        "# were not timed since, are of the kit rattle-kit-5b.\n")
 KINDS = (("all", "all of it"), ("crate", "proofs"), ("edit", "must-fail edits"), ("run", "runs"))
 
 

@@ -19,20 +19,20 @@ pub record Table : Type 0 where
   pub rows : ℕ
 
 -- What is read.
-pub tableAt : ℕ → Table
-tableAt n = record { rows = n; }
+pub table_at : ℕ → Table
+table_at n = record { rows = n; }
 
 pub spare : ℕ
 spare = 1
 
 pub large : Table → ℕ
-large t = t .rows
+large t = t.rows
 """,
     "crates/file_rules/specs/Inner.antt": "pub inner : ℕ\ninner = 1\n",
     "crates/price/src/lib.rt": "// Prices.\n",
     "crates/price/specs/Lib.antt": "pub mod Cost\n",
     "crates/price/specs/Cost.antt": "pub cost : ℕ\ncost = 1\n",
-    "crates/file/src/lib.rt": """ghost use Rattle·file_rules.specs.Table.{tableAt};
+    "crates/file/src/lib.rt": """ghost use Rattle.file_rules.specs.Table.{table_at};
 
 // What is answered.
 pub enum Read {
@@ -41,13 +41,13 @@ pub enum Read {
 
 // Reads a table.
 pub fn read(n: u64) -> Read
-    ensures { λ r. ⌜ tableAt n ⌝ }
+    ensures { table_at n }
 {
     Read::Done
 }
 """,
     "crates/file/specs/Lib.antt": "pub mod Promises\n",
-    "crates/file/specs/Promises.antt": """use Rattle·file_rules.specs.Table.{Table, large}
+    "crates/file/specs/Promises.antt": """use Rattle.file_rules.specs.Table.{Table, large}
 
 pub record Promises : Type 0 where
   pub one : (t : Table) → large t ≡ 1
@@ -79,7 +79,7 @@ class Believe(unittest.TestCase):
             self.assertEqual(tree.run("believe", "write"), (0, ""))
             self.assertEqual(self.said(tree), [])
             self.assertEqual(tree.run("believe")[1], tree.read("docs/BELIEVE.md"))
-            self.assertIn("- [Table](../%s), 8 of 15 lines: `Table` 3, `tableAt` 3; for the pages `large` 2" % TABLE,
+            self.assertIn("- [Table](../%s), 8 of 15 lines: `Table` 3, `table_at` 3; for the pages `large` 2" % TABLE,
                           tree.read("docs/BELIEVE.md"))
             self.assertIn("- file_rules: Inner\n- price: Cost\n", tree.read("docs/BELIEVE.md"))
 
@@ -105,34 +105,34 @@ class Believe(unittest.TestCase):
             self.assertEqual(self.said(tree), [stale])
 
     def test_left(self):
-        self.complains(TABLE, "rows = n; }", "rows = Rattle·price.specs.Cost.cost; }",
+        self.complains(TABLE, "rows = n; }", "rows = Rattle.price.specs.Cost.cost; }",
                        "crates/price/specs/Cost.antt: `cost` is what a reader must believe", "price is not in TRUSTED")
-        self.complains("crates/file/specs/Promises.antt", "t ≡ 1", "t ≡ Rattle·price.specs.Cost.cost", "`cost`")
+        self.complains("crates/file/specs/Promises.antt", "t ≡ 1", "t ≡ Rattle.price.specs.Cost.cost", "`cost`")
 
     def test_proofs(self):
         with Tree(FILES) as tree:
             tree.write("crates/file_rules/proofs/Lib.antt", "pub mod Laws\n")
             tree.write("crates/file_rules/proofs/Laws.antt", "pub law : ℕ\nlaw = 1\n")
-            tree.edit(TABLE, "rows = n; }", "rows = Rattle·file_rules·proofs.proofs.Laws.law; }")
+            tree.edit(TABLE, "rows = n; }", "rows = Rattle.file_rules.proofs.Laws.law; }")
             tree.run("believe", "write")
             self.assertIn("`law` is what a reader must believe, and proofs/ must hold none", self.said(tree)[0])
 
     def test_nothing_held(self):
         with Tree(FILES) as tree:
-            tree.edit("crates/file/src/lib.rt", "tableAt n", "n")
+            tree.edit("crates/file/src/lib.rt", "table_at n", "n")
             tree.edit("crates/file/specs/Promises.antt", "(t : Table) → large t ≡ 1", "1 ≡ 1")
             tree.run("believe", "write")
             self.assertEqual(len(self.said(tree)), 1)
             self.assertIn("TRUSTED of scripts/believe names file_rules, which holds nothing", self.said(tree)[0])
 
     def test_asked(self):
-        self.complains("crates/file/src/lib.rt", "    ensures {", "    requires { ⌜ tableAt n ⌝ }\n    ensures {",
+        self.complains("crates/file/src/lib.rt", "    ensures {", "    requires { table_at n }\n    ensures {",
                        "file: the public call `read` has a `requires`")
 
     def test_why(self):
         with Tree(FILES) as tree:
             self.assertEqual(tree.run("believe", "why", "Table"), (
-                0, "file::read -> file_rules.specs.Table.tableAt -> file_rules.specs.Table.Table\n"))
+                0, "file::read -> file_rules.specs.Table.table_at -> file_rules.specs.Table.Table\n"))
             self.assertEqual(tree.run("believe", "why", "spare")[0], 2)
 
 

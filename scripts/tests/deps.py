@@ -18,7 +18,7 @@ FILES = {
                              "pub fn top() -> u64 {\n    let x = next::make();\n    1\n}\n",
     "crates/said/src/main.rt": "// A program.\nfn main() {\n    io::print(b\"\");\n}\n",
     "crates/said/proofs/Lib.antt": "-- Laws.\npub mod SaidLaws\n",
-    "crates/said/proofs/SaidLaws.antt": "-- Rattle·next is in a comment alone.\nuse Rattle·low.specs.Low.{low}\n",
+    "crates/said/proofs/SaidLaws.antt": "-- Rattle.next is in a comment alone.\nuse Rattle.low.specs.Low.{low}\n",
     "crates/edit/src/lib.rt": "pub fn edit() -> u64 {\n    0\n}\n",
     "crates/edit/must-fail/one.edit": "file: src/lib.rt\nold:     0\nnew:     low::deep::count()\n",
 }
@@ -54,6 +54,23 @@ class Deps(unittest.TestCase):
     def test_reached_through_a_call(self):
         self.wrong("top: low next", "top: next",
                    "top: calls a function that takes or gives a type of low, and does not list it")
+
+    def test_static_library(self):
+        """The word before the colon stays, and is no crate."""
+        listed = FILES["crates.txt"].replace("top:", "top staticlib:")
+        with Tree(dict(FILES, **{"crates.txt": listed})) as tree:
+            self.assertEqual(tree.run("deps", "check")[0], 0)
+            tree.edit("crates.txt", "top staticlib: low next", "top staticlib: low")
+            self.assertEqual(tree.run("deps", "check")[1].splitlines()[0], "top: names next, and does not list it")
+            tree.run("deps", "write")
+            self.assertEqual(tree.read("crates.txt"), listed)
+
+    def test_imports(self):
+        """A `use` of several names, one under another name, names their crate; std's own modules are std's."""
+        with Tree(FILES) as tree:
+            tree.write("crates/next/src/lib.rt", "use std::{fs, io};\nuse low::{Low as Lowest, deep};\n\n"
+                       "pub fn make() -> Lowest {\n    io::nothing(deep::count());\n    Lowest::One\n}\n")
+            self.assertEqual(tree.run("deps", "check")[0], 0)
 
     def test_above(self):
         with Tree(FILES) as tree:

@@ -1,12 +1,14 @@
 #!/usr/bin/env python3
 """Tests of scripts/dist and scripts/after-dist on a made-up tree, with a made-up kit: an `rt` that makes a program and a
-library of the code's sum and of the kit's file `bytes`, and a loader. Usage: scripts/tests/dist.py"""
+library of the code's sum and of the kit's file `bytes`, each in the folder of its crate, as the real one does, and a
+loader. Usage: scripts/tests/dist.py"""
 import os
 import platform
 import shutil
 import struct
 import subprocess
 import sys
+import time
 import unittest
 
 sys.dont_write_bytecode = True
@@ -15,22 +17,40 @@ from made_up import SCRIPTS, Tree
 HERE = platform.machine()
 ELSEWHERE = "x86_64" if HERE == "aarch64" else "aarch64"
 RT = """#!/bin/sh
-sum() { cat "$0" "$(dirname "$0")/../bytes" crates/*/src/* | cksum; }
-case $1 in
-version) exec cat "$(dirname "$0")/../id" ;;
-check) mkdir -p target/bin && { echo "# $(sum)" && cat "$(dirname "$0")/../program"; } >target/bin/needlevale
-  chmod +x target/bin/needlevale ;;
-staticlib) mkdir -p target/staticlib && sum >target/staticlib/libneedlevale_c.a ;;
+kit=$(dirname "$0")/.. name=$(basename "$PWD")
+sum() { cat "$kit/bytes" ../*/src/* | cksum; }
+[ $1 != version ] || exec cat "$kit/id"
+[ ! -e "$kit/unproved" ] || exit 1
+mkdir -p out
+case $1-$name in
+run-needlevale) rm -f out/$name.stamp
+  { echo "# $(sum)" && cat "$kit/program"; } >out/$name && chmod +x out/$name && echo made >out/$name.stamp
+  echo "refused 1"; exit 3 ;;
+lib-needlevale_c) sum >out/lib$name.a ;;
+*) exit 2 ;;
 esac
-echo "rt: needlevale proved (1 s)"
+echo "crate $name: modules loaded=0 checked=1"
 """
 LOADER = '#!/bin/sh\nshift 2\nexec sh "$@"\n'
+RTLIB = """import os
+KIT = os.path.dirname(os.path.dirname(os.path.abspath(__file__)))
+RATTLE = KIT + "/bin/rattle"
+class Crate:
+    def __init__(self, folder, root, known, above=(), name=None):
+        self.name = os.path.basename(folder)
+    def words(self, flags, keeps=True):
+        return ["--crate-name", self.name]
+"""
+RATTLE = """#!/bin/sh
+[ "$1 $2 $3" = "build --crate-name needlevale_c" ] && [ "${*% -o out/libneedlevale_c.a}" != "$*" ] || exit 2
+cat "$(dirname "$0")/../bytes" ../*/src/* | cksum >out/libneedlevale_c.a
+"""
 NONE = "#!/bin/sh\necho 'E: none here' >&2\nexit 1\n"
 ANSWER = "cat >/dev/null\necho answered\n"
 PROGRAM, LIBRARY, IDENTITY, SUMS = ("dist/" + name for name in (
     "needlevale-core", "libneedlevale_c.a", "IDENTITY", "SHA256SUMS"))
 FILES = {
-    "crates.txt": "# Crates.\nlow:\nother:\nneedlevale_c: low\nneedlevale: low io\n",
+    "crates.txt": "# Crates.\nlow:\nother:\nneedlevale_c staticlib: low\nneedlevale: low io\n",
     "crates/low/src/lib.rt": "// Low.\n",
     "crates/low/specs/Lib.antt": "-- Low.\n",
     "crates/other/src/lib.rt": "// Other.\n",
@@ -47,11 +67,11 @@ class Dist(unittest.TestCase):
     def setUp(self):
         self.tree = Tree(FILES).__enter__()
         self.addCleanup(self.tree.__exit__)
-        for name in ("dist", "after-dist", "recorded", "x86-64.sh", "command-line.sh"):
+        for name in ("dist", "after-dist", "recorded", "x86-64.sh", "command-line.sh", "library-after-ci"):
             os.makedirs(self.tree.path("scripts"), exist_ok=True)
             shutil.copy(os.path.join(SCRIPTS, name), self.tree.path("scripts/" + name))
         shutil.copytree(os.path.join(SCRIPTS, "house"), self.tree.path("scripts/house"))
-        loader = "kit/on/%s/toolchain/lib/ld-linux-x86-64.so.2" % HERE
+        loader = "kit/toolchain/lib/ld-linux-x86-64.so.2"
         for path, text in (("kit/bin/rt", RT), (loader, LOADER), ("kit/bin/apt-get", NONE), ("kit/bin/gcc", NONE),
                            ("kit/bin/x86_64-linux-gnu-gcc", NONE)):
             self.tree.write(path, text)
@@ -102,7 +122,8 @@ class Dist(unittest.TestCase):
         self.tree.write("crates.txt", FILES["crates.txt"].replace("other:", "other: low"))
         self.said("dist", "check", status=0)
         for path, text in (("crates/low/src/lib.rt", "// Another.\n"), ("crates/low/src/more.rt", ""), ("kit.txt", "2\n"),
-                           ("crates.txt", FILES["crates.txt"].replace("needlevale: low", "needlevale:"))):
+                           ("crates.txt", FILES["crates.txt"].replace("needlevale: low", "needlevale:")),
+                           ("crates.txt", FILES["crates.txt"].replace(" staticlib", ""))):
             before = self.tree.read(path) if os.path.exists(self.tree.path(path)) else None
             self.tree.write(path, text)
             self.assertIn("other sources than these, or by another kit; run 'scripts/dist write'",
@@ -156,7 +177,7 @@ class Dist(unittest.TestCase):
         self.elsewhere()
         self.passes()
         self.tree.write("kit/bytes", "others\n")
-        os.remove(self.tree.path("target/staticlib/libneedlevale_c.a"))
+        os.remove(self.tree.path("crates/needlevale_c/out/libneedlevale_c.a"))
         self.passes("not compared: dist/ with what was built here, byte for byte: it was made on " + ELSEWHERE)
         self.passes("dist/needlevale-core: 1 recorded answers")
 
@@ -170,13 +191,51 @@ class Dist(unittest.TestCase):
     def test_another_kit(self):
         for path, text in (("kit/id", "kit-2\n"), ("kit/bytes", "others\n")):
             self.tree.write(path, text)
-        os.remove(self.tree.path("target/staticlib/libneedlevale_c.a"))
+        os.remove(self.tree.path("crates/needlevale_c/out/libneedlevale_c.a"))
         self.passes("with 'kit-2' gives other bytes for the same sources")
         self.assertIn("the kit here is 'kit-2', not that of kit.txt", self.said("dist", "write", status=2))
         self.tree.write("kit.txt", "kit-2\n")
         self.fails("dist/ was made of other sources than these, or by another kit")
         self.said("dist", "write", status=0)
         self.passes()
+
+    def test_not_proved(self):
+        """What is not proved is not built, and an older program is not taken for it."""
+        self.tree.write("crates/low/src/lib.rt", "// Another.\n")
+        self.tree.write("kit/unproved", "")
+        self.assertIn("the library could not be proved and built", self.said("dist", "write", status=2))
+        os.remove(self.tree.path("kit/unproved"))
+        self.tree.write("kit/bin/rt", RT.replace("[ $1 != version ]", "[ $1 != run ] || exit 1\n[ $1 != version ]"))
+        self.assertIn("the program could not be proved and built", self.said("dist", "write", status=2))
+        self.assertIn("run 'scripts/dist write'", self.said("dist", "check", status=1))
+
+    def test_after_ci(self):
+        """Over what rt ci has just left rt need prove nothing; over anything else the library is rt lib's."""
+        built = "crates/needlevale_c/out/libneedlevale_c.a"
+        self.tree.write("kit/bin/rtlib.py", RTLIB)
+        self.tree.write("kit/bin/rattle", RATTLE)
+        os.chmod(self.tree.path("kit/bin/rattle"), 0o755)
+        self.tree.write("kit/bin/rt", RT.replace("lib-needlevale_c)", "lib-needlevale_c) echo asked >../../asked;"))
+        rlib, asked = "crates/low/out/rlib/low.rlib/format", self.tree.path("asked")
+        for what, is_asked in (("nothing left", True), ("left by rt ci", False), ("an earlier check's", True),
+                               ("older than the sources", True), ("with another kit", True)):
+            with self.subTest(what=what):
+                shutil.rmtree(self.tree.path("crates/low/out"), ignore_errors=True)
+                os.remove(self.tree.path(built))
+                if what != "nothing left":
+                    time.sleep(0.02)
+                    self.tree.write(rlib, "")
+                if what == "an earlier check's":
+                    self.tree.write("crates/low/out/rlib/stamp", "")
+                if what == "older than the sources":
+                    time.sleep(0.02)
+                    self.tree.write("crates/low/src/lib.rt", FILES["crates/low/src/lib.rt"])
+                if what == "with another kit":
+                    self.tree.write("kit/bin/rtlib.py", RTLIB.replace("def words", "def no_words"))
+                self.passes()
+                self.assertEqual(os.path.exists(asked), is_asked)
+                if is_asked:
+                    os.remove(asked)
 
     def test_words(self):
         self.said("dist", status=2)

@@ -10,45 +10,78 @@ import unittest
 sys.dont_write_bytecode = True
 from made_up import SCRIPTS, Tree
 
-PROOF = "crates/low/proofs/find/Proof.antt"
-OFFER = """fn low::is: proved
-fn low::find: no proof: expected `find-spec` in crates/low/proofs/find/Proof.antt
-help: write crates/low/proofs/find/Proof.antt with these lines, and check again
-    use Rattle·low·proofs.proofs.find.Tie as tie
-
-    abbrev Inv-loop : tie.InvT-loop
-    Inv-loop s i = ?
+PROOF = "crates/low/proofs/find/Answers.antt"
+NONE = """rt: chose --jobs 2 for low
+checked low::find, 2 of 2
+fn low::is: proved
+note: src/lib.rt:11:5: it is not proved that what the function ensures holds when it returns (`returns`)
+fn low::find: no proof: expected answers in ./proofs/find/Answers.antt; `search` did not prove `returns`
+help: write ./proofs/find/Answers.antt with these lines, and check again: each hole's goal is what is left to show there
+    use Rattle.low.proofs.find.Goals as goal
 
     -- src/lib.rt:11:5
-    loop-holds : tie.Need-loop-holds Inv-loop
-    loop-holds c = ?
+    pub returns : goal.returns
+    returns c = ?
+note: `returns` of proofs/find/Answers.antt must prove: c.echo.result ≡ c.args.x
+  names you can use, by step:
+  | c: .requires
+  | c.args: .x
 
 logic=not-proved
+rt: rt lemma WORD.. finds a lemma by guessed names or words of the goal
+"""
+STARTED = """wrote ./proofs/find/Answers.antt
+started=1
+./proofs/find/Answers.antt:4:13: goal ? in `returns`
+only=1 holes=1
+"""
+WRITTEN = """use Rattle.low.proofs.find.Goals as goal
+
+-- src/lib.rt:11:5
+pub returns : goal.returns
+returns c = ?
+
+-- src/lib.rt:12:5
+pub kept : goal.kept
+kept c = search rules
 """
 SKELETON = """-- `low::find` meets its contract. Assumes nothing.
-use native.Mathlib.Omega.{arith}
-use borrow.Author.Needs.{needs}
-use Rattle·low·proofs.proofs.find.Tie as tie
+use Rattle.low.proofs.find.Goals as goal
 
-abbrev Inv-loop : tie.InvT-loop
-Inv-loop s i = ?
+pub returns : goal.returns
+returns c = ?
 
-loop-holds : tie.Need-loop-holds Inv-loop
-loop-holds c = search needs
+pub kept : goal.kept
+kept c = search rules
 """
-REFUSED = "%s:10:16: error: `loop-holds`: `search`: no proof of `c .before .before .κs`\nlogic=not-proved\n" % PROOF
-GOALS = """%s:8:16: goal ? in `Inv-loop`
-    s : List
-  ⊢ Type 0  (computed from something)
+REFUSED = """./proofs/find/Answers.antt:7:16: error: `kept`: `search`: no proof of `c .before .before .κs`
+fn low::find: not proved
 logic=not-proved
-""" % PROOF
-LOG = """rt: low proved (4 s)
-rt: mid proved (unchanged since it was last proved)
-rt: top proved (30 s)
-rt: gone proved (7 s)
+"""
+GOALS = """./proofs/find/Answers.antt:5:16: goal ? in `returns`
+    c : goal.Start
+  ⊢ c.args.x
+      ≡ 1  (computed from something)
+  names you can use, by step:
+    c: .requires
+    c.args: .x
+  the newest fields, with their types:
+    c.args.x : ℕ
+./proofs/find/Answers.antt:9:16: goal ? in `kept`
+  ⊢ Type 0
+  names you can use: as in `returns` above
+logic=not-proved
+"""
+LOG = """== low
+proved: nothing
+low proved (4 s)
+top proved (30 s)
+gone proved (7 s)
+mid NOT PROVED (3 s)
 rt: must-fail low/wrong: refused, as it must be (first at src/lib.rt:3:1; 5 s)
 rt: must-fail low/missing: refused, as it must be (9 s)
 rt: top ran as nobody, and wrote what its file 'stdout' has (2 s)
+rt: low proved
 == all of it (61 s)
 4 passed, 0 failed
 """
@@ -77,10 +110,14 @@ class Habits(unittest.TestCase):
         return tree
 
     @staticmethod
-    def rt(tree, said, status=0):
+    def rt(tree, said, status=0, writes=""):
+        """An `rt` that says this, and writes that into the crate's proof of find where it is asked to start one."""
         tree.write("said", said)
-        tree.write("bin/rt", '#!/bin/sh\necho "$*" >>%s\ncat %s\nexit %d\n' % (
-            tree.path("asked"), tree.path("said"), status))
+        tree.write("writes", writes)
+        tree.write("bin/rt", '#!/bin/sh\necho "$(basename "$PWD") $*" >>%s\ncase "$*" in *--start*) '
+                   'mkdir -p proofs/find && cp %s proofs/find/Answers.antt; cat %s; exit 1 ;; esac\ncat %s\nexit %s\n' % (
+                       tree.path("asked"), tree.path("writes"), tree.path("started"), tree.path("said"), status))
+        tree.write("started", STARTED)
         os.chmod(tree.path("bin/rt"), 0o755)
 
     @staticmethod
@@ -104,20 +141,30 @@ class Habits(unittest.TestCase):
             "  above: top                30 s",
             "above: 2 crates, 30 s in all and 1 not timed",
         ])
-        self.assertEqual(tree.read("asked"), "dev low\n")
+        self.assertEqual(tree.read("asked"), "low check\n")
 
     def test_check_fails(self):
         tree = self.tree(REFUSED, 1)
         status, lines = self.run_in(tree, "check", "--above", "low")
         self.assertEqual(status, 1, lines)
-        self.assertIn("error: `loop-holds`", lines[1])
-        self.assertEqual(tree.read("asked"), "dev low\n")
+        self.assertIn("error: `kept`", lines[1])
+        self.assertEqual(tree.read("asked"), "low check\n")
 
     def test_check_above(self):
-        tree = self.tree("rt: low proved (4 s)\nnote: long\nlogic=proved\n")
-        status, lines = self.run_in(tree, "check", "--above", "mid")
-        self.assertEqual((status, lines[-2]), (0, "rt: low proved (4 s)"), lines)
-        self.assertEqual(tree.read("asked"), "dev mid\ncheck mid top\n")
+        tree = self.tree("fn low::is: proved\nnote: long\nlogic=proved\n")
+        status, lines = self.run_in(tree, "check", "--above", "low")
+        self.assertEqual(status, 0, lines)
+        self.assertRegex("\n".join(lines), r"== all of it\nmid proved \(\d+ s\)\ntop proved \(\d+ s\)$")
+        self.assertEqual(tree.read("asked"), "low check\nmid check\ntop check\n")
+
+    def test_check_above_fails(self):
+        """The first that is not proved ends it: those above it cannot be."""
+        tree = self.tree()
+        self.rt(tree, "src/lib.rt:1:1: error: no\n", "$([ $(basename $PWD) = low ]; echo $?)")
+        status, lines = self.run_in(tree, "check", "--above", "low")
+        self.assertEqual((status, lines[-2]), (1, "src/lib.rt:1:1: error: no"), lines)
+        self.assertRegex(lines[-1], r"^mid NOT PROVED \(\d+ s\)$")
+        self.assertEqual(tree.read("asked"), "low check\nmid check\n")
 
     def test_check_wrong(self):
         tree = self.tree()
@@ -127,27 +174,50 @@ class Habits(unittest.TestCase):
 
     # -- scripts/prove
 
+    def test_dev(self):
+        tree = self.tree(NONE, 1)
+        status, lines = self.run_in(tree, "scripts/prove", "dev", "low")
+        self.assertEqual(status, 1)
+        self.assertEqual([line.split(":")[0] for line in lines[:-1]], ["note", "fn low", "logic=not-proved"])
+        self.assertRegex(lines[-1], r"^1 functions proved; [\d.]+ s; whole output: target/prove/low.out$")
+        self.run_in(tree, "scripts/prove", "dev", "low", "find")
+        self.assertEqual(tree.read("asked"), "low check\nlow check --only find\n")
+
     def test_skeleton_holes_fill(self):
-        tree = self.tree(OFFER, 1)
+        tree = self.tree()
+        self.rt(tree, NONE, 1, WRITTEN)
         self.assertEqual(self.run_in(tree, "scripts/prove", "skel", "low"), (0, ["wrote %s with 1 holes" % PROOF]))
+        self.assertEqual(tree.read("asked"), "low check\nlow check --start low::find --allow-holes\n")
         self.assertEqual(tree.read(PROOF), SKELETON)
         self.rt(tree, REFUSED, 1)
         status, lines = self.run_in(tree, "scripts/prove", "dev", "low")
         self.assertEqual(status, 1)
         self.assertIn("`c .b2 .κs`", lines[0])
-        self.assertEqual(self.run_in(tree, "scripts/prove", "holes", "low"), (0, ["hole: %s loop-holds" % PROOF]))
-        self.assertIn("\nloop-holds c = ?\n", tree.read(PROOF))
-        tree.write("answers", "@ loop-holds c = f (c .b3 .x)\n  more\n@ Inv-loop s i = i ≤ 1\n")
+        self.assertEqual(self.run_in(tree, "scripts/prove", "holes", "low"), (0, ["hole: %s kept" % PROOF]))
+        self.assertIn("\nkept c = ?\n", tree.read(PROOF))
+        tree.write("answers", "@ kept c = f (c .b3 .x)\n  more\n@ returns c = c.args.x\n")
         self.assertEqual(self.run_in(tree, "scripts/prove", "fill", PROOF, "answers"), (0, []))
-        self.assertEqual(tree.read(PROOF), SKELETON.replace("Inv-loop s i = ?", "Inv-loop s i = i ≤ 1").replace(
-            "loop-holds c = search needs", "loop-holds c = f (c .before .before .before .x)\n  more"))
+        self.assertEqual(tree.read(PROOF), SKELETON.replace("returns c = ?", "returns c = c.args.x").replace(
+            "kept c = search rules", "kept c = f (c .before .before .before .x)\n  more"))
         tree.write("answers", "@ nothing c = 1\n")
         self.assertEqual(self.run_in(tree, "scripts/prove", "fill", PROOF, "answers"),
                          (2, ["prove: nothing stands 0 times in " + PROOF]))
 
     def test_goals(self):
         status, lines = self.run_in(self.tree(GOALS, 1), "scripts/prove", "goals", "low")
-        self.assertEqual((status, lines[0]), (0, "Inv-loop ? : ⊢ Type 0"))
+        self.assertEqual((status, lines[0::2][:2]), (0, ["returns ? : ⊢ c.args.x ≡ 1", "kept ? : ⊢ Type 0"]))
+        status, lines = self.run_in(self.tree(NONE, 1), "scripts/prove", "goals", "low", "find")
+        self.assertEqual((status, lines[0]), (0, "returns : c.echo.result ≡ c.args.x"))
+        self.assertEqual(self.run_in(self.tree(GOALS, 1), "scripts/prove", "goals", "low", "other")[1][:-1], [])
+
+    def test_paths(self):
+        tree = self.tree(GOALS, 1)
+        self.assertEqual(self.run_in(tree, "scripts/prove", "paths", "low", "find"), (0, [
+            "returns ?: c: .requires; c.args: .x", "kept ?: as in `returns` above"]))
+        self.rt(tree, NONE, 1)
+        self.assertEqual(self.run_in(tree, "scripts/prove", "paths", "low", "low::find"), (0, [
+            "returns: c: .requires; c.args: .x"]))
+        self.assertEqual(self.run_in(tree, "scripts/prove", "paths", "low", "other")[0], 2)
 
     def test_prove_wrong(self):
         tree = self.tree()

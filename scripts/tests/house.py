@@ -25,19 +25,19 @@ pub struct Place {
 """,
     "crates/low/specs/Lib.antt": "-- Low.\npub mod Lists\npub mod Facade\npub mod Deep\nmod Hidden\n",
     "crates/low/specs/Lists.antt": """-- Lists: a header, which belongs to no definition.
-use Prim.Native.Nat.{ℕ, zero, suc}
-use mathlib.Core.Path.{_≡_}
+use Rattle.std.specs.Prelude.{ℕ, zero, suc}
+use Rattle.std.specs.Prelude.{◌≡◌}
 
-infixr 50 _⊕_
+infixr 50 ◌⊕◌
 
 -- The sum.
 -- In two lines.
-unfoldable pub _⊕_ : ℕ → ℕ → ℕ
+unfoldable pub ◌⊕◌ : ℕ → ℕ → ℕ
 zero ⊕ n = n
 (suc m) ⊕ n = suc (m ⊕ n)
 
 -- A choice.
-abbrev pub if_then_else_ : ℕ → ℕ → ℕ → ℕ
+abbrev pub if◌then◌else◌ : ℕ → ℕ → ℕ → ℕ
 if b then x else y = x ⊕ y
 
 data Hue : Type 0 where
@@ -62,13 +62,13 @@ mutual
   odd zero = blue
   odd (suc n) = even n
 """,
-    "crates/low/specs/Facade.antt": """pub use Rattle·low·specs.specs.Lists.{Pair, red as crimson}
-use Rattle·low·specs.specs.Lists.{secret}
+    "crates/low/specs/Facade.antt": """pub use Rattle.low.specs.Lists.{Pair, red as crimson}
+use Rattle.low.specs.Lists.{secret}
 """,
     "crates/low/specs/Deep.antt": """pub mod Below
 pub use Below.*
 use Below.{deepest as own}
-use Rattle·low·specs.specs as low
+use Rattle.low.specs as low
 use low.Lists.{Hue}
 
 by-child : Hue
@@ -77,8 +77,8 @@ by-child = own Below.value low.Lists.secret
     "crates/low/specs/Deep/Below.antt": "pub deepest : ℕ\ndeepest = 1\n\npub value : ℕ\nvalue = 2\n",
     "crates/low/specs/Hidden.antt": "pub hidden : ℕ\nhidden = 1\n",
     "crates/term/src/lib.rt": """// Terms.
-ghost use mathlib.Core.Path.{_≡_};
-ghost use Rattle·term·specs.specs.Uses.{
+ghost use Rattle.std.specs.Prelude.{◌≡◌};
+ghost use Rattle.term.specs.Uses.{
   plus, // a comment
   chosen as picked,
 };
@@ -89,8 +89,8 @@ mod inner; // inner.rt
 // The sum, with `picked` in a comment.
 #[no_mangle]
 pub extern "C" fn sum(m: u64, plus: u64) -> Answer
-    requires { ⌜ m ≡ picked ⌝ }
-    ensures { λ r. ⌜ plus ≡ m ⌝ }
+    requires { m ≡ picked }
+    ensures { plus ≡ m }
 {
     let inner = m;
 }
@@ -99,21 +99,21 @@ fn unseen() -> u64 {
     0
 }
 """,
-    "crates/term/src/calls.rt": """ghost use Rattle·term·specs.specs.Uses.{plus};
+    "crates/term/src/calls.rt": """ghost use Rattle.term.specs.Uses.{plus};
 pub fn call() -> u64
-    ensures { λ r. ⌜ plus r ⌝ }
+    ensures { plus result }
 {
     0
 }
 """,
     "crates/term/src/inner.rt": "pub fn kept() -> u64 {\n    0\n}\n",
     "crates/term/specs/Lib.antt": "pub mod Uses\n",
-    "crates/term/specs/Uses.antt": """use mathlib.Core.Path.{_≡_}
-use Rattle·low.specs.Lists.{_⊕_, if_then_else_ as choose_by_or_, Pair as Two, Hue, red, blue as azure, even}
-use Rattle·low.specs.Facade as facade
-use Rattle·low.specs.Deep.{deepest, Below.value as inner}
-use Rattle·low.specs.declared.Answer.{Answer}
-use Rattle·low.specs.declared.Answer.the-variants.{Found as found}
+    "crates/term/specs/Uses.antt": """use Rattle.std.specs.Prelude.{◌≡◌}
+use Rattle.low.specs.Lists.{◌⊕◌, if◌then◌else◌ as choose◌by◌or◌, Pair as Two, Hue, red, blue as azure, even}
+use Rattle.low.specs.Facade as facade
+use Rattle.low.specs.Deep.{deepest, Below.value as inner}
+use Rattle.low.specs.declared.Answer.{Answer}
+use Rattle.low.specs.declared.Answer.TheVariants.{Found as found}
 
 plus : ℕ → ℕ
 plus n = n ⊕ 1
@@ -122,7 +122,7 @@ renamed : ℕ
 renamed = choose 1 by 2 or 3
 
 projected : Two ℕ → ℕ
-projected p = p .left
+projected p = p.left
 
 -- A variable of the name of a definition, in every kind of binder.
 shadowed : (plus : ℕ) → ℕ
@@ -145,7 +145,7 @@ through : facade.Pair ℕ → Hue
 through p = facade.crimson
 
 whole : ℕ
-whole = Rattle·low.specs.Deep.Below.deepest
+whole = Rattle.low.specs.Deep.Below.deepest
 
 chosen : Answer → ℕ
 chosen (found n p) = n
@@ -168,6 +168,46 @@ section-free = 1 -- plus in a comment
 }
 
 
+# Clauses with names and stars, a ghost value, a method, grouped imports, a variant that no `ghost use` names.
+FORMS = """#![tactic(auto)]
+
+use low::{Answer, lists as kept, deep::{self, Place as Spot}};
+pub(crate) use low::all::*;
+
+pub struct Pile {
+    pub spots: [u64; 4],
+}
+
+impl Pile {
+    ghost use Rattle.low.specs.Lists.{if◌then◌else◌};
+
+    // The sum with the least.
+    #[inline]
+    pub fn least(&self, n: u64) -> Self
+        ghost top: { Hue }
+        requires low { n ≤ self.now.spots }
+        requires high { n ≤ (record { of = top }).of }
+        ensures* { ⌜ n ≡ n ⌝ }
+        ensures picked { result ≡ if n then n else n }
+    {
+        if n == 0 { self } else { kept::none() }
+    }
+}
+
+impl Display for Pile where Pile: Copy {
+    fn least(&self) -> u64 {
+        0
+    }
+}
+
+pub(crate) fn inner(a: &[Spot]) -> u64
+    ensures { result ≡ Answer.None a.now }
+{
+    0
+}
+"""
+
+
 class Reading(unittest.TestCase):
     @classmethod
     def setUpClass(cls):
@@ -187,10 +227,10 @@ class Reading(unittest.TestCase):
         self.assertEqual(sorted(d.name for d in self.house.uses(self.decl(name))), sorted(expected))
 
     def test_operators(self):
-        self.uses("plus", "_⊕_")
+        self.uses("plus", "◌⊕◌")
 
     def test_imports_with_as(self):
-        self.uses("renamed", "if_then_else_")
+        self.uses("renamed", "if◌then◌else◌")
 
     def test_fields_are_no_names(self):
         self.uses("projected", "Pair")
@@ -229,7 +269,7 @@ class Reading(unittest.TestCase):
 
     def test_lines(self):
         lists = ("low", "specs", ("Lists",))
-        self.assertEqual(len(self.decl("_⊕_", lists).lines), 5)
+        self.assertEqual(len(self.decl("◌⊕◌", lists).lines), 5)
         self.assertEqual(len(self.decl("Pair", lists).lines), 5)
         self.assertEqual(len(self.decl("Hue", lists).lines), 3)
 
@@ -246,6 +286,22 @@ class Reading(unittest.TestCase):
         # a parameter has the name of a definition; the clause's other name is imported under another
         self.assertEqual(sorted(d.name for d in self.house.contract(found[0])), ["Answer", "chosen"])
         self.assertEqual([d.name for d in self.house.contract(found[1])], ["plus"])
+
+    def test_forms(self):
+        with Tree(dict(FILES, **{"crates.txt": "low:\nforms staticlib: low\n", "crates/forms/src/lib.rt": FORMS})) as tree:
+            here = house.House(tree.root)
+            source = here.sources["forms", ()]
+            self.assertEqual(source.imports, {
+                "Answer": ("low", "Answer"), "kept": ("low", "lists"), "deep": ("low", "deep"),
+                "Spot": ("low", "deep", "Place")})
+            self.assertEqual(sorted(source.functions), ["<Pile as Display>::least", "Pile::least", "inner"])
+            least, = here.public_functions("forms")
+            self.assertEqual([kind for kind, _ in least.clauses], ["ghost", "requires", "requires", "ensures", "ensures"])
+            self.assertEqual(len(least.lines), 8)
+            self.assertEqual(sorted(d.name for d in here.contract(least)), ["Pile", "if◌then◌else◌"])
+            # the code's path deep::Place has no file here; a variant is told by its type's own name
+            self.assertEqual([d.name for d in here.contract(source.functions["inner"])], ["Answer"])
+            self.assertEqual(here.named("forms"), {"low"})
 
     def test_closure(self):
         found = self.house.closure(self.house.contract(self.house.public_functions("term")[0]))
@@ -281,6 +337,9 @@ class Reading(unittest.TestCase):
         with Tree(dict(FILES, **{"crates/low/specs/Lists.antt": "strange\n"})) as tree:
             with self.assertRaisesRegex(house.Fault, "Lists.antt, line 1: 'strange ..' is no declaration"):
                 house.House(tree.root).modules["low", "specs", ("Lists",)].decls
+        with Tree(dict(FILES, **{"crates.txt": "low:\nlow wrong: low\n"})) as tree:
+            with self.assertRaisesRegex(house.Fault, "line 2: 'NAME: DEP DEP ..' or 'NAME staticlib: DEP ..' is expected"):
+                house.House(tree.root)
         with Tree(dict(FILES, **{"crates.txt": "low:\nlow:\n"})) as tree:
             with self.assertRaisesRegex(house.Fault, "line 2: low is listed twice"):
                 house.House(tree.root)

@@ -11,7 +11,7 @@ FILES = {
     "crates.txt": "low:\nup: low\ncode:\n",
     "crates/low/src/lib.rt": "// Low.\n",
     "crates/low/specs/Lib.antt": "pub mod Promises\npub mod Sheet\n",
-    "crates/low/specs/Promises.antt": """use Prim.Native.Nat.{ℕ}
+    "crates/low/specs/Promises.antt": """use Rattle.std.specs.Prelude.{ℕ}
 
 -- A record beside the page needs no value.
 pub record Holding (n : ℕ) : Type 0 where
@@ -24,7 +24,7 @@ pub record Promises : Type 0 where
     "crates/low/specs/Sheet.antt": "pub record Cases (n m : ℕ) (rows : List ℕ) : Type 0 where\n  pub one : n ≡ n\n",
     "crates/low/proofs/Lib.antt": "pub mod Kept\n",
     "crates/low/proofs/Kept.antt": "pub mod Deep\n",
-    "crates/low/proofs/Kept/Deep.antt": """use Rattle·low·specs.specs.Promises.{Promises as Page}
+    "crates/low/proofs/Kept/Deep.antt": """use Rattle.low.specs.Promises.{Promises as Page}
 
 -- kept
 pub promises : Page
@@ -32,7 +32,7 @@ promises = record { same = λ n. refl; }
 """,
     "crates/up/src/lib.rt": "// Up.\n",
     "crates/up/proofs/Lib.antt": "pub mod Cases\n",
-    "crates/up/proofs/Cases.antt": """use Rattle·low.specs.Sheet.{Cases}
+    "crates/up/proofs/Cases.antt": """use Rattle.low.specs.Sheet.{Cases}
 
 module _ (n : ℕ) where
   pub cases : (m : ℕ) (rows : List ℕ) → Cases n m rows
@@ -44,7 +44,7 @@ module _ (n : ℕ) where
     "crates/code/specs/Inner.antt": "pub mod Promises\n",
     "crates/code/specs/Inner/Promises.antt": "pub record Promises : Type 0 where\n  pub one : 1 ≡ 1\n",
     "crates/code/proofs/inner.antt": "pub mod Promises\n",
-    "crates/code/proofs/inner/Promises.antt": """use Rattle·code·specs.specs.Inner.Promises.{Promises}
+    "crates/code/proofs/inner/Promises.antt": """use Rattle.code.specs.Inner.Promises.{Promises}
 
 pub promises : Promises
 promises = record { one = refl; }
@@ -86,7 +86,7 @@ class Promises(unittest.TestCase):
         self.refused("crates/low/specs/Lib.antt", "pub mod Promises\n", "", "no `pub mod` lines of specs/ lead to it")
 
     def test_another_page_of_that_name(self):
-        self.refused(DEEP, "Rattle·low·specs.specs.Promises.{", "Rattle·code.specs.Inner.Promises.{", "no crate's")
+        self.refused(DEEP, "Rattle.low.specs.Promises.{", "Rattle.code.specs.Inner.Promises.{", "no crate's")
 
     def test_hypotheses(self):
         self.refused(DEEP, ": Page\n", ": ⊥ → Page\n", "assumes something that the page does not state")

@@ -80,8 +80,8 @@ class Refusals(unittest.TestCase):
             (RATTLE, r"    NoRoom,\n    BadTerm,", "    BadTerm,\n    NoRoom,", "gives NoRoom the number 14, not 13"),
             (RATTLE, r"Refusal::BadMode => 16", "Refusal::BadMode => 15", "gives BadMode the number 15, not 16"),
             (RATTLE, r"^    Trailing,\n", "", "has no Trailing (9)"),
-            (NUMBERS, r"^refusalNo Absent = 15", "refusalNo Gone = 15", "has Gone (15), which the rules have not"),
-            (NUMBERS, r"^refusalNo Short = 1$", "refusalNo Short = 0", "gives Short the number 0, not 1"),
+            (NUMBERS, r"^refusal_no Absent = 15", "refusal_no Gone = 15", "has Gone (15), which the rules have not"),
+            (NUMBERS, r"^refusal_no Short = 1$", "refusal_no Short = 0", "gives Short the number 0, not 1"),
             (REFERENCE, r"^    DupName,\n", "", "has no DupName (5)"),
         ]:
             with self.subTest(path=path, old=old):

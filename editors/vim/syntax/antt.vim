@@ -3,7 +3,7 @@ if exists("b:current_syntax")
   finish
 endif
 
-" A name is any run of characters but spaces and ( ) { } . ; , @ and quotes, so `le-trans` and `x≤y` are one word each.
+" A name is any run of characters but spaces and ( ) { } . ; , @ and quotes, so `le-trans`, `◌≤◌` and `x≤y` are one word each.
 syntax iskeyword 33,35-39,42,43,45,47-58,60-63,65-122,124,126,128-255
 setlocal commentstring=--\ %s
 
@@ -12,7 +12,7 @@ syntax keyword anttMark pub abbrev unfoldable unfolding
 syntax keyword anttModule use mod package open using as
 syntax keyword anttWord where let in do elim unfold
 syntax match anttWord /[λ∀→↦]/
-syntax keyword anttTactic rw rw⁻¹ simp search grw cc omega cap
+syntax keyword anttTactic rw rw⁻¹ simp search grw cc omega cap grind hlevel assumption first_of
 syntax keyword anttType Type 𝕀 𝔽
 syntax match anttNumber /\k\@1<!\%(0x[0-9a-fA-F_]\+\|0o[0-7_]\+\|0b[01_]\+\|\d[0-9_]*\)\k\@!/
 syntax region anttText start=/"/ skip=/\\./ end=/"/ oneline

@@ -1,4 +1,4 @@
-" Rattle: like Rust, with contracts. What stands in a clause `requires { .. }` or `ensures { .. }` is antt.
+" Rattle: like Rust, with contracts. What stands in a clause `requires { .. }` or `ensures name { .. }` is antt.
 if exists("b:current_syntax")
   finish
 endif
@@ -8,16 +8,16 @@ syntax iskeyword 48-57,65-90,95,97-122
 setlocal commentstring=//\ %s
 
 syntax keyword rattleKeyword as break const continue crate else enum extern fn for if impl in let loop match mod mut
-syntax keyword rattleKeyword pub return self struct super type use while
+syntax keyword rattleKeyword pub return self static struct super trait type unsafe use where while
 syntax keyword rattleGhost ghost
-syntax keyword rattleType bool u8 u16 u32 u64 usize i8 i16 i32 i64 isize f32 f64 Self
+syntax keyword rattleType bool char str u8 u16 u32 u64 u128 usize i8 i16 i32 i64 i128 isize f32 f64 Self
 syntax keyword rattleBool true false
 syntax match rattleNumber /\<\%(0x[0-9a-fA-F_]\+\|0o[0-7_]\+\|0b[01_]\+\|\d[0-9_]*\)\%([iu]\%(8\|16\|32\|64\|size\)\)\?\>/
 syntax match rattleText /\<b'\%(\\.\|[^\\']\)'/
 syntax region rattleText start=/\<b"/ start=/"/ skip=/\\./ end=/"/
 syntax match rattleAttribute /#\[[^\]]*\]/
 syntax match rattleComment /\/\/.*$/ contains=@Spell
-syntax region rattleClause matchgroup=rattleContract start=/\<\%(requires\|ensures\)\s*{/ end=/}/ contains=@antt,rattleGroup
+syntax region rattleClause matchgroup=rattleContract start=/\<\%(\%(requires\|ensures\)\*\?\%(\s\+\k\+\)\?\|ghost\s\+\k\+:\)\s*{/ end=/}/ contains=@antt,rattleGroup
 syntax region rattleGroup start=/{/ end=/}/ contained transparent contains=@antt,rattleGroup
 
 highlight default link rattleKeyword Keyword
