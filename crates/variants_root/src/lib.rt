@@ -1,5 +1,7 @@
 // The variants of a root, once a table is laid flat: a literal's one, or a class's, over a lent store.
 // A refusal leaves all that is lent as it was. (src/extract.rs, extract_variants_with_sort)
+#![tactic(auto)]
+
 ghost use Rattle.std.specs.Prelude.{◌≡◌, ◌<◌, pos, length, get_or};
 ghost use Rattle.term_rules.specs.Lent.{store};
 ghost use Rattle.variant_answers.specs.Kept.{lending};
