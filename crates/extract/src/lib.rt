@@ -1,6 +1,8 @@
 // The best term of a root of a table file, and its variants: document 01, 'Costs and choice'. (src/extract.rs,
 // extract_best_with_sort and extract_variants_with_sort)
 // A refusal leaves all that is lent as it was.
+#![tactic(auto)]
+
 ghost use Rattle.std.specs.Prelude.{◌≡◌};
 ghost use Rattle.term_rules.specs.Lent.{store};
 ghost use Rattle.answer_rules.specs.Best.{best_at};

@@ -62,8 +62,8 @@ module _
       row_at (scanned t (root ∷ [])) i ≡ row_of (get_or outputs i 0) (get_or heads i 0) (part_of starts children i)
   row_is i h = sym (ap (λ (x : List Row). row_at x i) f.rows_are) ∙ rows_get outputs heads starts children i h
 
-  pub file_row : (i : ℕ) → get_or order i 0 ≡ file_row (prices_for t root) i
-  file_row i = ap (λ (x : List ℕ). get_or x i 0) f.order_is
+  pub file_row-read : (i : ℕ) → get_or order i 0 ≡ file_row (prices_for t root) i
+  file_row-read i = ap (λ (x : List ℕ). get_or x i 0) f.order_is
 
   parts : (n : ℕ) → n ≡ class_count t → PartsIn n (length outputs) starts children
   parts n e = record {
@@ -78,7 +78,7 @@ module _
       (i : ℕ) →
       i < length outputs →
       name_at labels (get_or functions (get_or order i 0) 0) ≡ name_of t (file_row (prices_for t root) i)
-  name-is i h = f.label (get_or order i 0) (below i h) ∙ ap (name_of t) (file_row i)
+  name-is i h = f.label (get_or order i 0) (below i h) ∙ ap (name_of t) (file_row-read i)
 
   pub few-kids : (i : ℕ) → i < length outputs → length (part_of starts children i) ≤ 8
   few-kids i h =
@@ -152,7 +152,7 @@ module _
         ap (λ (r : ℕ). cells_in cells r (count_at packed i)) (pk.each i h).file_row
         ∙ ap (cells_in cells (get_or order i 0)) (count_is i h)
         ∙ v.cells_are (get_or order i 0) (below i h)
-        ∙ ap (λ (r : ℕ). (table_row_of t r).cells) (file_row i)
+        ∙ ap (λ (r : ℕ). (table_row_of t r).cells) (file_row-read i)
 
   module _
       (costs ranks edges : List ℕ) (passes last : ℕ) (long : length ranks ≡ class_count t)

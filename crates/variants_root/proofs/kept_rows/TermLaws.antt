@@ -34,7 +34,7 @@ use Rattle.best_class.proofs.SolvedLaws.{part-children, part_in, agree}
 use Rattle.variant_terms.specs.Rows.{Deep, KidIn}
 use Rattle.variant_terms.specs.Turned.{name_in, rows_in, Listed, AllListed}
 use Rattle.variants_root.specs.Flat.{VariantTable}
-use Rattle.variants_root.proofs.kept_rows.RowLaws.{rows-many, file_row, name-is}
+use Rattle.variants_root.proofs.kept_rows.RowLaws.{rows-many, file_row-read, name-is}
 
 -- children that can be built are below every depth that is enough
 module _ (rank : ℕ → ℕ) (ranks : List ℕ) (values : List ℤ) (d : ℕ) (deep : Deep ranks d) where
@@ -84,7 +84,7 @@ module _
       ∙ ap (map (plan_child t))
       (part-children t root outputs heads starts children order functions labels values f i m)
       ∙ ap (λ (r : ℕ). map (plan_child t) (row_at (table_rows t) r).children)
-      (file_row t root outputs heads starts children order functions labels values cells v i))
+      (file_row-read t root outputs heads starts children order functions labels values cells v i))
 
   variant_is :
       (i : ℕ) →
