@@ -1,4 +1,6 @@
 // The program as a function: from its whole input and a lent buffer to the length of its answer, or a refusal.
+#![tactic(auto)]
+
 ghost use Rattle.std.specs.Prelude.{◌≡◌, ◌≤◌, length};
 ghost use Rattle.decimal.specs.Written.{Wrote};
 ghost use Rattle.program_rules.specs.Query.{asked};
