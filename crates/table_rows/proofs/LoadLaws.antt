@@ -1,6 +1,6 @@
 -- A table file that was read, and its root. Assumes nothing.
 use Prim.{tt}
-use Prim.Native.Nat.{ℕ, ◌*◌, ◌≤◌}
+use Prim.Native.Nat.{ℕ, ◌≤◌}
 use mathlib.Core.Path.{◌≡◌, refl, ap, sym, ◌∙◌, subst}
 use mathlib.Core.List.{List, [], ◌∷◌, map}
 use native.Mathlib.Omega.{arith}
@@ -10,20 +10,18 @@ use Rattle.refusal.specs.declared.Refusal.{Refusal}
 use Rattle.bits.specs.Got.{Got, got, refused}
 use Rattle.bits.proofs.GotLaws.{all-at}
 use Rattle.file_rules.specs.Table.{Sort, Function, Row, Table}
-use Rattle.file_rules.specs.Every.{Every}
 use Rattle.file_rules.specs.Accepted.{Accepted, FunctionOk}
 use Rattle.file_rules.specs.Sorts.{kinds_of}
-use Rattle.file_rules.specs.Arrays.{pad_with, pad, blocks, Holds}
+use Rattle.file_rules.specs.Arrays.{pad, blocks, Holds}
 use Rattle.file_rules.specs.Reading.{OnGot}
 use Rattle.file_rules.specs.File.{table_at}
 use Rattle.file_rules.proofs.ArraysLaws.{pad_with-length}
 use Rattle.file_rules.proofs.BlockLaws.{every_map, blocks-length}
 use Rattle.file_rules.proofs.TableLaws.{table_kept}
-use Rattle.file_reader.specs.Outcome.{Answers, outcome_of}
+use Rattle.file_reader.specs.Outcome.{Answers}
 use Rattle.file_reader.specs.declared.Outcome.{Outcome}
 use Rattle.file_reader.specs.declared.Outcome.TheVariants.{Read, Refused as NotRead}
 use Rattle.table_rows.specs.Standing.{StandsWhole}
-use Rattle.table_rows.specs.Rooted.{root_of}
 use Rattle.table_rows.specs.Flattened.{Flattened}
 use Rattle.table_rows.specs.Opening.{OpenedOf, root_in, OnClass as OnOpened}
 use Rattle.table_rows.proofs.prepare.StandLaws.{stands-of-holds}

@@ -1,9 +1,8 @@
 -- The rows that roots sorts reach, from the arrays of an accepted table. Assumes nothing.
-use Prim.Native.Nat.{ℕ, ◌+◌, ◌*◌, ◌≤◌, ◌<◌}
-use mathlib.Core.Path.{◌≡◌, ap, sym, ◌∙◌, subst}
+use Prim.Native.Nat.{ℕ, ◌+◌, ◌≤◌, ◌<◌}
+use mathlib.Core.Path.{◌≡◌, ap, ◌∙◌, subst}
 use mathlib.Core.List.{List}
 use native.Mathlib.Omega.{arith}
-use native.Mathlib.Numerals.{add-one}
 use lib.ListN.{length, get_or, take}
 use lib.Seq.{length-take-le, get_or-take}
 use Rattle.file_rules.specs.Table.{Table}
@@ -22,7 +21,7 @@ use Rattle.table_rows.proofs.Held.HeldLaws.{class-count-held}
 use Rattle.table_rows.proofs.Held.ArrayLaws.{padded-long, scan-arrays-held, order-held}
 use Rattle.table_rows.proofs.Held.RowLaws.{order-listed, rows-fit-scanned, laid-scanned, laid-flat-scanned}
 use Rattle.table_rows.specs.Standing.{Stands}
-use Rattle.table_rows.specs.Flattened.{Space, Flattened}
+use Rattle.table_rows.specs.Flattened.{Flattened}
 
 -- The starts of two neighbours are at most eight apart.
 sums-arity :

@@ -1,7 +1,7 @@
 -- The root of a table from the arrays of its sorts. Assumes nothing.
 use Prim.Native.Nat.{ℕ, ◌+◌, ◌≤◌, ◌<◌}
-use mathlib.Core.Path.{◌≡◌, refl, ap, sym, ◌∙◌}
-use mathlib.Core.Bool.{true, false, ◌&&◌}
+use mathlib.Core.Path.{◌≡◌, refl, sym, ◌∙◌}
+use mathlib.Core.Bool.{true, false}
 use mathlib.Core.List.{List, map}
 use native.Mathlib.Omega.{arith}
 use native.Mathlib.Decide.{dec_lt}
@@ -22,7 +22,6 @@ use Rattle.table_rows.proofs.Held.HeldLaws.{class-count-held, class-held}
 use Rattle.table_rows.proofs.Held.ArrayLaws.{padded-long}
 use Rattle.table_rows.specs.Standing.{SortsStand}
 use Rattle.table_rows.specs.Rooted.{root_of}
-use Rattle.table_rows.specs.declared.prepare.Root.{Root}
 use Rattle.table_rows.specs.declared.prepare.Root.TheVariants.{Bad, Class, Literal}
 
 -- The arrays of a table's functions and rows, where only its sorts stand in arrays.

@@ -31,5 +31,5 @@ returns c =
     let b : c.args.n ≤ length c.args.kinds.now =
     omega (arith, c.requires.n_bound) in
     reads-got (output_eq _ _ _ _ b (field-value c.read-f.ensures c.in-Value.is)
-    c.if-n-k.false c.if-kinds-k-ne1.false)
+    c.if-n-k.false (omega arith))
     (record { put = refl })

@@ -37,4 +37,4 @@ pub returns : goal.returns
 returns c =
     sym (sort-eq _ _ _ (field-value c.read-f.ensures c.in-Value.is)
     c.if-kind-eq0.false
-    (field-value c.read-g.ensures c.in-Value-g.is) c.if-total-n-gt512.false)
+    (field-value c.read-g.ensures c.in-Value-g.is) (omega arith))

@@ -32,17 +32,20 @@ loop-i-preserved c =
     let q = is_candidate a.ranks.now a.outputs.now a.starts.now a.children.now a.c in
     let n = length a.outputs.now in
     let u = c.is_candidate in
-    elim c.if-is_candidate.branch [ then-is_candidate w ↦
-    let e = sym u.ensures ∙ w.if-is_candidate.true in
-    let r = appends-room q n (picked q 0 n) l.list l.m l.i l.invariant.0 t e
-    (omega (arith, picked_fits q n, c.requires.outputs_in_bounds, l.invariant.1)) in (
-      rw (w.list-is, w.m-is) (appends-yes q n (picked q 0 n) l.list l.m l.i l.invariant.0 t e r),
-      rw (w.list-is, length-set) l.invariant.1,
-    ) | else-is_candidate w ↦
-    let e = sym u.ensures ∙ w.if-is_candidate.false in (
-      rw (w.list-is, w.m-is) (appends-no q n (picked q 0 n) l.list l.m l.i l.invariant.0 t e),
-      rw w.list-is l.invariant.1,
-    ) ]
+    elim c.if-is_candidate.branch [
+      | then-is_candidate w ↦
+          let e = sym u.ensures ∙ w.if-is_candidate.true in
+          let r = appends-room q n (picked q 0 n) l.list l.m l.i l.invariant.0 t e
+          (omega (arith, picked_fits q n, c.requires.outputs_in_bounds, l.invariant.1)) in (
+            rw (w.list-is, w.m-is) (appends-yes q n (picked q 0 n) l.list l.m l.i l.invariant.0 t e r),
+            rw (w.list-is, length-set) l.invariant.1,
+          )
+      | else-is_candidate w ↦
+          let e = sym u.ensures ∙ w.if-is_candidate.false in (
+            rw (w.list-is, w.m-is) (appends-no q n (picked q 0 n) l.list l.m l.i l.invariant.0 t e),
+            rw w.list-is l.invariant.1,
+          )
+    ]
 
 pub returns : goal.returns
 returns c =
