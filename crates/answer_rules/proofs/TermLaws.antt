@@ -1,5 +1,5 @@
 -- The tree that the edges choose is the term that the builder builds. Assumes nothing.
-use mathlib.Core.Path.{◌≡◌, ap, subst}
+use mathlib.Core.Path.{ap, subst}
 use mathlib.Core.List.{List, [], ◌∷◌, map}
 use Prim.Native.Nat.{ℕ}
 use Rattle.choice_rules.specs.Rows.{Child, literal, class, row_at}

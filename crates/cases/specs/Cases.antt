@@ -4,7 +4,7 @@
 use Rattle.std.specs.Prelude.{ℕ, ◌*◌, ◌-◌, ◌^◌, ◌≡◌, true, List, [], ◌∷◌, ◌++◌, ℤ, pos, negsuc, length}
 use Prim.Native.String.{String}
 use Rattle.bits.specs.Got.{got}
-use Rattle.file_rules.specs.Table.{Sort, Function, Table}
+use Rattle.file_rules.specs.Table.{Table}
 use Rattle.file_rules.specs.File.{table_at}
 use Rattle.file_rules.specs.Code.{code}
 use Rattle.file_rules.specs.Bytes.{packed, file_of}

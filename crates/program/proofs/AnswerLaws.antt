@@ -1,22 +1,22 @@
 -- The query's fault, or the call that it makes. Assumes nothing.
 use mathlib.Core.Path.{◌≡◌, refl, sym, ap, ◌∙◌}
-use mathlib.Core.Bool.{Bool, true, false}
+use mathlib.Core.Bool.{true, false}
 use mathlib.Core.List.{List}
-use Prim.Native.Nat.{ℕ, ◌+◌, ◌*◌, ◌-◌, ◌≤◌}
+use Prim.Native.Nat.{ℕ, ◌-◌, ◌≤◌}
 use native.Mathlib.Omega.{arith}
 use lib.Dec.{eqb}
 use lib.ListN.{length, take, drop, length-drop}
 use lib.Seq.{take_all}
 use Rattle.refusal.specs.declared.Refusal.{Refusal}
 use Rattle.refusal.specs.Numbers.{refusal_no}
-use Rattle.bits.specs.Got.{Got, got, refused as fault}
-use Rattle.answer_rules.specs.Answers.{Answer, value, refusal}
-use Rattle.program_rules.specs.Query.{Query, asked, query_at}
+use Rattle.bits.specs.Got.{got, refused as fault}
+use Rattle.answer_rules.specs.Answers.{Answer, refusal}
+use Rattle.program_rules.specs.Query.{asked, query_at}
 use Rattle.program_rules.proofs.queries.QueryLaws.{query-long}
 use Rattle.program_rules.specs.Reply.{best_call, variants_call, call_of, answer_to, in_room, put_in, replied}
 use Rattle.program_rules.specs.Seen.{seen}
 use Rattle.program_rules.specs.declared.replies.Answered.{Answered}
-use Rattle.program_rules.specs.declared.replies.Answered.TheVariants.{Written, Refused}
+use Rattle.program_rules.specs.declared.replies.Answered.TheVariants.{Refused}
 use Rattle.program.proofs.CallLaws.{refusal-stays}
 
 module _ (input out : List ℕ) where

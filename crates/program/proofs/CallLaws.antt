@@ -1,9 +1,9 @@
 -- What the calls answer, as the program tells it. Assumes nothing.
 use mathlib.Core.Path.{◌≡◌, refl, sym, ap, subst, ◌∙◌}
-use mathlib.Core.Bool.{Bool, true, false}
-use mathlib.Core.List.{List, ◌++◌}
+use mathlib.Core.Bool.{Bool, true}
+use mathlib.Core.List.{List}
 use Prim.Native.Nat.{ℕ, ◌<◌}
-use lib.IntN.{ℤ, pos}
+use lib.IntN.{pos}
 use lib.ListN.{length, replicate}
 use Rattle.name.specs.Entries.{table_length}
 use Rattle.refusal.specs.declared.Refusal.{Refusal}
@@ -15,7 +15,7 @@ use Rattle.answer_rules.specs.Best.{BestTerm, best_term, best_at}
 use Rattle.program_rules.specs.Reply.{empty_store, best_reply, best_answer, best_told, best_call, in_room, put_in}
 use Rattle.program_rules.specs.Seen.{seen}
 use Rattle.program_rules.specs.declared.replies.Answered.{Answered}
-use Rattle.program_rules.specs.declared.replies.Answered.TheVariants.{Written, Refused}
+use Rattle.program_rules.specs.declared.replies.Answered.TheVariants.{Refused}
 use Rattle.extract.proofs.WayLaws.{value-returned}
 
 -- the store that the program starts with

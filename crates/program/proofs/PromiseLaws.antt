@@ -1,20 +1,20 @@
 -- What the promises of the program rest on: the answer in a buffer, by what answers the input and whether it has room.
 -- Assumes nothing.
-use Prim.Native.Nat.{ℕ, ◌<◌, ◌≤◌, ◌+◌}
+use Prim.Native.Nat.{ℕ, ◌<◌, ◌≤◌}
 use mathlib.Core.Path.{◌≡◌, refl, sym, ap, subst, ◌∙◌}
 use mathlib.Core.Bool.{Bool, true, false}
-use mathlib.Core.List.{List, [], ◌++◌}
+use mathlib.Core.List.{List}
 use native.Mathlib.Omega.{arith}
-use borrow.Author.Tests.{le-leb, lt-leb, leb-true}
+use borrow.Author.Tests.{leb-true}
 use lib.Dec.{leb}
-use lib.ListN.{length, drop}
+use lib.ListN.{length}
 use Rattle.refusal.specs.declared.Refusal.{Refusal}
 use Rattle.refusal.specs.declared.Refusal.TheVariants.{NoRoom}
 use Rattle.refusal.specs.Numbers.{refusal_no}
 use Rattle.refusal.specs.Answer.{Answer, value, refusal, refuse}
 use Rattle.refusal.proofs.NumberLaws.{number-once}
 use Rattle.program_rules.specs.Lines.{refused_line}
-use Rattle.program_rules.specs.Reply.{answer_to, in_room, written, reply, Replied, put_in, replied, responded}
+use Rattle.program_rules.specs.Reply.{answer_to, in_room, written, reply, Replied, put_in}
 use Rattle.program_rules.specs.Seen.{answer_of, seen}
 use Rattle.program_rules.specs.declared.replies.Answered.{Answered}
 use Rattle.program_rules.specs.declared.replies.Answered.TheVariants.{Written, Refused}

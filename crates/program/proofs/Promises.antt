@@ -1,14 +1,9 @@
 -- The promises of the crate `program`, each from its law. Assumes nothing.
-use mathlib.Core.Path.{◌≡◌, refl, sym, ◌∙◌}
-use Prim.Native.Nat.{ℕ, ◌<◌, ◌≤◌}
-use mathlib.Core.List.{List}
-use lib.ListN.{length}
-use Rattle.refusal.specs.declared.Refusal.TheVariants.{NoRoom}
-use Rattle.refusal.specs.Numbers.{refusal_no}
-use Rattle.refusal.specs.Answer.{value, refusal}
+use mathlib.Core.Path.{refl, sym, ◌∙◌}
+use Rattle.refusal.specs.Answer.{value}
 use Rattle.program_rules.specs.Reply.{answer_to, reply, replied, responded}
 use Rattle.program_rules.proofs.replies.KnownLaws.{answer-known, known-refusal}
-use Rattle.program.specs.Promises.{Stands, Refuses, Promises}
+use Rattle.program.specs.Promises.{Promises}
 use Rattle.program.proofs.PromiseLaws.{
   text-stands,
   text-refused,

@@ -1,15 +1,15 @@
 -- What variants answer, as the program tells it. Assumes nothing.
-use mathlib.Core.Path.{◌≡◌, refl, sym, ap, subst, ◌∙◌}
+use mathlib.Core.Path.{◌≡◌, sym, ap, subst, ◌∙◌}
 use mathlib.Core.Bool.{true}
 use mathlib.Core.List.{List}
-use Prim.Native.Nat.{ℕ, ◌<◌}
+use Prim.Native.Nat.{ℕ}
 use lib.ListN.{length, replicate}
 use Rattle.refusal.specs.declared.Refusal.{Refusal}
 use Rattle.refusal.specs.Numbers.{refusal_no}
 use Rattle.term_rules.specs.Lent.{Store}
 use Rattle.term_rules.specs.WellFormed.{well_formed}
 use Rattle.answer_rules.specs.Answers.{Answer, value, refusal}
-use Rattle.answer_rules.specs.Variants.{Kept, VariantsAfter, Lending, variants_at}
+use Rattle.answer_rules.specs.Variants.{VariantsAfter, Lending, variants_at}
 use Rattle.program.specs.Replies.{Within}
 use Rattle.extract.specs.Returned.{Returned}
 use Rattle.extract.proofs.VariantFacts.CallLaws.{variants-returned}

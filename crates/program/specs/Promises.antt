@@ -1,11 +1,11 @@
 -- What the program's function promises, beside its contracts: document 01, 'The program' and 'Refusal numbers'.
 -- `replied` and `responded` are the definitions that `answer` and `respond` equal, `answer_to` is what answers an input and
 -- `reply` what the program writes. Assumes nothing: a record, with one field for each theorem.
-use Rattle.std.specs.Prelude.{ℕ, ◌<◌, ◌≤◌, ◌≡◌, List, ◌++◌, ◌⊎◌, ◌↔◌, length, drop}
+use Rattle.std.specs.Prelude.{ℕ, ◌<◌, ◌≤◌, ◌≡◌, List, ◌++◌, length, drop}
 use Rattle.refusal.specs.declared.Refusal.{Refusal}
 use Rattle.refusal.specs.declared.Refusal.TheVariants.{NoRoom}
 use Rattle.refusal.specs.Numbers.{refusal_no}
-use Rattle.refusal.specs.Answer.{value, refusal, refuse}
+use Rattle.refusal.specs.Answer.{value, refusal}
 use Rattle.program_rules.specs.Lines.{refused_line}
 use Rattle.program_rules.specs.Reply.{answer_to, reply, Replied, replied, responded}
 use Rattle.program_rules.specs.Seen.{seen}

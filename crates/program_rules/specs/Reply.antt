@@ -1,9 +1,9 @@
 -- What the program writes: document 01, 'The program'. Assumes nothing: definitions.
-use Rattle.std.specs.Prelude.{Bool, true, false, List, [], ◌∷◌, ◌++◌, ℕ, suc, eqb, leb, ℤ, pos, length, get_or, drop, take, replicate}
+use Rattle.std.specs.Prelude.{Bool, true, false, List, [], ◌∷◌, ◌++◌, ℕ, suc, eqb, leb, pos, length, drop, take, replicate}
 use Rattle.name.specs.Entries.{table_length}
 use Rattle.refusal.specs.Answer.{refuse}
 use Rattle.refusal.specs.declared.Refusal.TheVariants.{NoRoom}
-use Rattle.bits.specs.Got.{Got, got, refused as fault}
+use Rattle.bits.specs.Got.{got, refused as fault}
 use Rattle.program_rules.specs.Lines.{best_line, variants_line, variant_line, refused_line}
 use Rattle.term_rules.specs.Lent.{Store, store, records_length}
 use Rattle.text_rules.specs.PlainText.{plain_text}

@@ -11,7 +11,7 @@ use Rattle.term.proofs.Promises as term
 use Rattle.text.proofs.Promises as text
 use Rattle.extract.proofs.Promises as extract
 use Rattle.program.proofs.Promises as program
-use Rattle.theorems.specs.Main.{Main, DemandThree}
+use Rattle.theorems.specs.Main.{Main}
 
 one_number :
     (s : Store) (i j : ℕ) (t u : Tree) →

@@ -1,11 +1,10 @@
 -- Each answer for the kept rows is the definition's. Assumes nothing.
-use mathlib.Core.Path.{◌≡◌, refl, sym, ap, subst, ◌∙◌}
-use mathlib.Core.Bool.{Bool, true, false, ◌&&◌}
+use mathlib.Core.Path.{◌≡◌, refl, sym, ap, ◌∙◌}
+use mathlib.Core.Bool.{true, false}
 use mathlib.Core.List.{List, []}
 use Prim.Native.Nat.{ℕ, ◌<◌, ◌≤◌, min}
 use native.Mathlib.Omega.{arith}
 use borrow.Author.Tests.{le-leb, lt-leb}
-use lib.Dec.{leb}
 use lib.IntN.{ℤ}
 use lib.ListN.{length, get_or, take, replicate}
 use lib.Seq.{paste, length-take-le}
@@ -15,12 +14,10 @@ use Rattle.copies.specs.Copied.{copied}
 use Rattle.choice_rules.proofs.Demand.OrderLaws.{map-length}
 use Rattle.build.specs.Plan.{Child, Plan}
 use Rattle.build.specs.Building.{state, Out, done, full}
-use Rattle.answer_rules.specs.Variants.{VariantsAfter, Lending, variants_refused, variants_kept, room_for_results}
-use Rattle.variant_terms.specs.Rows.{Deep}
+use Rattle.answer_rules.specs.Variants.{Lending, variants_refused, variants_kept, room_for_results}
 use Rattle.variant_terms.specs.Turned.{Wholly, whole, nothing, wholly, rows_in, RowsWhole, seen_wholly}
 use Rattle.variant_terms.specs.declared.Turned.TheVariants.{All, Full as None}
 use Rattle.variant_answers.specs.Kept.{lending, seen, dear_in, prices_of, built_in, answer_in, Results, Answers}
-use Rattle.variant_answers.specs.declared.Variants.{Variants}
 use Rattle.variant_answers.specs.declared.Variants.TheVariants.{Kept, TooDear as Dear, NoRoom as Full}
 
 -- the terms are copied to the front

@@ -1,5 +1,5 @@
 -- Laws that follow the code of `all_rows`: the definition one row at a time. Assumes nothing.
-use Prim.Native.Nat.{ℕ, zero, suc, ◌+◌, ◌<◌, ◌≤◌}
+use Prim.Native.Nat.{ℕ, ◌+◌, ◌<◌, ◌≤◌}
 use mathlib.Core.Path.{◌≡◌, refl, sym, ap, ◌∙◌}
 use mathlib.Core.List.{List, [], ◌∷◌, ◌++◌, map}
 use native.Mathlib.Numerals.{add-one}
@@ -10,7 +10,7 @@ use lib.Seq.{drop-cons, take-suc-set}
 use Rattle.term_rules.specs.Growing.{Grows}
 use Rattle.term_rules.proofs.Adding.AddingLaws.{grows-trans}
 use Rattle.build.specs.Plan.{Child, Plan, child_of}
-use Rattle.build.specs.Building.{State, Out, done, full, children_in, build_in}
+use Rattle.build.specs.Building.{State, done, full, children_in, build_in}
 use Rattle.build.specs.Standing.{Tracks}
 use Rattle.answer_rules.specs.Variants.{own_variant}
 use Rattle.variant_terms.specs.Rows.{Deep, RowMade}

@@ -7,7 +7,7 @@ use lib.ListN.{replicate}
 use Rattle.term_rules.specs.Lent.{Store, store}
 use Rattle.build.specs.Plan.{Child, Plan}
 use Rattle.build.specs.Building.{State, state, done, full}
-use Rattle.variant_terms.specs.Turned.{RowsMade, Wholly, whole, nothing, wholly, RowsWhole}
+use Rattle.variant_terms.specs.Turned.{RowsMade, whole, nothing, wholly, RowsWhole}
 
 module _
     (p : Plan) (ranks : List ℕ) (name : ℕ → List ℕ) (kids : ℕ → List Child) (rows : List ℕ) (s : Store) where

@@ -1,6 +1,6 @@
 -- Building in a store that has no room for the last term, by computing: Num(5) is class 0, Add(0, 0) class 1, Add(1, 1)
 -- class 2. Assumes nothing.
-use Prim.Native.Nat.{ℕ, ◌*◌}
+use Prim.Native.Nat.{ℕ}
 use mathlib.Core.Path.{◌≡◌, refl}
 use mathlib.Core.List.{List, [], ◌∷◌, ◌++◌}
 use lib.ListN.{replicate}

@@ -1,6 +1,6 @@
 -- The terms of rows, built in turn: they come back in a store of the same room, or no store of that room that keeps
 -- the first one's terms and names holds them all. Assumes nothing.
-use Prim.Native.Nat.{ℕ, ◌<◌, ◌≤◌}
+use Prim.Native.Nat.{ℕ}
 use mathlib.Core.Path.{◌≡◌, subst}
 use mathlib.Core.Bool.{true, false}
 use mathlib.Core.List.{List, [], ◌∷◌, ◌++◌, map}

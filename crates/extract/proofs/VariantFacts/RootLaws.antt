@@ -1,6 +1,6 @@
 -- A root's sort is one of the table's. Assumes nothing.
 use mathlib.Core.Path.{◌≡◌}
-use mathlib.Core.Bool.{true, ◌&&◌}
+use mathlib.Core.Bool.{true}
 use Prim.Native.Nat.{ℕ, ◌<◌}
 use borrow.Author.Tests.{ltb-true}
 use lib.Dec.{ltb}

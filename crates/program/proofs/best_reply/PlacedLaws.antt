@@ -1,5 +1,5 @@
 -- What an answer tells of the text in its place. Assumes nothing.
-use mathlib.Core.Path.{◌≡◌, refl, sym, ap, ◌∙◌}
+use mathlib.Core.Path.{◌≡◌, refl, sym, ap}
 use mathlib.Core.Bool.{Bool, true, false, true≢false}
 use mathlib.Core.List.{List, [], ◌∷◌, ◌++◌}
 use Prim.Native.Nat.{ℕ, ◌<◌, ◌≤◌}
@@ -9,7 +9,6 @@ use lib.Dec.{leb}
 use borrow.Author.Tests.{leb-true, leb-false}
 use Rattle.decimal.specs.Written.{Wrote}
 use Rattle.term_rules.specs.Lent.{Store}
-use Rattle.text_rules.specs.PlainText.{plain_text}
 use Rattle.name.specs.Name.{allowed, all_allowed, valid}
 use Rattle.text_rules.specs.LetText.{let_text, next_count}
 use Rattle.text_whole.specs.Placed.{Answer, written, refusal, Told, told, placed, plain_placed}

@@ -5,12 +5,12 @@ use mathlib.Core.Bool.{Bool, true, false}
 use mathlib.Core.List.{List, [], ◌∷◌, ◌++◌}
 use Prim.Native.Nat.{ℕ, ◌+◌, ◌-◌, ◌<◌, ◌≤◌}
 use native.Mathlib.Omega.{arith}
-use lib.ListN.{length, set, take, drop, length-append, length-drop, length-set}
+use lib.ListN.{length, set, take, drop, length-append, length-drop}
 use lib.Seq.{length-take-le}
 use borrow.Rule.Slice.PartMut.{put_mid, put_same}
 use Rattle.refusal.specs.declared.Refusal.TheVariants.{NoRoom}
 use Rattle.term_rules.specs.Lent.{Store}
-use Rattle.text_whole.specs.Placed.{written, refusal, told, placed}
+use Rattle.text_whole.specs.Placed.{written, refusal, told}
 use Rattle.answer_rules.specs.Answers.{value}
 use Rattle.answer_rules.specs.Best.{best_term}
 use Rattle.program_rules.specs.Lines.{best_line}

@@ -1,7 +1,7 @@
 -- The lines of variants: their lengths, and that each is written after the last. Assumes nothing.
 use mathlib.Core.Path.{◌≡◌, refl, sym, ap, subst, ◌∙◌}
 use mathlib.Core.List.{List, [], ◌∷◌, ◌++◌}
-use Prim.Native.Nat.{ℕ, zero, suc, ◌+◌, ◌-◌, ◌^◌, ◌<◌, ◌≤◌, min}
+use Prim.Native.Nat.{ℕ, zero, suc, ◌+◌, ◌-◌, ◌<◌, ◌≤◌}
 use native.Mathlib.Omega.{arith}
 use native.Mathlib.Numerals.{add-one}
 use lib.ListN.{length, get_or, set, take, drop, length-append, length-take, length-drop}
@@ -12,7 +12,7 @@ use Rattle.text_rules.specs.PlainText.{plain_line}
 use Rattle.text_pieces.specs.Pieces.{capped}
 use Rattle.program_rules.specs.Lines.{variant_line}
 use Rattle.program_rules.specs.Step.{Step}
-use Rattle.program_rules.proofs.headlines.StepLaws.{step-of-tail, step-byte, step-length, step_then, step-none}
+use Rattle.program_rules.proofs.headlines.StepLaws.{step-of-tail, step-byte, step-length, step_then}
 use Rattle.program.specs.Replies.{reply_text, reply_texts}
 
 module _ (node : ℕ → Node) (n : ℕ) where

@@ -1,14 +1,13 @@
 -- The text as it is written is the definition's. Assumes nothing.
 use mathlib.Core.Path.{◌≡◌, refl, sym, ap, ◌∙◌}
 use mathlib.Core.List.{List, [], ◌∷◌, ◌++◌, append_assoc, append-nil}
-use Prim.Native.Nat.{ℕ, zero, suc, ◌+◌, ◌-◌, ◌<◌, ◌≤◌}
+use Prim.Native.Nat.{ℕ, zero, suc, ◌+◌, ◌≤◌}
 use native.Mathlib.Omega.{arith}
 use native.Mathlib.Nat.{add-zero}
-use lib.ListN.{length, get_or, take, drop, length-append}
+use lib.ListN.{length, get_or, take}
 use lib.Seq.{take-suc, length-take-le}
 use lib.IntN.{ℤ}
 use Rattle.term_rules.specs.Lent.{store}
-use Rattle.text_rules.specs.PlainText.{plain_text, plain_line}
 use Rattle.text_pieces.specs.Readable.{nodes}
 use Rattle.text_whole.proofs.PlacedLaws.{plain-text-nodes}
 use Rattle.program_rules.specs.Lines.{variants_line, variant_line}

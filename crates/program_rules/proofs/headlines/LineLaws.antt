@@ -1,24 +1,13 @@
 -- How long the program's lines are. Assumes nothing.
-use mathlib.Core.Path.{◌≡◌, refl, sym, ap, ◌∙◌}
+use mathlib.Core.Path.{◌≡◌, refl}
 use Prim.{Dec, yes, no}
-use mathlib.Core.List.{List, [], ◌∷◌, ◌++◌}
 use Prim.Native.Nat.{ℕ, zero, suc, ◌+◌, ◌*◌, ◌/◌, ◌^◌, ◌<◌, ◌≤◌}
 use native.Mathlib.Decide.{dec_lt}
 use native.Mathlib.Omega.{arith}
 use lib.ListN.{length, length-append}
 use Rattle.decimal.specs.Decimal.{digits}
 use Rattle.decimal.proofs.DigitLaws.{digits-length-one, digits-length-more}
-use Rattle.program_rules.specs.Lines.{
-  best_word,
-  variants_word,
-  variant_word,
-  refused_word,
-  number_text,
-  best_line,
-  variants_line,
-  variant_line,
-  refused_line,
-}
+use Rattle.program_rules.specs.Lines.{number_text, best_line, variants_line, variant_line, refused_line}
 
 -- 10 to the power k + 1
 unfoldable tens : ℕ → ℕ

@@ -1,7 +1,7 @@
 -- Every refusal of the program has a number of document 01's table. Assumes nothing.
 use Prim.{Unit}
 use Prim.Native.Nat.{ℕ, ◌≤◌}
-use mathlib.Core.Path.{◌≡◌, refl, sym, ap, subst, ◌∙◌}
+use mathlib.Core.Path.{◌≡◌, refl, subst}
 use mathlib.Core.Bool.{Bool, true, false}
 use mathlib.Core.List.{List}
 use native.Mathlib.Omega.{arith}
@@ -28,7 +28,7 @@ use Rattle.refusal.specs.declared.Refusal.TheVariants.{
   BadStore,
 }
 use Rattle.refusal.specs.Numbers.{refusal_no}
-use Rattle.refusal.specs.Answer.{Answer, value, refusal, refuse}
+use Rattle.refusal.specs.Answer.{Answer, value, refusal}
 use Rattle.bits.specs.Got.{Got, got, refused as fault}
 use Rattle.term_rules.specs.Lent.{Store, store}
 use Rattle.term_rules.specs.WellFormed.{well_formed}
@@ -45,20 +45,7 @@ use Rattle.table_rules.specs.Rules.Choosing.{Prices, prices_for}
 use Rattle.answer_rules.specs.Answers.{After, found, refused}
 use Rattle.answer_rules.specs.Plan.{plan_for, order_for}
 use Rattle.answer_rules.specs.Best.{BestTerm, best_term, best_literal, best_built, best_class, best_of, best_at}
-use Rattle.answer_rules.specs.Variants.{
-  Kept,
-  Lending,
-  VariantsAfter,
-  variants_refused,
-  variants_kept,
-  room_for_results,
-  variant_literal,
-  variants_built,
-  variants_of_rows,
-  variants_of,
-  variants_at,
-  any_dear,
-}
+use Rattle.answer_rules.specs.Variants.{Kept, Lending, VariantsAfter, variants_kept, room_for_results, variant_literal, variants_built, variants_of_rows, variants_of, variants_at, any_dear}
 use Rattle.program_rules.specs.Query.{Query, query_at}
 use Rattle.program_rules.specs.Reply.{
   empty_store,

@@ -1,19 +1,19 @@
 -- A child's answer is the definition's. Assumes nothing.
 use Prim.Native.Nat.{ℕ, ◌-◌, ◌<◌, ◌≤◌}
-use mathlib.Core.Path.{◌≡◌, ap, subst, ◌∙◌}
+use mathlib.Core.Path.{◌≡◌, ap, ◌∙◌}
 use mathlib.Core.List.{List}
 use lib.IntN.{ℤ, pos}
 use lib.ListN.{get_or}
 use Rattle.term_rules.specs.Nodes.{literal}
 use Rattle.term_rules.specs.Lent.{Store}
 use Rattle.term_rules.specs.Adding.{add}
-use Rattle.build.specs.Plan.{Child, class, value, Plan, plan_of, child_of}
+use Rattle.build.specs.Plan.{Child, class, value, Plan, plan_of}
 use Rattle.build.specs.Building.{State, state, Out, done, full, added, child_in, build_in}
 use Rattle.build.specs.Ready.{Exact}
 use Rattle.build.proofs.PlanLaws.{child_of-class, child_of-value, ranked-of-planned}
 use Rattle.build.proofs.BuildingLaws.{Right, exact-right}
 use Rattle.build.proofs.TurnLaws.{child_in-class, child_in-value, made-of-value}
-use Rattle.variant_terms.specs.Rows.{Deep, Builder, KidIn, Leaves, KidMade}
+use Rattle.variant_terms.specs.Rows.{Builder, KidIn, Leaves, KidMade}
 
 leaves-of-right : (p : Plan) (s : State) (x : Child) (o : Out ℕ) → Right p s x o → Leaves p s o
 leaves-of-right p s x (done t s') r = record { grows = r.grows; tracks = r.tracks; below = r.stands.below }

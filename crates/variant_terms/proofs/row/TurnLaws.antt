@@ -16,16 +16,14 @@ use Rattle.term_rules.specs.Nodes.{Node, application}
 use Rattle.term_rules.specs.Adding.{Adds, at, no_room, add}
 use Rattle.term_rules.specs.Growing.{Grows, Gives}
 use Rattle.term_rules.proofs.Adding.AddingLaws.{grows-refl, grows-trans, add-gives}
-use Rattle.build.specs.Plan.{Child, Plan, child_of}
-use Rattle.build.specs.Building.{State, state, Out, done, full, added, children_in, build_in}
+use Rattle.build.specs.Plan.{Plan, child_of}
+use Rattle.build.specs.Building.{State, Out, done, full, added, children_in, build_in}
 use Rattle.build.specs.Standing.{Tracks, Stuck}
-use Rattle.build.specs.Ready.{seen}
-use Rattle.build.specs.declared.Built.{Built}
 use Rattle.build.proofs.StandingLaws.{stands-grows}
 use Rattle.build.proofs.PlanLaws.{children-next, children-end}
 use Rattle.build.proofs.TurnLaws.{children_in-go, children_in-stop, children_in-end}
 use Rattle.answer_rules.specs.Variants.{own_variant}
-use Rattle.variant_terms.specs.Rows.{Deep, Leads, Leaves, KidMade, RowMade}
+use Rattle.variant_terms.specs.Rows.{Deep, Leaves, KidMade, RowMade}
 
 own-of-full :
     (name me rs : List ℕ) (ls : List ℤ) (ns : List ℕ) → own_variant name (full me rs ls ns) ≡ full me rs ls ns

@@ -1,14 +1,13 @@
 -- What is kept goes by the keys of the rows that are asked, and each kept row is one of them. Assumes nothing.
-use mathlib.Core.Path.{◌≡◌, refl, ap, sym, ◌∙◌, subst}
+use mathlib.Core.Path.{◌≡◌, refl, sym, ◌∙◌, subst}
 use mathlib.Core.Bool.{Bool, true}
-use mathlib.Core.List.{List, [], ◌∷◌}
+use mathlib.Core.List.{List, ◌∷◌}
 use Prim.{Dec, yes, no}
-use Prim.Native.Nat.{ℕ, suc, ◌+◌, ◌<◌, ◌≤◌}
+use Prim.Native.Nat.{ℕ, ◌<◌}
 use native.Mathlib.Decide.{ℕ_discrete}
 use native.Mathlib.Omega.{arith}
 use lib.ListN.{length, get_or, take, length-take}
 use lib.Seq.{get_or-take}
-use Rattle.order.specs.Compare.{up_to}
 use Rattle.order.specs.Lawful.{Linear}
 use Rattle.order.specs.Sort.{count, Sorted, none, more, sorted}
 use Rattle.order.proofs.Sorting.CountLaws.{count_same, count-other, count-get, place-of-count}

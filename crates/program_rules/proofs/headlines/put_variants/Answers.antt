@@ -2,7 +2,6 @@
 use Rattle.program_rules.proofs.headlines.LineLaws.{number-length, variants_length}
 use Rattle.program_rules.proofs.headlines.PutLaws.{variants-step}
 use native.Mathlib.Omega.{arith}
-use borrow.Author.Rules.{rules}
 use Rattle.program_rules.proofs.headlines.put_variants.Goals as goal
 
 pub put_word-a-requires : goal.put_word-a-requires
