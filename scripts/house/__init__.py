@@ -11,14 +11,14 @@ from .common import Fault, files, read, root_folder, run
 from .rt import Source
 
 # The kit's libraries that a crate lists where it names them; std is always there and never listed.
-KIT = ("anyhow", "bytes", "check", "io", "itertools", "libc", "os", "thiserror")
+KIT = ("anyhow", "bytes", "check", "io", "itertools", "thiserror")
 
 # What a path of .antt begins with where it names a library: Rattle.CRATE.specs.FILE.NAME.
 LIBRARY = "Rattle"
 
 # The floors of document 01, lowest first: its heading, and the crates of each, by name or by what a name begins with.
 FLOORS = (
-    ("Refusals, names and numbers", ("refusal", "name", "bits", "copies", "decimal", "order")),
+    ("Refusals, names and numbers", ("refusal", "name", "bits", "copies", "input", "decimal", "order")),
     ("The table file", ("file", "file_")),
     ("Terms", ("term", "term_")),
     ("Texts", ("text", "text_")),
