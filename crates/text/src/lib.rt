@@ -12,6 +12,9 @@ ghost use Rattle.text.specs.LetTold.{let_told};
 use refusal::Refusal;
 use text_whole::{LetText, Text};
 
+// The last count that let names may start from: every later count then stays below 2^32.
+const LAST_START: u64 = 4294966271;
+
 // The plain text of a term, at the start of `out`.
 pub fn plain_text(
     records: &[u64],
@@ -78,7 +81,7 @@ pub fn let_text(
     if !name::is_valid(hint) {
         return LetText::Refused(Refusal::BadName);
     }
-    if 4294966271 < start {
+    if LAST_START < start {
         return LetText::Refused(Refusal::BadSize);
     }
     text_whole::let_of(

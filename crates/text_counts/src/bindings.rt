@@ -50,6 +50,7 @@ pub fn meet(
 }
 
 // Whether a term is to be bound: count over 1 and size at least 4.
+#[tactic(auto, unfolding(crate::specs::Met::flag_of))]
 fn flag(count: u64, size: u64) -> u64
     ensures { result ≡ flag_of count size }
 {

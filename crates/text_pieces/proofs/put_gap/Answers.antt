@@ -28,15 +28,15 @@ same n o₀ l o j v = spacing-length (set o₀ 0 10) n (simp length-set l) o j v
 
 pub bounds-out-0 : goal.bounds-out-0
 bounds-out-0 c =
-    omega (arith, c.requires, ap length (gap_text-narrow c.args.limit c.args.width c.args.n c.if-width-limit.true))
+    omega (arith, c.requires, ap length (gap_text-narrow c.args.limit c.args.width c.args.n (omega arith)))
 
 pub returns-then-width-limit : goal.returns-then-width-limit
 returns-then-width-limit c =
-    rw (gap_text-narrow c.args.limit c.args.width c.args.n c.if-width-limit.true)
+    rw (gap_text-narrow c.args.limit c.args.width c.args.n (omega arith))
     (wrote-of-stands c.args.out.now (32 ∷ []) _ 1
     (stands-first c.args.out.now 32
     (omega
-    (arith, c.requires, ap length (gap_text-narrow c.args.limit c.args.width c.args.n c.if-width-limit.true)))))
+    (arith, c.requires, ap length (gap_text-narrow c.args.limit c.args.width c.args.n (omega arith))))))
 
 pub bounds-out-0-2 : goal.bounds-out-0-2
 bounds-out-0-2 c = omega (arith, room c.args.limit c.args.width c.args.n c.args.out.now c.if-width-limit.false c.requires)
