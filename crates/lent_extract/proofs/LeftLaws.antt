@@ -1,5 +1,5 @@
 -- From the flat call's answer to the answer on lent lists. Assumes nothing.
-use Prim.Native.Nat.{ℕ, ◌+◌, min}
+use Prim.Native.Nat.{ℕ, min}
 use mathlib.Core.Path.{◌≡◌, refl, ap, sym, ◌∙◌, subst}
 use mathlib.Core.List.{List, ◌++◌}
 use lib.ListN.{length, take, drop}

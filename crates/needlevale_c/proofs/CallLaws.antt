@@ -5,12 +5,11 @@ use Prim.Native.Nat.{ℕ}
 use lib.IntN.{ℤ, pos}
 use Rattle.order.specs.declared.Ordering.{Ordering}
 use Rattle.order.specs.Sort.{SameCounts, Sorted}
-use Rattle.term_rules.specs.declared.Term.{Term}
 use Rattle.term_rules.specs.Lent.{Store, record_at}
 use Rattle.term_rules.specs.Nodes.{Node, literal, variable, application}
 use Rattle.term_order.specs.TreeOrder.{compare_at, at_most}
 use Rattle.term.specs.Answers.{Answer, given, refused}
-use Rattle.term.specs.Orders.{Telling, Refuses}
+use Rattle.term.specs.Orders.{Telling}
 use Rattle.term.specs.Outcomes.{Finds, IsTerm, asks_literal, asks_variable, asks_application}
 use Rattle.term.specs.Calls.{
   find_literal,

@@ -3,7 +3,7 @@ use mathlib.Core.Path.{◌≡◌, refl, sym, ap, subst, ◌∙◌}
 use mathlib.Core.Bool.{Bool, true, false}
 use mathlib.Core.List.{List}
 use mathlib.Core.Logic.{◌⊎◌, inl, inr}
-use Prim.Native.Nat.{ℕ, ◌+◌, ◌<◌}
+use Prim.Native.Nat.{ℕ}
 use native.Mathlib.Omega.{arith}
 use lib.IntN.{ℤ, pos, neg_ℤ}
 use lib.ListN.{length}
@@ -13,7 +13,7 @@ use Rattle.refusal.specs.Answer.{Answer, value, refusal, refuse}
 use Rattle.name.specs.declared.Found.{Found}
 use Rattle.name.specs.declared.Found.TheVariants.{At, Missing}
 use Rattle.term_rules.specs.Lent.{Store}
-use Rattle.term_rules.specs.Nodes.{Node, literal, node_at, same_node}
+use Rattle.term_rules.specs.Nodes.{literal, node_at, same_node}
 use Rattle.term_rules.specs.Adding.{Adds, at, no_room, add, append, with_record, find_term, room_for}
 use Rattle.term_rules.proofs.SearchLaws.{first-at}
 use Rattle.term.specs.Answers as terms

@@ -4,7 +4,7 @@ use Rattle.needlevale_c.specs.Promises.{Promises}
 use Rattle.needlevale_c.proofs.CodeLaws.{is_below, one_code}
 use Rattle.needlevale_c.proofs.PromiseLaws.{reply_told, add_told, literal_stays, literal-given}
 use Rattle.needlevale_c.proofs.ToldLaws.{
-  plain_told,
+  plain-told,
   lets_told,
   best_told,
   best_stays,
@@ -40,7 +40,7 @@ promises = record {
     p.kept_records ∙ sym q.kept_records,
     p.kept_literals ∙ sym q.kept_literals,
   );
-  plain_told = plain_told;
+  plain-told = plain-told;
   lets_told = lets_told;
   best_told = best_told;
   variants_told = variants_told;

@@ -2,18 +2,15 @@
 use mathlib.Core.Path.{◌≡◌, refl, sym, ap, ◌∙◌}
 use mathlib.Core.List.{List}
 use mathlib.Core.Logic.{◌⊎◌, inl, inr}
-use Prim.Native.Nat.{ℕ, ◌≤◌}
+use Prim.Native.Nat.{ℕ}
 use lib.IntN.{ℤ, pos, neg_ℤ}
 use lib.ListN.{length}
 use Rattle.refusal.specs.declared.Refusal.{Refusal}
 use Rattle.refusal.specs.Answer.{Answer, value, refusal, refuse}
-use Rattle.refusal.specs.Numbers.{refusal_no}
 use Rattle.term_rules.specs.declared.Term.{Term}
 use Rattle.term_rules.specs.Lent.{Store}
 use Rattle.text_rules.specs.LetText.{Naming}
-use Rattle.text_whole.specs.Placed as plain
 use Rattle.text.specs.Told.{plain_told}
-use Rattle.text_whole.specs.LetPlaced as lets
 use Rattle.text.specs.LetTold.{let_told}
 use Rattle.lent.specs.Records.{lent_store}
 use Rattle.answer_rules.specs.Answers.{After}
@@ -35,10 +32,10 @@ use Rattle.needlevale_c.proofs.CodeLaws.{is_below}
 use Rattle.needlevale_c.proofs.texts.TextLaws.{PlainKnown, plain_known, LetKnown, let-known}
 
 -- ---- texts
-pub plain_told :
+pub plain-told :
     (s : Store) (t : ℕ) (out after : List ℕ) (z : ℤ) → Writes (plain_told s t out) z after →
     PlainTold (plain_told s t out) (length out) z
-plain_told s t out after z w = by (plain_known s t out)
+plain-told s t out after z w = by (plain_known s t out)
   where
     by :
         PlainKnown (plain_told s t out).answer (length out) → PlainTold (plain_told s t out) (length out) z

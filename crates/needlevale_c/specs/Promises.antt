@@ -114,7 +114,7 @@ pub record Promises : Type 0 where
       Adds (add_literal s v) y rs' ls' →
       (z ≡ y) × (rs ≡ rs') × (ls ≡ ls')
   -- The calls on term structs: what each tells in numbers, for every store, file and buffer;
-  pub plain_told :
+  pub plain-told :
       (s : Store) (t : ℕ) (out after : List ℕ) (z : ℤ) →
       Writes (plain_told s t out) z after →
       PlainTold (plain_told s t out) (length out) z

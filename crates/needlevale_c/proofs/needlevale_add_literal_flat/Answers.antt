@@ -1,6 +1,6 @@
 -- `needlevale_add_literal_flat` meets its contract: a term's number, or the refusal's number below zero. Assumes
 -- nothing.
-use Rattle.std.proofs.Common.{◌≡◌, ◌∙◌, ◌<◌, arith}
+use Rattle.std.proofs.Common.{◌∙◌, ◌<◌, arith}
 use mir.Syntax.{w64}
 use mir.ValLaws.{to_z-of_z, to_z_pos}
 use borrow.Author.Rules.{sfits_of}

@@ -1,6 +1,6 @@
 -- What a call for a text tells in numbers: a length that the lent buffer has, or a refusal of the table below zero.
 -- Assumes nothing.
-use mathlib.Core.Path.{◌≡◌, refl, sym, ap, subst, ◌∙◌}
+use mathlib.Core.Path.{◌≡◌, refl, sym, ap, ◌∙◌}
 use mathlib.Core.Bool.{Bool, true, false}
 use mathlib.Core.List.{List}
 use mathlib.Core.Logic.{◌⊎◌, inl, inr}
@@ -8,7 +8,7 @@ use Prim.Native.Nat.{ℕ, ◌*◌, ◌≤◌, ◌<◌, ◌^◌}
 use native.Mathlib.Omega.{arith}
 use Prim.{Dec, yes, no}
 use native.Mathlib.Decide.{dec_lt}
-use lib.IntN.{ℤ, pos, neg_ℤ}
+use lib.IntN.{ℤ}
 use lib.ListN.{length}
 use Rattle.refusal.specs.declared.Refusal.{Refusal}
 use Rattle.refusal.specs.declared.Refusal.TheVariants.{BadSize, BadName, NoRoom, BadTerm, BadStore}
@@ -17,16 +17,14 @@ use Rattle.name.specs.Name.{valid}
 use Rattle.term_rules.specs.Lent.{Store}
 use Rattle.term_rules.specs.WellFormed.{well_formed}
 use Rattle.text_rules.specs.PlainText.{plain_text}
-use Rattle.text_rules.specs.LetText.{Naming, let_text, next_count}
+use Rattle.text_rules.specs.LetText.{Naming, let_text}
 use Rattle.text_whole.specs.Placed.{Answer, written, refusal, Told, told, answer_of}
 use Rattle.text.specs.Told.{plain_told}
 use Rattle.text_whole.specs.LetPlaced as lets
 use Rattle.text_whole.specs.LetPlaced.{LetAnswer, let_answer_of, valid_prefix}
 use Rattle.text.specs.LetTold.{let_told}
 use Rattle.text_whole.specs.declared.Text.{Text}
-use Rattle.text_whole.specs.declared.Text.TheVariants.{Written}
 use Rattle.text_whole.specs.declared.LetText.{LetText}
-use Rattle.text_whole.specs.declared.LetText.TheVariants.{Written as LetWritten}
 use Rattle.text.proofs.Promises.{promises}
 use Rattle.c_told.specs.Texts.{coded_text, let_coded, TextFits, LetFits}
 use Rattle.needlevale_c.specs.Texts.{Writes, WritesLets}
