@@ -29,8 +29,8 @@ pub mod stack {
     pub const ADD_LITERAL_FLAT: usize = 32768;
     pub const BEST: usize = 983040;
     pub const VARIANTS: usize = 1011712;
-    pub const PLAIN_TEXT: usize = 630784;
-    pub const LET_TEXT: usize = 667648;
+    pub const PLAIN_TEXT: usize = 487424;
+    pub const LET_TEXT: usize = 536576;
     pub const SIZE: usize = 253952;
     pub const GET: usize = 253952;
     pub const COMPARE: usize = 253952;
@@ -38,9 +38,9 @@ pub mod stack {
     pub const FIND_LITERAL: usize = 253952;
     pub const FIND_VARIABLE: usize = 253952;
     pub const FIND_APPLICATION: usize = 356352;
-    pub const ADD_LITERAL: usize = 360448;
-    pub const ADD_VARIABLE: usize = 360448;
-    pub const ADD_APPLICATION: usize = 360448;
+    pub const ADD_LITERAL: usize = 471040;
+    pub const ADD_VARIABLE: usize = 471040;
+    pub const ADD_APPLICATION: usize = 471040;
 }
 
 /// Numbers of a store's record: kind, symbol, count, eight children.
