@@ -1,10 +1,8 @@
 -- Demand 3 holds of what best is defined to answer, at any true prices. Assumes nothing.
 use mathlib.Core.Path.{◌≡◌, refl, sym, subst}
 use mathlib.Core.Bool.{true}
-use mathlib.Core.List.{List}
 use Prim.Native.Nat.{ℕ, ◌<◌}
 use borrow.Author.Tests.{ne_eqb}
-use lib.IntN.{ℤ}
 use lib.ListN.{length}
 use Rattle.term_rules.specs.Lent.{Store}
 use Rattle.term_rules.specs.WellFormed.{well_formed}
@@ -13,8 +11,7 @@ use Rattle.choice_rules.specs.Rows.{class}
 use Rattle.choice_rules.specs.Answer.{Answer, no_term, too_dear, best}
 use Rattle.choice_rules.specs.Demand.Deriving.{Answered}
 use Rattle.build.specs.Plan.{class as plan_class, ChildTree}
-use Rattle.build.specs.declared.Built.{Built}
-use Rattle.build.specs.declared.Built.TheVariants.{Done, Full}
+use Rattle.std.specs.Prelude.{Option, Some, None}
 use Rattle.build.specs.Whole.{Left, whole, Tells}
 use Rattle.build.proofs.whole.WholeLaws.{whole_tells}
 use Rattle.file_rules.specs.Table.{Table}
@@ -69,8 +66,7 @@ module _ (t : Table) (k : Known t) (In : ℕ → Type 0) (p : Prices) (tp : True
     -- what is told of the built term, and of the room for it
     abbrev Told : Left → Type 0
     Told l =
-        Tells (plan_for t p) s c l.answer l.records l.literals l.names
-        × RoomBuilt s term l.answer l.records l.literals l.names
+        Tells (plan_for t p) s c l.answer l.store × RoomBuilt s term l.answer l.store
 
     told : Told (whole (plan_for t p) (order_for p c) s c)
     told =
@@ -82,15 +78,15 @@ module _ (t : Table) (k : Known t) (In : ℕ → Type 0) (p : Prices) (tp : True
     built :
         (n : ℕ) (l : Left) → Told l → BestOutcome t p c s (best_built w n s l).store (best_built w n s l).answer
     unfolding best_built term choice
-    built n l = go l.answer l.records l.literals l.names
+    built n l = go l.answer l.store
       where
         go :
-            (a : Built) (rs : List ℕ) (ls : List ℤ) (ns : List ℕ) →
-            Told (record { answer = a; records = rs; literals = ls; names = ns }) →
+            (a : Option ℕ) (s' : Store) →
+            Told (record { answer = a; store = s' }) →
             BestOutcome t p c s
-            (best_built w n s (record { answer = a; records = rs; literals = ls; names = ns })).store
-            (best_built w n s (record { answer = a; records = rs; literals = ls; names = ns })).answer
-        go (Done i j m) rs ls ns d = record {
+            (best_built w n s (record { answer = a; store = s' })).store
+            (best_built w n s (record { answer = a; store = s' })).answer
+        go (Some b) s' d = record {
           choice = choice;
           cost = refl;
           below = d.1.1;
@@ -98,7 +94,7 @@ module _ (t : Table) (k : Known t) (In : ℕ → Type 0) (p : Prices) (tp : True
           fits = d.1.0;
           grows = d.0.grows;
         }
-        go Full rs ls ns d = record { number = refl; unchanged = refl; choice = choice; none = d.1 }
+        go None s' d = record { number = refl; unchanged = refl; choice = choice; none = d.1 }
 
     best-comes-back : (n : ℕ) → Kept t p c s (best_class t p n c s (best w)) (best w)
     unfolding best_class

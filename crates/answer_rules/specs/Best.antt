@@ -1,14 +1,13 @@
 -- The best term of a root: document 01, 'Costs and choice' and 'Refusal numbers'. Assumes nothing: definitions.
-use Rattle.std.specs.Prelude.{true, false, List, ℕ, eqb}
+use Rattle.std.specs.Prelude.{true, false, List, ℕ, eqb, Some, None}
 use Rattle.refusal.specs.declared.Refusal.TheVariants.{BadRoot, NoTerm, TooDear, NoRoom, BadStore}
 use Rattle.bits.specs.Got.{got, refused as fault}
-use Rattle.term_rules.specs.Lent.{Store, store}
+use Rattle.term_rules.specs.Lent.{Store}
 use Rattle.term_rules.specs.WellFormed.{well_formed}
 use Rattle.term_rules.specs.Nodes.{literal}
 use Rattle.term_rules.specs.Adding.{Adds, at, no_room, add}
 use Rattle.choice_rules.specs.Answer.{Answer, no_term, too_dear, best}
 use Rattle.build.specs.Whole.{Left, whole}
-use Rattle.build.specs.declared.Built.TheVariants.{Done, Full}
 use Rattle.file_rules.specs.Table.{Table}
 use Rattle.file_rules.specs.File.{table_at}
 use Rattle.table_rules.specs.Rules.Classes.{sort_of, flat_class, is_root}
@@ -35,8 +34,8 @@ best_literal s no_room = refused NoRoom s
 unfoldable pub best_built : ℕ → ℕ → Store → Left → After BestTerm
 best_built w p s l =
     elim l.answer [
-      | Done i n m ↦ found (best_term w i p) (store l.records l.literals l.names n m)
-      | Full ↦ refused NoRoom s
+      | Some i ↦ found (best_term w i p) l.store
+      | None ↦ refused NoRoom s
     ]
 
 -- "11, 12, 13": by what the prices say of the class; n is the number of passes.

@@ -6,7 +6,7 @@ use native.Mathlib.Omega.{arith}
 use lib.IntN.{ℤ}
 use lib.ListN.{length, get_or}
 use Rattle.refusal.specs.declared.Refusal.TheVariants.{NoTerm, TooDear, NoRoom}
-use Rattle.term_rules.specs.Lent.{Store, store}
+use Rattle.term_rules.specs.Lent.{Store}
 use Rattle.choice_rules.specs.Run.{Run}
 use Rattle.choice_rules.specs.Answer.{answer_of}
 use Rattle.choice_rules.proofs.AnswerLaws.{answer-when-unranked, answer-when-saturated, answer-when-below}
@@ -15,7 +15,7 @@ use Rattle.price.specs.Solved.{Solved}
 use Rattle.table_layout.specs.Packed.{Packed}
 use Rattle.build.specs.Plan.{plan_of}
 use Rattle.build.specs.Building.{Out, done, full}
-use Rattle.build.specs.declared.Built.TheVariants.{Done, Full}
+use Rattle.std.specs.Prelude.{Option, Some, None}
 use Rattle.build.specs.Whole.{Left, left, whole}
 use Rattle.file_rules.specs.Table.{Table}
 use Rattle.table_rules.specs.Rules.Classes.{class_count}
@@ -26,21 +26,14 @@ use Rattle.answer_rules.specs.Plan.{plan_for, order_for}
 use Rattle.best_class.specs.Flat.{FlatTable}
 use Rattle.best_class.proofs.SolvedLaws.{run_is, whole_is}
 
--- where there is no room the lists are as they were
-full-unchanged :
-    (s : Store) (o : Out ℕ) (rs : List ℕ) (ls : List ℤ) (ns : List ℕ) →
-    record { answer = Full; records = rs; literals = ls; names = ns } ≡ left s o →
-    store rs ls ns s.terms s.symbols ≡ s
+-- where there is no room the store is as it was
+full-unchanged : (s : Store) (o : Out ℕ) (s' : Store) → record { answer = None; store = s' } ≡ left s o → s' ≡ s
 unfolding left
-full-unchanged s (done t s') rs ls ns e =
-    let q : Full ≡ Done t s'.lent.terms s'.lent.symbols = ap (λ (l : Left). l.answer) e in
+full-unchanged s (done t s₁) s' e =
+    let q : ◌≡◌ {A = Option ℕ} None (Some t) = ap (λ (l : Left). l.answer) e in
     let z : ◌≡◌ {A = ℕ} 0 1 = cc in
     absurd (omega arith)
-full-unchanged s (full me r l n) rs ls ns e =
-    let a : rs ≡ s.records = ap (λ (x : Left). x.records) e in
-    let b : ls ≡ s.literals = ap (λ (x : Left). x.literals) e in
-    let d : ns ≡ s.names = ap (λ (x : Left). x.names) e in
-    rw (a, b, d) refl
+full-unchanged s (full me r l n) s' e = ap (λ (x : Left). x.store) e
 
 module _
     (t : Table) (root : ℕ) (outputs heads starts children order functions labels : List ℕ) (values : List ℤ)
@@ -81,20 +74,18 @@ module _
           (ap (λ (r : Run). r.passes) ran)))
 
       pub decide-found :
-          (i n m : ℕ) (rs : List ℕ) (ls : List ℤ) (ns : List ℕ) →
-          record { answer = Done i n m; records = rs; literals = ls; names = ns }
-          ≡ whole (plan_of rows edges labels values) (get_or ranks c 0) s c →
-          found (best_term (get_or costs c 0) i passes) (store rs ls ns n m) ≡ best_class t (prices_for t root) (run_of t root).passes c s (answer_for (prices_for t root) c)
+          (i : ℕ) (s' : Store) →
+          record { answer = Some i; store = s' } ≡ whole (plan_of rows edges labels values) (get_or ranks c 0) s c →
+          found (best_term (get_or costs c 0) i passes) s' ≡ best_class t (prices_for t root) (run_of t root).passes c s (answer_for (prices_for t root) c)
       unfolding best_built
-      decide-found i n m rs ls ns e = ap (best_built (get_or costs c 0) passes s) e ∙ sym class-is
+      decide-found i s' e = ap (best_built (get_or costs c 0) passes s) e ∙ sym class-is
 
       pub decide-full :
-          (rs : List ℕ) (ls : List ℤ) (ns : List ℕ) →
-          record { answer = Full; records = rs; literals = ls; names = ns }
-          ≡ whole (plan_of rows edges labels values) (get_or ranks c 0) s c →
-          refused NoRoom (store rs ls ns s.terms s.symbols) ≡ best_class t (prices_for t root) (run_of t root).passes c s (answer_for (prices_for t root) c)
+          (s' : Store) →
+          record { answer = None; store = s' } ≡ whole (plan_of rows edges labels values) (get_or ranks c 0) s c →
+          refused NoRoom s' ≡ best_class t (prices_for t root) (run_of t root).passes c s (answer_for (prices_for t root) c)
       unfolding best_built whole
-      decide-full rs ls ns e =
-          ap (λ (x : Store). refused NoRoom x) (full-unchanged s _ rs ls ns e)
+      decide-full s' e =
+          ap (λ (x : Store). refused NoRoom x) (full-unchanged s _ s' e)
           ∙ ap (best_built (get_or costs c 0) passes s) e
           ∙ sym class-is

@@ -1,9 +1,9 @@
 -- A table's rows for a root sort as flat lists, and what the best term of a class answers. Assumes nothing:
 -- definitions.
-use Rattle.std.specs.Prelude.{◌≡◌, true, List, [], ◌∷◌, ℕ, ◌+◌, ◌*◌, ◌<◌, ◌≤◌, ℤ, pos, length, get_or}
-use Rattle.refusal.specs.declared.Refusal.TheVariants.{NoTerm, TooDear, NoRoom}
+use Rattle.std.specs.Prelude.{◌≡◌, true, List, [], ◌∷◌, ℕ, ◌+◌, ◌*◌, ◌<◌, ◌≤◌, ℤ, pos, length, get_or, Result, Ok, Err}
+use Rattle.refusal.specs.declared.Refusal.{Refusal}
 use Rattle.name.specs.Entries.{name_at, length_at}
-use Rattle.term_rules.specs.Lent.{Store, store}
+use Rattle.term_rules.specs.Lent.{Store}
 use Rattle.term_rules.specs.WellFormed.{well_formed}
 use Rattle.table_layout.specs.Packed.{Packed}
 use Rattle.price_passes.specs.Flat.{rows_of, FlatOk}
@@ -16,7 +16,6 @@ use Rattle.answer_rules.specs.Answers.{After, found, refused}
 use Rattle.table_rules.specs.Rules.Choosing.{answer_for, run_of, prices_for}
 use Rattle.answer_rules.specs.Best.{BestTerm, best_term, best_class}
 use Rattle.best_class.specs.declared.Best.{Best}
-use Rattle.best_class.specs.declared.Best.TheVariants.{Found, NoTerm as Nothing, TooDear as Dear, NoRoom as Full}
 
 -- The rows of table t that a root sort reaches, in scan order, as flat lists; `functions` has the function of each
 -- row of the file, `labels` the functions' names (32 bytes each), `values` the literals.
@@ -38,12 +37,10 @@ pub record FlatTable
     pub values_length : length t.literals ≤ length values
     pub value : (i : ℕ) → i < length t.literals → get_or values i (pos 0) ≡ literal_of t i
 
--- The answer of the code, with the lent lists as it leaves them; a refusal leaves the store s.
-abbrev pub seen : Store → Best → List ℕ → List ℤ → List ℕ → After BestTerm
-seen s (Found w i p n m) rs ls ns = found (best_term w i p) (store rs ls ns n m)
-seen s Nothing rs ls ns = refused NoTerm (store rs ls ns s.terms s.symbols)
-seen s Dear rs ls ns = refused TooDear (store rs ls ns s.terms s.symbols)
-seen s Full rs ls ns = refused NoRoom (store rs ls ns s.terms s.symbols)
+-- The answer of the code, with the store as it leaves it.
+abbrev pub seen : Result Best Refusal → Store → After BestTerm
+seen (Ok b) s = found (best_term b.cost b.term b.passes) s
+seen (Err r) s = refused r s
 
 -- The lists are those of some table, with n classes, of which c is one; the lent store is well formed.
 pub record BestReady

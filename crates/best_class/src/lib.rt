@@ -2,19 +2,21 @@
 #![tactic(auto)]
 
 ghost use Rattle.std.specs.Prelude.{◌≡◌, length};
-ghost use Rattle.term_rules.specs.Lent.{store};
+ghost use Rattle.term_add.specs.Held.{held, SameLoans};
 ghost use Rattle.price.specs.Solved.{Blank};
 ghost use Rattle.best_class.specs.Flat.{RowsReady, RowsAnswer, seen};
 
-use build::{Built, whole};
+use build::plan::Plan;
+use build::whole;
+use refusal::Refusal;
+use term_add::store_mut::StoreMut;
 
-// The cost, the term's number, the passes and the counts of terms and symbols then; or the refusal.
+// The best term's cost and number, and the passes.
 #[derive(Clone, Copy)]
-pub enum Best {
-    Found(u64, usize, u64, usize, usize),
-    NoTerm,
-    TooDear,
-    NoRoom,
+pub struct Best {
+    pub cost: u64,
+    pub term: usize,
+    pub passes: u64,
 }
 
 // The best term of class `c`, by packed rows, on lists of one place for each class that are all zero before.
@@ -30,46 +32,37 @@ pub fn decide(
     costs: &mut [u64],
     ranks: &mut [u64],
     edges: &mut [u16],
-    records: &mut [u64],
-    literals: &mut [i64],
-    names: &mut [u8],
-    terms: usize,
-    symbols: usize,
-) -> Best
+    store: &mut StoreMut,
+) -> Result<Best, Refusal>
     requires rows_ready { RowsReady outputs.now heads.now starts.now children.now rows.now labels.now values.now
-        (length ranks.old) c (store records.old literals.old names.old terms symbols) }
+        (length ranks.old) c (held store.old) }
     requires blank { Blank (length ranks.old) costs.old ranks.old edges.old }
-    ensures { RowsAnswer outputs.now heads.now starts.now
+    ensures loans { SameLoans store.old store.new }
+    ensures best { RowsAnswer outputs.now heads.now starts.now
         children.now rows.now labels.now values.now
         (length ranks.old) c
-        (store records.old literals.old names.old terms symbols)
-        (seen (store records.old literals.old names.old terms symbols) result
-        records.new literals.new names.new) }
+        (held store.old)
+        (seen result (held store.new)) }
 {
     let run = price::solve(outputs, heads, starts, children, costs, ranks, edges);
     let rank = ranks[c];
     if rank == 0 {
-        return Best::NoTerm;
+        return Err(Refusal::NoTerm);
     }
     let cost = costs[c];
     if 18446744073709551615 <= cost {
-        return Best::TooDear;
+        return Err(Refusal::TooDear);
     }
-    let built = whole::term(
+    let plan = Plan {
         rows,
         edges,
         labels,
         values,
-        records,
-        literals,
-        names,
-        terms,
-        symbols,
-        rank as usize,
-        c,
-    );
-    let Built::Done(t, n, m) = built else {
-        return Best::NoRoom;
     };
-    Best::Found(cost, t, run.passes, n, m)
+    let term = whole::term(&plan, store, rank as usize, c).ok_or(Refusal::NoRoom)?;
+    Ok(Best {
+        cost,
+        term,
+        passes: run.passes,
+    })
 }

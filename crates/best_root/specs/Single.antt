@@ -1,39 +1,23 @@
 -- The best term of a root, once a table is laid flat, over a lent store: how the answer is read, and what is asked.
 -- Assumes nothing: definitions.
-use Rattle.std.specs.Prelude.{◌≡◌, true, false, List, [], ◌∷◌, ℕ, ◌+◌, ◌<◌, ℤ, take}
-use Rattle.refusal.specs.declared.Refusal.TheVariants.{NoTerm, TooDear, NoRoom, BadStore}
-use Rattle.term_rules.specs.Lent.{Store, store}
+use Rattle.std.specs.Prelude.{◌≡◌, true, false, List, [], ◌∷◌, ℕ, ◌+◌, ◌<◌, ℤ, take, Result}
+use Rattle.refusal.specs.declared.Refusal.{Refusal}
+use Rattle.refusal.specs.declared.Refusal.TheVariants.{BadStore}
+use Rattle.term_rules.specs.Lent.{Store}
 use Rattle.term_rules.specs.WellFormed.{well_formed}
 use Rattle.term_rules.specs.Nodes.{literal}
 use Rattle.term_rules.specs.Adding.{add}
 use Rattle.file_rules.specs.Table.{Table}
 use Rattle.table_rules.specs.Rules.Choosing.{answer_for, run_of, prices_for}
 use Rattle.table_rows.specs.Flattened.{Flattened}
-use Rattle.answer_rules.specs.Answers.{After, found, refused}
-use Rattle.answer_rules.specs.Best.{BestTerm, best_term, best_literal, best_class}
-use Rattle.best_class.specs.Flat.{FlatTable}
-use Rattle.best_class.specs.declared.Best.{Best}
-use Rattle.best_class.specs.declared.Best.TheVariants.{
-  Found as Chosen,
-  NoTerm as Nothing,
-  TooDear as Dear,
-  NoRoom as Full,
-}
-use Rattle.best_root.specs.declared.BestAnswer.{BestAnswer}
-use Rattle.best_root.specs.declared.BestAnswer.TheVariants.{Found, Refused}
+use Rattle.answer_rules.specs.Answers.{After, refused}
+use Rattle.answer_rules.specs.Best.{BestTerm, best_literal, best_class}
+use Rattle.best_class.specs.Flat.{FlatTable, seen}
+pub use Rattle.best_class.specs.declared.Best.{Best}
 
--- The code's answer as the definition's, with the lent lists as the call leaves them. A refusal leaves the counts n and
--- m, which were those before.
-abbrev pub seen_best : BestAnswer → List ℕ → List ℤ → List ℕ → ℕ → ℕ → After BestTerm
-seen_best (Found w i p terms symbols) rs ls ns n m = found (best_term w i p) (store rs ls ns terms symbols)
-seen_best (Refused r) rs ls ns n m = refused r (store rs ls ns n m)
-
--- What is answered for what was chosen.
-abbrev pub answer_from : Best → BestAnswer
-answer_from (Chosen w i p n m) = Found w i p n m
-answer_from Nothing = Refused NoTerm
-answer_from Dear = Refused TooDear
-answer_from Full = Refused NoRoom
+-- The code's answer as the definition's, with the store as the call leaves it.
+abbrev pub seen_best : Result Best Refusal → Store → After BestTerm
+seen_best r s = seen r s
 
 -- "17, 11, 12, 13": a store that is not well formed is refused before what the root says.
 unfoldable pub if_formed : Store → After BestTerm → After BestTerm

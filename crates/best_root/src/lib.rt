@@ -3,57 +3,32 @@
 #![tactic(auto)]
 
 ghost use Rattle.std.specs.Prelude.{◌≡◌, ◌<◌, pos, length, get_or};
-ghost use Rattle.term_rules.specs.Lent.{store};
+ghost use Rattle.term_add.specs.Held.{held, SameLoans};
 ghost use Rattle.best_class.specs.Flat.{BestReady, BestAnswers};
-ghost use Rattle.best_root.specs.Single.{seen_best, answer_from, literal_answer, SomeClass, ClassAnswers};
+ghost use Rattle.best_root.specs.Single.{seen_best, literal_answer, SomeClass, ClassAnswers};
 
-use build::Built;
+pub use best_class::Best;
 use refusal::Refusal;
 use table_layout::pack;
-
-// The cost, the term's number, the passes and the counts of terms and symbols then; or the refusal.
-#[derive(Clone, Copy)]
-pub enum BestAnswer {
-    Found(u64, usize, u64, usize, usize),
-    Refused(Refusal),
-}
-
-// A choice, or its refusal.
-fn answer_from(choice: best_class::Best) -> BestAnswer
-    ensures { result ≡ answer_from choice }
-{
-    match choice {
-        best_class::Best::Found(w, i, p, n, m) => BestAnswer::Found(w, i, p, n, m),
-        best_class::Best::NoTerm => BestAnswer::Refused(Refusal::NoTerm),
-        best_class::Best::TooDear => BestAnswer::Refused(Refusal::TooDear),
-        best_class::Best::NoRoom => BestAnswer::Refused(Refusal::NoRoom),
-    }
-}
+use term_add::store_mut::StoreMut;
 
 // The term of literal `i`: a base root costs 1, and one pass changes nothing.
-pub fn of_literal(
-    values: &[i64],
-    i: u64,
-    records: &mut [u64],
-    literals: &mut [i64],
-    names: &[u8],
-    terms: usize,
-    symbols: usize,
-) -> BestAnswer
+pub fn of_literal(values: &[i64], i: u64, store: &mut StoreMut) -> Result<Best, Refusal>
     requires { i < length values.now }
-    ensures { seen_best result records.new literals.new names.now terms symbols
+    ensures loans { SameLoans store.old store.new }
+    ensures best { seen_best result (held store.new)
         ≡ literal_answer (get_or values.now i (pos 0))
-        (store records.old literals.old names.now terms symbols) }
+        (held store.old) }
 {
-    if !term_record::check(records, literals, names, terms, symbols) {
-        return BestAnswer::Refused(Refusal::BadStore);
+    if !term_record::check(&store.lent()) {
+        return Err(Refusal::BadStore);
     }
-    let Built::Done(t, n, m) = build::literal_term(
-        values, records, literals, names, terms, symbols, i as usize,
-    ) else {
-        return BestAnswer::Refused(Refusal::NoRoom);
-    };
-    BestAnswer::Found(1, t, 1, n, m)
+    let term = build::literal_term(values, store, i as usize).ok_or(Refusal::NoRoom)?;
+    Ok(Best {
+        cost: 1,
+        term,
+        passes: 1,
+    })
 }
 
 // The best term of class `c` of `w`, over flat rows and a well-formed store, on lists of the call's own.
@@ -68,19 +43,16 @@ fn choose(
     values: &[i64],
     c: usize,
     w: usize,
-    records: &mut [u64],
-    literals: &mut [i64],
-    names: &mut [u8],
-    terms: usize,
-    symbols: usize,
-) -> BestAnswer
+    store: &mut StoreMut,
+) -> Result<Best, Refusal>
     requires { BestReady outputs.now heads.now starts.now children.now order.now functions.now
-        labels.now values.now w c (store records.old literals.old names.old terms symbols) }
-    ensures { BestAnswers outputs.now heads.now starts.now
+        labels.now values.now w c (held store.old) }
+    ensures loans { SameLoans store.old store.new }
+    ensures best { BestAnswers outputs.now heads.now starts.now
         children.now order.now functions.now labels.now
         values.now w c
-        (store records.old literals.old names.old terms symbols)
-        (seen_best result records.new literals.new names.new terms symbols) }
+        (held store.old)
+        (seen_best result (held store.new)) }
 {
     let mut rows = [0u16; table_layout::ROWS];
     pack::fill(&mut rows, order, functions, outputs, starts, children);
@@ -99,13 +71,9 @@ fn choose(
         &mut costs[..w],
         &mut ranks[..w],
         &mut edges[..w],
-        records,
-        literals,
-        names,
-        terms,
-        symbols,
+        store,
     );
-    answer_from(choice)
+    choice
 }
 
 // The best term of class `c`, over the lists that a table was laid in: `n` rows with `m` children, over `w` classes.
@@ -122,21 +90,18 @@ pub fn of_class(
     n: usize,
     m: usize,
     w: usize,
-    records: &mut [u64],
-    literals: &mut [i64],
-    names: &mut [u8],
-    terms: usize,
-    symbols: usize,
-) -> BestAnswer
+    store: &mut StoreMut,
+) -> Result<Best, Refusal>
     requires { SomeClass c n m w order.now flat.now heads.now starts.now children.now functions.now
         labels.now values.now }
-    ensures { ClassAnswers c n m w order.now flat.now heads.now
+    ensures loans { SameLoans store.old store.new }
+    ensures best { ClassAnswers c n m w order.now flat.now heads.now
         starts.now children.now functions.now labels.now
-        values.now (store records.old literals.old names.old terms symbols)
-        (seen_best result records.new literals.new names.new terms symbols) }
+        values.now (held store.old)
+        (seen_best result (held store.new)) }
 {
-    if !term_record::check(records, literals, names, terms, symbols) {
-        return BestAnswer::Refused(Refusal::BadStore);
+    if !term_record::check(&store.lent()) {
+        return Err(Refusal::BadStore);
     }
     choose(
         &flat[..n],
@@ -149,10 +114,6 @@ pub fn of_class(
         values,
         c as usize,
         w,
-        records,
-        literals,
-        names,
-        terms,
-        symbols,
+        store,
     )
 }

@@ -9,12 +9,12 @@ use native.Mathlib.Omega.{arith}
 use lib.Dec.{leb}
 use lib.ListN.{length}
 use borrow.Author.Tests.{le-leb, lt-leb, leb-true, leb-false}
+use Rattle.refusal.specs.declared.Refusal.{Refusal}
 use Rattle.refusal.specs.declared.Refusal.TheVariants.{Short as NoMore}
 use Rattle.bits.specs.Bits.{number}
 use Rattle.bits.specs.Got.{Got, got, refused, must}
 use Rattle.bits.specs.Field.{field, holds, got_of}
-use Rattle.bits.specs.declared.Field.{Field}
-use Rattle.bits.specs.declared.Field.TheVariants.{Value, Short}
+use Rattle.std.specs.Prelude.{Result, Ok, Err}
 use Rattle.bits.proofs.BitsLaws.{bits_of-length, number_lt}
 
 pub holds-of-le : (s : List ℕ) (k w : ℕ) → k + w ≤ 8 * length s → holds s k w ≡ true
@@ -74,8 +74,8 @@ unfolding field
 field-read s k w {v} {q} e = read_by s k w v q (holds s k w) refl (sym e)
 
 -- The code's answer told by its case.
-pub field-value : {g : Got ℕ} {r : Field} {v q : ℕ} → got_of r ≡ g → r ≡ Value v q → g ≡ got v q
+pub field-value : {g : Got ℕ} {r : Result (ℕ × ℕ) Refusal} {v q : ℕ} → got_of r ≡ g → r ≡ Ok (v, q) → g ≡ got v q
 field-value e d = sym e ∙ ap got_of d
 
-pub field-short : {g : Got ℕ} {r : Field} → got_of r ≡ g → r ≡ Short → g ≡ refused NoMore
-field-short e d = sym e ∙ ap got_of d
+pub field-refused : {g : Got ℕ} {r : Result (ℕ × ℕ) Refusal} {x : Refusal} → got_of r ≡ g → r ≡ Err x → g ≡ refused x
+field-refused e d = sym e ∙ ap got_of d

@@ -1,13 +1,12 @@
 -- A run of bits cut in two, and what a run is of the whole bytes that it lies in. Assumes nothing.
-use Prim.{Dec, yes, no}
-use Prim.Native.Nat.{ℕ, zero, suc, ◌+◌, ◌-◌, ◌*◌, ◌/◌, ◌%◌, ◌^◌, ◌<◌, ◌≤◌}
+use Prim.Native.Nat.{ℕ, zero, suc, ◌+◌, ◌-◌, ◌*◌, ◌/◌, ◌%◌, ◌^◌, ◌<◌, ◌≤◌, min}
 use mathlib.Core.List.{List}
 use mathlib.Core.Path.{◌≡◌, sym, ap, ◌∙◌}
 use native.Mathlib.Nat.{pow-suc, mul_assoc, lt_of_lt_of_le}
-use native.Mathlib.Decide.{dec_lt}
 use native.Mathlib.Omega.{arith}
 use lib.Pow.{pow_mono, high, low}
-use lib.ListN.{length, get_or}
+use lib.ListN.{length, get_or, take, drop}
+use Rattle.std.proofs.lemmas.List.{length-take, length-drop, get_or-take, get_or-drop}
 use Rattle.bits.specs.Bits.{number}
 use Rattle.bits.proofs.BitsLaws.{number-zero, number-suc, number_lt, number-within}
 
@@ -83,10 +82,41 @@ pub number-split-lt : (s : List ℕ) (k i n : ℕ) → k + (i + n) ≤ 8 * lengt
 number-split-lt s k i n h m =
     rw (← number-split s k i n h) (lt_of_lt_of_le (number_lt s k (i + n) h) (pow_mono m))
 
--- The bits after the last whole byte lie in one byte.
-pub rest-within : (k i w : ℕ) → i ≤ w → w < i + 8 → (i < w → (k + i) % 8 ≡ 0) → (k + i) % 8 + (w - i) ≤ 8
-rest-within k i w h l f = by (dec_lt i w)
-  where
-    by : Dec (i < w) → (k + i) % 8 + (w - i) ≤ 8
-    by (yes m) = omega (arith, f m)
-    by (no m) = omega arith
+-- The whole bytes of w bits from position k, of which the first h are those up to the next byte.
+module _ (s : List ℕ) (k w h : ℕ) (l : k + w ≤ 8 * length s) (e : h ≡ min w ((8 - k % 8) % 8)) where
+  abbrev pub whole_bytes : List ℕ
+  whole_bytes = take ((k + h) / 8 + (w - h) / 8 - (k + h) / 8) (drop ((k + h) / 8) s)
+
+  pub bytes-length : length whole_bytes ≡ (w - h) / 8
+  bytes-length = simp (length-take, length-drop) (omega arith)
+
+  -- After b of them.
+  module _ {b v : ℕ} (i : v ≡ number s k (h + 8 * b)) where
+    pub bytes-all : b ≤ length whole_bytes → length whole_bytes ≤ b → v ≡ number s k (h + 8 * ((w - h) / 8))
+    bytes-all p q =
+        let e : b ≡ (w - h) / 8 = omega (arith, bytes-length) in
+        rw (← e) i
+
+    module _ (o : b < length whole_bytes) where
+      left : b < (w - h) / 8
+      left = omega (arith, bytes-length)
+
+      in-file : k + (h + 8 * b + 8) ≤ 8 * length s
+      in-file = omega (arith, left)
+
+      pub bytes-room : w ≤ 64 → v * 256 + 255 < 2 ^ 64
+      bytes-room m = rw i (omega (arith, left, number-split-lt s k (h + 8 * b) 8 in-file (omega (arith, left))))
+
+      module _ {x : ℕ} (a : x ≡ get_or whole_bytes b 0) (small : (j : ℕ) → get_or s j 0 < 256) where
+        here : x ≡ get_or s ((k + h) / 8 + b) 0
+        here = a ∙ get_or-take _ (drop ((k + h) / 8) s) b 0 (omega (arith, left)) ∙ get_or-drop ((k + h) / 8) s b 0
+
+        pub byte-small : x < 256
+        byte-small = rw here (small _)
+
+        pub bytes-more : v * 256 + x ≡ number s k (h + 8 * (b + 1))
+        bytes-more =
+            let z : (k + (h + 8 * b)) % 8 ≡ 0 = omega (arith, left) in
+            let j : (k + (h + 8 * b)) / 8 ≡ (k + h) / 8 + b = omega (arith, left) in
+            let n : h + 8 * b + 8 ≡ h + 8 * (b + 1) = omega arith in
+            rw (i, here) (rw (j, n) at (number-byte s k (h + 8 * b) in-file z (small _)))

@@ -1,28 +1,11 @@
 // Fields of a bit-packed file, most significant bit first, each read by one function for every width to 64.
 #![tactic(auto)]
 
-ghost use Rattle.std.specs.Prelude.{◌≡◌, ◌+◌, ◌-◌, ◌*◌, ◌/◌, ◌%◌, ◌^◌, ◌<◌, ◌≤◌, min, length, get_or};
+ghost use Rattle.std.specs.Prelude.{◌≡◌, ◌+◌, ◌-◌, ◌*◌, ◌/◌, ◌%◌, ◌^◌, ◌<◌, ◌≤◌, length, get_or};
 ghost use Rattle.bits.specs.Bits.{number};
 ghost use Rattle.bits.specs.Field.{field, holds, got_of};
 
-// A field's value and the position after it, or that the input ends before the field does.
-#[derive(Clone, Copy)]
-pub enum Field {
-    Value(u64, usize),
-    Short,
-}
-
-fn wide(x: u8) -> u64
-    ensures { (result ≡ x) × (result < 256) }
-{
-    x as u64
-}
-
-fn smaller(a: usize, b: usize) -> usize
-    ensures { result ≡ min a b }
-{
-    if a < b { a } else { b }
-}
+use refusal::Refusal;
 
 // 2 to the power `n`.
 fn power(n: usize) -> u64
@@ -37,7 +20,7 @@ fn part(b: u8, skip: usize, n: usize) -> u64
     requires { skip + n ≤ 8 }
     ensures { result ≡ b / 2 ^ (8 - (skip + n)) % 2 ^ n }
 {
-    (wide(b) >> (8 - (skip + n))) % power(n)
+    (u64::from(b) >> (8 - (skip + n))) % power(n)
 }
 
 // Whether the input has the `width` bits from position `at`.
@@ -56,7 +39,7 @@ fn few(s: &[u8], at: usize, width: usize) -> u64
 {
     let j = at / 8;
     let past = 16 - (at % 8 + width);
-    ((wide(s[j]) * 256 + wide(s[j + 1])) >> past) % power(width)
+    ((u64::from(s[j]) * 256 + u64::from(s[j + 1])) >> past) % power(width)
 }
 
 // The `n` bits from position `at`, which lie in one byte; none of them make 0.
@@ -78,12 +61,14 @@ fn by_bytes(s: &[u8], at: usize, width: usize) -> u64
     requires width_bound_3 { width ≤ 64 }
     ensures { result ≡ number s.now at width }
 {
-    let mut i = smaller(width, (8 - at % 8) % 8);
-    let mut v = within(s, at, i);
-    while i + 8 <= width {
-        v = v * 256 + wide(s[(at + i) / 8]);
-        i += 8;
+    let head = width.min((8 - at % 8) % 8);
+    let first = (at + head) / 8;
+    let whole = (width - head) / 8;
+    let mut v = within(s, at, head);
+    for b in &s[first..first + whole] {
+        v = v * 256 + u64::from(*b);
     }
+    let i = head + 8 * whole;
     let n = width - i;
     let rest = within(s, at + i, n);
     v * power(n) + rest
@@ -104,19 +89,14 @@ pub fn gather(s: &[u8], at: usize, width: usize) -> u64
     by_bytes(s, at, width)
 }
 
-// The field of `width` bits at position `at`.
-pub fn read(s: &[u8], at: usize, width: usize) -> Field
+// The field of `width` bits at position `at`, and the position after it; Short where the input ends before it does.
+pub fn read(s: &[u8], at: usize, width: usize) -> Result<(u64, usize), Refusal>
     requires width_bound { at + width < 2 ^ 63 }
     requires width_bound_2 { width ≤ 64 }
     ensures { got_of result ≡ field s.now at width }
 {
-    if width <= 9 {
-        if at / 8 + 1 < s.len() {
-            return Field::Value(few(s, at, width), at + width);
-        }
+    if !has(s, at, width) {
+        return Err(Refusal::Short);
     }
-    if has(s, at, width) {
-        return Field::Value(by_bytes(s, at, width), at + width);
-    }
-    Field::Short
+    Ok((gather(s, at, width), at + width))
 }

@@ -11,13 +11,14 @@ use lib.ListN.{length, get_or, set, take, drop, length-set}
 use lib.Seq.{take-suc-set, get_or-set_same, get_or-set_other}
 use lib.IntN.{ℤ}
 use borrow.Author.Tests.{lt-ltb, le-ltb}
+use Rattle.term_rules.specs.Lent.{Store}
 use Rattle.term_rules.specs.Nodes.{literal}
 use Rattle.term_rules.specs.Adding.{add}
 use Rattle.build.specs.Plan.{Child, class, value, Plan, child_of}
 use Rattle.build.specs.Building.{State, Out, done, full, added, child_in, children_in, own_in, build_in}
 use Rattle.build.specs.Standing.{Tracks}
 use Rattle.build.specs.Ready.{seen, Ranked, Exact}
-use Rattle.build.specs.declared.Built.{Built}
+use Rattle.std.specs.Prelude.{Option}
 use Rattle.build.proofs.BuildingLaws.{Right, build-right, child-right}
 use Rattle.build.proofs.PlanLaws.{children-next, children-end}
 
@@ -102,15 +103,10 @@ module _ (p : Plan) (rank : ℕ → ℕ) (ranked : Ranked p rank) (r : ℕ) (s :
           (child-right p rank ranked r (build_in p r) (build-right p rank ranked r) s (value z) tracks tt);
     }
 
--- The child came with an answer, and the lent lists kept their lengths.
-pub record Arrives
-    (p : Plan) (r : ℕ) (at : State) (x : Child) (b : Built) (me rs : List ℕ) (ls : List ℤ) (ns : List ℕ) :
-    Type 0 where
-  pub made : Made p r at x (seen b me rs ls ns)
+-- The child came with an answer, and the memo kept its length.
+pub record Arrives (p : Plan) (r : ℕ) (at : State) (x : Child) (b : Option ℕ) (me : List ℕ) (s : Store) : Type 0 where
+  pub made : Made p r at x (seen b me s)
   pub memo : length me ≡ length at.memo
-  pub records : length rs ≡ length at.lent.records
-  pub literals : length ls ≡ length at.lent.literals
-  pub names : length ns ≡ length at.lent.names
 
 -- The loop over the children of class c, whose numbers are `kids`: those before j are built, in their order, and the
 -- state is as the definition's.
@@ -119,9 +115,6 @@ pub record Turn
   pub within : j ≤ length kids
   pub long : length ks ≡ 8
   pub memo : length at.memo ≡ length first.memo
-  pub records : length at.lent.records ≡ length first.lent.records
-  pub literals : length at.lent.literals ≡ length first.lent.literals
-  pub names : length at.lent.names ≡ length first.lent.names
   pub tracks : Tracks p at
   pub below : (i : ℕ) → i < j → get_or ks i 0 < at.lent.terms
   pub same :
@@ -158,19 +151,13 @@ module _
       (t : ℕ) (s' : State) →
       Made p level at x (done t s') →
       length s'.memo ≡ length at.memo →
-      length s'.lent.records ≡ length at.lent.records →
-      length s'.lent.literals ≡ length at.lent.literals →
-      length s'.lent.names ≡ length at.lent.names →
       Turn p level values kids first s' (set ks j t) (j + 1)
-  turn-go h t s' made em er el en =
+  turn-go h t s' made em =
       let inside : j < length ks = omega (arith, turn.long) in
       record {
         within = omega arith;
         long = length-set ks j t ∙ turn.long;
         memo = em ∙ turn.memo;
-        records = er ∙ turn.records;
-        literals = el ∙ turn.literals;
-        names = en ∙ turn.names;
         tracks = made.right.tracks;
         below = λ i q.
             below_set t s'.lent.terms made.right.grows.more made.right.stands.below (omega arith) i

@@ -3,6 +3,7 @@
 use Rattle.std.specs.Prelude.{ℕ, ◌-◌, ◌≡◌, true, false, List, [], ◌∷◌, map, get_or, ltb, ℤ, pos}
 use Rattle.name.specs.Entries.{name_at}
 use Rattle.table_layout.specs.Rows.{function_at, children_at}
+use Rattle.build.specs.declared.plan.Plan.{Plan as Lists}
 use Rattle.term_rules.specs.Nodes.{Tree, number, applied, Trees, none, more}
 
 -- a child: a class, or a literal
@@ -29,6 +30,9 @@ plan_of rows edges labels values = record {
   name = λ (c : ℕ). name_at labels (function_at rows (get_or edges c 0));
   children = λ (c : ℕ). children_of rows values (get_or edges c 0);
 }
+
+abbrev pub plan_in : Lists → Plan
+plan_in l = plan_of l.rows.now l.edges.now l.labels.now l.values.now
 
 -- The tree of a class: its row's name over the trees of the row's children. (The name is a variable with an equation,
 -- so that proofs can go by cases.)

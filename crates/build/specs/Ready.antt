@@ -1,17 +1,13 @@
 -- What the builder asks of its arguments, and how its answers are read. Assumes nothing: these are definitions.
-use Rattle.std.specs.Prelude.{ℕ, ◌+◌, ◌*◌, ◌-◌, ◌≤◌, ◌<◌, ◌≡◌, true, List, [], ◌∷◌, length, get_or, ℤ}
+use Rattle.std.specs.Prelude.{ℕ, ◌+◌, ◌*◌, ◌-◌, ◌≤◌, ◌<◌, ◌≡◌, true, List, [], ◌∷◌, length, get_or, Option, Some, None, ℤ}
 use Rattle.name.specs.Name.{valid}
 use Rattle.name.specs.Entries.{length_at, name_at}
 use Rattle.table_layout.specs.Rows.{HasRow, function_at, count_at, children_at}
-use Rattle.term_rules.specs.Lent.{Store, store}
+use Rattle.term_rules.specs.Lent.{Store}
 use Rattle.term_rules.specs.WellFormed.{well_formed}
-use Rattle.term_rules.specs.Nodes.{literal}
-use Rattle.term_rules.specs.Adding.{add}
 use Rattle.build.specs.Plan.{Child, class, value, Plan, plan_of}
-use Rattle.build.specs.Building.{State, state, Out, done, full, added, build_in}
+use Rattle.build.specs.Building.{State, state, Out, done, no_more, build_in}
 use Rattle.build.specs.Standing.{Tracks}
-use Rattle.build.specs.declared.Built.{Built}
-use Rattle.build.specs.declared.Built.TheVariants.{Done, Full}
 
 -- a child class has a rank below r
 abbrev pub Lower : (ℕ → ℕ) → ℕ → Child → Type 0
@@ -72,15 +68,11 @@ pub record OwnReady (labels me : List ℕ) (s : Store) (c f : ℕ) (ks : List �
   pub memo : c < length me
   pub formed : well_formed s ≡ true
 
--- an answer, with what was lent as it was left
-abbrev pub seen : Built → List ℕ → List ℕ → List ℤ → List ℕ → Out ℕ
-seen (Done t n m) me rs ls ns = done t (state me (store rs ls ns n m))
-seen Full me rs ls ns = full me rs ls ns
+-- an answer, with the memo and the store as they were left
+abbrev pub seen : Option ℕ → List ℕ → Store → Out ℕ
+seen (Some t) me s = done t (state me s)
+seen None me s = no_more me s
 
 -- the answer is the definition's, at every depth that is enough
 abbrev pub Exact : Plan → ℕ → State → ℕ → Out ℕ → Type 0
 Exact p rank s c o = (f : ℕ) → rank < f → build_in p f s c ≡ o
-
--- the literal was added, whatever the memo
-abbrev pub LiteralExact : Store → ℤ → Built → List ℕ → List ℤ → List ℕ → Type 0
-LiteralExact s z r rs ls ns = (me : List ℕ) → added (state me s) (add s (literal z)) ≡ seen r me rs ls ns

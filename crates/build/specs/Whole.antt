@@ -1,32 +1,22 @@
 -- Building as one call: all or nothing. Document 01, 'Refusal numbers'. Assumes nothing: these are definitions.
-use Rattle.std.specs.Prelude.{ℕ, ◌+◌, ◌≤◌, ◌<◌, ◌≡◌, true, List, replicate, ℤ}
-use Rattle.term_rules.specs.Lent.{Store, store}
+use Rattle.std.specs.Prelude.{ℕ, ◌+◌, ◌≤◌, ◌<◌, ◌≡◌, true, List, replicate, Option, Some, None, ℤ}
+use Rattle.term_rules.specs.Lent.{Store}
 use Rattle.term_rules.specs.WellFormed.{well_formed}
 use Rattle.term_rules.specs.Growing.{Grows}
 use Rattle.build.specs.Plan.{class, Plan}
 use Rattle.build.specs.Building.{state, Out, done, full, build_in}
 use Rattle.build.specs.Standing.{Stands}
 use Rattle.build.specs.Ready.{Planned}
-use Rattle.build.specs.declared.Built.{Built}
-use Rattle.build.specs.declared.Built.TheVariants.{Done, Full}
 
--- an answer, with the lent lists as they are left
+-- an answer, with the store as it is left
 pub record Left : Type 0 where
-  pub answer : Built
-  pub records : List ℕ
-  pub literals : List ℤ
-  pub names : List ℕ
+  pub answer : Option ℕ
+  pub store : Store
 
 -- "Nothing lent is changed" where there is no room
 unfoldable pub left : Store → Out ℕ → Left
-left s (done t s') = record {
-  answer = Done t s'.lent.terms s'.lent.symbols;
-  records = s'.lent.records;
-  literals = s'.lent.literals;
-  names = s'.lent.names;
-}
-left s (full me rs ls ns) =
-    record { answer = Full; records = s.records; literals = s.literals; names = s.names }
+left s (done t s') = record { answer = Some t; store = s'.lent }
+left s (full me rs ls ns) = record { answer = None; store = s }
 
 -- the term of a class of this rank, by a memo that names no class
 unfoldable pub whole : Plan → ℕ → Store → ℕ → Left
@@ -47,13 +37,7 @@ pub record Enters (p : Plan) (s : Store) (c t : ℕ) (s' : Store) : Type 0 where
   pub grows : Grows s s'
   pub stands : Stands p s' (class c) t
 
--- NoRoom: nothing lent is changed
-pub record Refused (s : Store) (rs : List ℕ) (ls : List ℤ) (ns : List ℕ) : Type 0 where
-  pub records : rs ≡ s.records
-  pub literals : ls ≡ s.literals
-  pub names : ns ≡ s.names
-
--- what each answer tells
-abbrev pub Tells : Plan → Store → ℕ → Built → List ℕ → List ℤ → List ℕ → Type 0
-Tells p s c (Done t n m) rs ls ns = Enters p s c t (store rs ls ns n m)
-Tells p s c Full rs ls ns = Refused s rs ls ns
+-- what each answer tells: NoRoom, that nothing lent is changed
+abbrev pub Tells : Plan → Store → ℕ → Option ℕ → Store → Type 0
+Tells p s c (Some t) s' = Enters p s c t s'
+Tells p s c None s' = s' ≡ s

@@ -4,161 +4,85 @@
 
 ghost use Rattle.std.specs.Prelude.{◌≡◌, ℕ, ◌+◌, ◌*◌, ◌<◌, ◌≤◌, true, length, get_or, pos};
 ghost use Rattle.name.specs.Entries.{name_at};
-ghost use Rattle.term_rules.specs.Lent.{store};
 ghost use Rattle.term_rules.specs.WellFormed.{well_formed};
-ghost use Rattle.build.specs.Plan.{plan_of};
+ghost use Rattle.term_rules.specs.Nodes.{literal};
+ghost use Rattle.term_rules.specs.Adding.{add};
+ghost use Rattle.term_add.specs.Held.{held, SameLoans, Gains};
+ghost use Rattle.build.specs.Plan.{plan_in};
 ghost use Rattle.build.specs.Building.{state, done, own_in};
-ghost use Rattle.build.specs.Ready.{Ready, OwnReady, Exact, LiteralExact, seen};
+ghost use Rattle.build.specs.Ready.{Ready, OwnReady, Exact, seen};
 
-use term_add::Added;
+use crate::plan::Plan;
+use term_add::store_mut::StoreMut;
 
+pub mod plan; // plan.rt: what is to be built, as it lies in packed rows
 pub mod whole; // whole.rt: a class's best term as one call: all or nothing
 
-// The term's number and the counts of terms and symbols then; or that the store has no room for a term.
-#[derive(Clone, Copy)]
-pub enum Built {
-    Done(usize, usize, usize),
-    Full,
-}
-
-// The term of literal `i` of the table.
-pub fn literal_term(
-    values: &[i64],
-    records: &mut [u64],
-    literals: &mut [i64],
-    names: &[u8],
-    terms: usize,
-    symbols: usize,
-    i: usize,
-) -> Built
-    requires symbols_value { well_formed (store records.old literals.old names.now terms symbols) ≡ true }
+// The term of literal `i` of the table, if the store has room for it.
+pub fn literal_term(values: &[i64], store: &mut StoreMut, i: usize) -> Option<usize>
+    requires sound { well_formed (held store.old) ≡ true }
     requires i_in_bounds { i < length values.now }
-    ensures { LiteralExact
-        (store records.old literals.old names.now terms symbols)
-        (get_or values.now i (pos 0))
-        result records.new literals.new names.now }
+    ensures loans { SameLoans store.old store.new }
+    ensures gains { Gains (held store.old) (add (held store.old) (literal (get_or values.now i (pos 0)))) result
+        (held store.new) }
 {
-    let Added::Term(t, n, k) = term_add::intern_literal(
-        records, literals, names, terms, symbols, values[i],
-    ) else {
-        return Built::Full;
-    };
-    Built::Done(t, n, k)
+    store.intern_literal(values[i])
 }
 
 // The term of class `c`, of function `f` over its children's terms, kept in the memo.
 fn own_term(
     labels: &[u8],
     memo: &mut [u16],
-    records: &mut [u64],
-    literals: &mut [i64],
-    names: &mut [u8],
-    terms: usize,
-    symbols: usize,
+    store: &mut StoreMut,
     c: usize,
     f: usize,
     children: &[u64],
-) -> Built
-    requires { OwnReady labels.now memo.old (store records.old literals.old names.old terms symbols)
+) -> Option<usize>
+    requires { OwnReady labels.now memo.old (held store.old)
         c f children.now }
-    ensures { own_in (name_at labels.now f) c
-        (done children.now
-        (state memo.old
-        (store records.old literals.old names.old terms symbols)))
-        ≡ seen result memo.new records.new literals.new names.new }
+    ensures loans { SameLoans store.old store.new }
+    ensures built { own_in (name_at labels.now f) c (done children.now (state memo.old (held store.old)))
+        ≡ seen result memo.new (held store.new) }
 {
-    let p = f * 32;
-    let a = p + 1;
-    let e = a + labels[p] as usize;
-    let Added::Term(t, n, k) = term_add::intern_application(
-        records,
-        literals,
-        names,
-        terms,
-        symbols,
-        &labels[a..e],
-        children,
-    ) else {
-        return Built::Full;
-    };
-    memo[c] = t as u16 + 1;
-    Built::Done(t, n, k)
+    let name = name::name_of(labels, f);
+    let term = store.intern_application(name, children)?;
+    memo[c] = term as u16 + 1;
+    Some(term)
 }
 
 // The term of class `c`: its children first, left to right, then the term itself, once per class (src/extract.rs,
 // reconstruct_termdag_node_helper). The row of a class is the one that its edge names. Each call inside is on a class
 // of a lower rank, so `level`, which no rank is above, falls with each.
 pub fn build(
-    rows: &[u16],
-    edges: &[u16],
-    labels: &[u8],
-    values: &[i64],
+    plan: &Plan,
     memo: &mut [u16],
-    records: &mut [u64],
-    literals: &mut [i64],
-    names: &mut [u8],
-    terms: usize,
-    symbols: usize,
+    store: &mut StoreMut,
     level: usize,
     c: usize,
-) -> Built
-    requires { Ready rows.now edges.now labels.now values.now memo.old
-        (store records.old literals.old names.old terms symbols)
-        level c }
-    ensures { Exact (plan_of rows.now edges.now labels.now values.now) level
-        (state memo.old
-        (store records.old literals.old names.old terms symbols))
-        c (seen result memo.new records.new literals.new names.new) }
+) -> Option<usize>
+    requires { Ready plan.now.rows.now plan.now.edges.now plan.now.labels.now plan.now.values.now memo.old
+        (held store.old) level c }
+    ensures loans { SameLoans store.old store.new }
+    ensures built { Exact (plan_in plan.now) level (state memo.old (held store.old)) c
+        (seen result memo.new (held store.new)) }
 {
     let m = memo[c];
     if 0 < m {
-        return Built::Done(table_layout::wide(m) - 1, terms, symbols);
+        return Some(usize::from(m) - 1);
     }
-    let i = table_layout::wide(edges[c]);
-    let kids = table_layout::children_of(rows, i);
+    let i = usize::from(plan.edges[c]);
+    let kids = table_layout::children_of(plan.rows, i);
     let mut children = [0u64; 8];
-    let mut n = terms;
-    let mut k = symbols;
-    let mut j = 0;
-    while j < kids.len() {
-        let x = table_layout::wide(kids[j]);
-        let r = if x < 512 {
-            build(
-                rows,
-                edges,
-                labels,
-                values,
-                memo,
-                records,
-                literals,
-                names,
-                n,
-                k,
-                level - 1,
-                x,
-            )
+    for (j, kid) in kids.iter().enumerate() {
+        let x = usize::from(*kid);
+        let built = if x < 512 {
+            build(plan, memo, store, level - 1, x)
         } else {
-            literal_term(values, records, literals, names, n, k, x - 512)
+            literal_term(plan.values, store, x - 512)
         };
-        let Built::Done(t, more, known) = r else {
-            return Built::Full;
-        };
-        children[j] = t as u64;
-        n = more;
-        k = known;
-        j += 1;
+        let term = built?;
+        children[j] = term as u64;
     }
-    let f = table_layout::function_of(rows, i);
-    own_term(
-        labels,
-        memo,
-        records,
-        literals,
-        names,
-        n,
-        k,
-        c,
-        f,
-        &children[..j],
-    )
+    let f = table_layout::function_of(plan.rows, i);
+    own_term(plan.labels, memo, store, c, f, &children[..kids.len()])
 }

@@ -1,10 +1,9 @@
 -- How a table file is told in one struct. Assumes nothing: definitions.
-use Rattle.std.specs.Prelude.{pos, length}
+use Rattle.std.specs.Prelude.{pos, length, Result, Ok, Err}
 use Rattle.refusal.specs.declared.Refusal.{Refusal}
 use Rattle.bits.specs.Got.{Got, got, refused}
 use Rattle.file_rules.specs.Table.{Table}
-use Rattle.file_reader.specs.declared.Outcome.{Outcome}
-use Rattle.file_reader.specs.declared.Outcome.TheVariants.{Read, Refused}
+use Rattle.file_rules.specs.declared.Counts.{Counts}
 use Rattle.c_told.specs.Below.{below_zero}
 use Rattle.c_told.specs.declared.files.Shape.{Shape}
 
@@ -29,6 +28,7 @@ shape_of (got t k) = table_shape t
 shape_of (refused r) = fault_shape r
 
 -- the same of the reader's answer
-abbrev pub shape_told : Outcome → Shape
-shape_told (Read s l f n) = record { status = pos 0; sorts = s; literals = l; functions = f; rows = n }
-shape_told (Refused r) = fault_shape r
+abbrev pub shape_told : Result Counts Refusal → Shape
+shape_told (Ok c) =
+    record { status = pos 0; sorts = c.sorts; literals = c.literals; functions = c.functions; rows = c.rows }
+shape_told (Err r) = fault_shape r

@@ -1,11 +1,12 @@
 -- How the store's calls are told in one struct: the answer's numbers, and, of a call that adds, the counts of the store
 -- that it leaves. Assumes nothing: definitions.
-use Rattle.std.specs.Prelude.{ℕ, [], ℤ, pos, neg_ℤ}
-use Rattle.order.specs.declared.Ordering.{Ordering}
-use Rattle.order.specs.declared.Ordering.TheVariants.{Less, Same, More}
+use Rattle.std.specs.Prelude.{ℕ, [], ℤ, pos, neg_ℤ, Result}
+use Rattle.refusal.specs.declared.Refusal.{Refusal}
+use Rattle.std.specs.declared.cmp.Ordering.{Ordering}
+use Rattle.std.specs.declared.cmp.Ordering.TheVariants.{Less, Equal, Greater}
 use Rattle.term_rules.specs.declared.Term.{Term}
 use Rattle.term_rules.specs.Lent.{Store}
-use Rattle.term.specs.declared.Added.{Added}
+use Rattle.term_add.specs.declared.Added.{Added}
 use Rattle.term.specs.Answers.{Answer, given, refused, seen_added}
 use Rattle.c_told.specs.declared.terms.Number.{Number}
 use Rattle.c_told.specs.declared.terms.Adding.{Adding}
@@ -28,8 +29,8 @@ got_of x = record { status = status_of x.0; term = x.1 }
 
 abbrev pub sign_of : Ordering → ℤ
 sign_of Less = neg_ℤ (pos 1)
-sign_of Same = pos 0
-sign_of More = pos 1
+sign_of Equal = pos 0
+sign_of Greater = pos 1
 
 abbrev pub order_of : Answer Ordering → Standing
 order_of (given o) = record { status = pos 0; order = sign_of o }
@@ -44,5 +45,5 @@ abbrev pub added_told : Answer ℕ × Store → Adding
 added_told x = added_with x.0 x.1.terms x.1.symbols
 
 -- the same of the code's answer, from a store of n terms and m symbols
-abbrev pub added_told_of : Added → ℕ → ℕ → Adding
+abbrev pub added_told_of : Result Added Refusal → ℕ → ℕ → Adding
 added_told_of r n m = added_told (seen_added r [] [] [] n m)

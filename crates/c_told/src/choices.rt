@@ -3,8 +3,8 @@ ghost use Rattle.std.specs.Prelude.{◌≡◌};
 ghost use Rattle.c_told.specs.Choices.{best_told_of, variants_told_of};
 
 use crate::codes;
-use best_root::BestAnswer;
-use variants_root::VariantsAnswer;
+use lent_extract::counted::{Chosen, Varied};
+use refusal::Refusal;
 
 // 0, the cost, the term and the passes; or minus a refusal's number, and zeros. Then the store's counts.
 #[repr(C)]
@@ -30,19 +30,19 @@ pub struct Variants {
 }
 
 // A refusal leaves a store of `n` terms and `m` symbols as it was lent.
-pub fn told_best(r: BestAnswer, n: usize, m: usize) -> Best
+pub fn told_best(r: Result<Chosen, Refusal>, n: usize, m: usize) -> Best
     ensures { result ≡ best_told_of r n m }
 {
     match r {
-        BestAnswer::Found(cost, term, passes, terms, symbols) => Best {
+        Ok(best) => Best {
             status: 0,
-            cost,
-            term,
-            passes,
-            terms,
-            symbols,
+            cost: best.cost,
+            term: best.term,
+            passes: best.passes,
+            terms: best.terms,
+            symbols: best.symbols,
         },
-        BestAnswer::Refused(k) => Best {
+        Err(k) => Best {
             status: codes::below_zero(k),
             cost: 0,
             term: 0,
@@ -53,18 +53,18 @@ pub fn told_best(r: BestAnswer, n: usize, m: usize) -> Best
     }
 }
 
-pub fn told_variants(r: VariantsAnswer, n: usize, m: usize) -> Variants
+pub fn told_variants(r: Result<Varied, Refusal>, n: usize, m: usize) -> Variants
     ensures { result ≡ variants_told_of r n m }
 {
     match r {
-        VariantsAnswer::Kept(count, passes, terms, symbols) => Variants {
+        Ok(kept) => Variants {
             status: 0,
-            count,
-            passes,
-            terms,
-            symbols,
+            count: kept.count,
+            passes: kept.passes,
+            terms: kept.terms,
+            symbols: kept.symbols,
         },
-        VariantsAnswer::Refused(k) => Variants {
+        Err(k) => Variants {
             status: codes::below_zero(k),
             count: 0,
             passes: 0,

@@ -8,6 +8,5 @@ use refusal::Refusal;
 pub fn below_zero(r: Refusal) -> i64
     ensures { result ≡ below_zero r }
 {
-    let k = refusal::number(r) as i64;
-    0 - k
+    -i64::from(refusal::number(r))
 }

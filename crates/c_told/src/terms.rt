@@ -1,12 +1,13 @@
 // The answers of the store's calls, each in one number or in one struct, with the store's counts after a call that
 // adds.
 ghost use Rattle.std.specs.Prelude.{◌≡◌};
-ghost use Rattle.term.specs.Answers.{seen_found, seen_count, seen_got, seen_order, seen_verdict};
-ghost use Rattle.c_told.specs.Terms.{number_of, sign_of, order_of, status_of, got_of, added_told_of};
+ghost use Rattle.term.specs.Answers.{seen, seen_got};
+ghost use Rattle.c_told.specs.Terms.{number_of, order_of, status_of, got_of, added_told_of};
 
 use crate::codes;
-use order::Ordering;
-use term::{Added, Compared, Counted, Looked, Verdict};
+use refusal::Refusal;
+use std::cmp::Ordering;
+use term::Added;
 use term_rules::Term;
 
 // 0 and a count or a term's number; or minus a refusal's number, and 0.
@@ -43,24 +44,13 @@ pub struct Got {
     pub term: Term,
 }
 
-pub fn told_count(r: Counted) -> Number
-    ensures { result ≡ number_of (seen_count r) }
+// The answer of size and of a lookup.
+pub fn told_number(r: Result<usize, Refusal>) -> Number
+    ensures { result ≡ number_of (seen r) }
 {
     match r {
-        Counted::Terms(number) => Number { status: 0, number },
-        Counted::Refused(k) => Number {
-            status: codes::below_zero(k),
-            number: 0,
-        },
-    }
-}
-
-pub fn told_found(r: Looked) -> Number
-    ensures { result ≡ number_of (seen_found r) }
-{
-    match r {
-        Looked::Term(number) => Number { status: 0, number },
-        Looked::Refused(k) => Number {
+        Ok(number) => Number { status: 0, number },
+        Err(k) => Number {
             status: codes::below_zero(k),
             number: 0,
         },
@@ -68,17 +58,17 @@ pub fn told_found(r: Looked) -> Number
 }
 
 // A refusal leaves a store of `n` terms and `m` symbols as it was lent.
-pub fn told_added(r: Added, n: usize, m: usize) -> Adding
+pub fn told_added(r: Result<Added, Refusal>, n: usize, m: usize) -> Adding
     ensures { result ≡ added_told_of r n m }
 {
     match r {
-        Added::Term(term, terms, symbols) => Adding {
+        Ok(added) => Adding {
             status: 0,
-            term,
-            terms,
-            symbols,
+            term: added.term,
+            terms: added.terms,
+            symbols: added.symbols,
         },
-        Added::Refused(k) => Adding {
+        Err(k) => Adding {
             status: codes::below_zero(k),
             term: 0,
             terms: n,
@@ -87,45 +77,45 @@ pub fn told_added(r: Added, n: usize, m: usize) -> Adding
     }
 }
 
-fn sign(o: Ordering) -> i64
-    ensures { result ≡ sign_of o }
-{
-    match o {
-        Ordering::Less => -1,
-        Ordering::Same => 0,
-        Ordering::More => 1,
-    }
-}
-
-pub fn told_order(r: Compared) -> Standing
-    ensures { result ≡ order_of (seen_order r) }
+pub fn told_order(r: Result<Ordering, Refusal>) -> Standing
+    ensures { result ≡ order_of (seen r) }
 {
     match r {
-        Compared::Order(o) => Standing {
+        Ok(order) => Standing {
             status: 0,
-            order: sign(o),
+            order: order as i64,
         },
-        Compared::Refused(k) => Standing {
+        Err(k) => Standing {
             status: codes::below_zero(k),
             order: 0,
         },
     }
 }
 
-pub fn told_verdict(r: Verdict) -> i64
-    ensures { result ≡ status_of (seen_verdict r) }
+pub fn told_verdict(r: Result<(), Refusal>) -> i64
+    ensures { result ≡ status_of (seen r) }
 {
     match r {
-        Verdict::Done => 0,
-        Verdict::Refused(k) => codes::below_zero(k),
+        Ok(()) => 0,
+        Err(k) => codes::below_zero(k),
     }
 }
 
-pub fn told_got(r: term::Got) -> Got
+pub fn told_got(r: Result<Term, Refusal>) -> Got
     ensures { result ≡ got_of (seen_got r) }
 {
-    let verdict = r.verdict;
-    let status = told_verdict(verdict);
-    let term = r.term;
-    Got { status, term }
+    match r {
+        Ok(term) => Got { status: 0, term },
+        Err(k) => {
+            let term = Term {
+                kind: 0,
+                symbol: 0,
+                count: 0,
+                literal: 0,
+                children: [0; 8],
+            };
+            let status = codes::below_zero(k);
+            Got { status, term }
+        }
+    }
 }

@@ -5,7 +5,8 @@ ghost use Rattle.text_whole.specs.LetPlaced.{let_answer_of};
 ghost use Rattle.c_told.specs.Texts.{coded_text, let_coded, TextFits, LetFits};
 
 use crate::codes;
-use text_whole::{LetText, Text};
+use refusal::Refusal;
+use text_whole::LetText;
 
 // The length of a let text and the next unused count; or minus a refusal's number, and 0.
 #[repr(C)]
@@ -15,26 +16,26 @@ pub struct LetLength {
     pub next: u64,
 }
 
-pub fn told_text(r: Text) -> i64
+pub fn told_text(r: Result<usize, Refusal>) -> i64
     requires { TextFits r }
     ensures { result ≡ coded_text (answer_of r) }
 {
     match r {
-        Text::Written(n) => n as i64,
-        Text::Refused(k) => codes::below_zero(k),
+        Ok(n) => n as i64,
+        Err(k) => codes::below_zero(k),
     }
 }
 
-pub fn told_lets(r: LetText) -> LetLength
+pub fn told_lets(r: Result<LetText, Refusal>) -> LetLength
     requires { LetFits r }
     ensures { result ≡ let_coded (let_answer_of r) }
 {
     match r {
-        LetText::Written(n, next) => LetLength {
-            length: n as i64,
-            next,
+        Ok(text) => LetLength {
+            length: text.length as i64,
+            next: text.next,
         },
-        LetText::Refused(k) => LetLength {
+        Err(k) => LetLength {
             length: codes::below_zero(k),
             next: 0,
         },

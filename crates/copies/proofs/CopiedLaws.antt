@@ -1,54 +1,15 @@
--- Laws on copying: one place at a time, and what was saved is put back. Assumes nothing.
-use Prim.Native.Nat.{ℕ, ◌+◌, ◌≤◌, ◌<◌, min}
+-- Laws on copying: what was saved is put back. Assumes nothing.
+use Prim.Native.Nat.{ℕ, ◌+◌, min}
 use mathlib.Core.Path.{◌≡◌, refl, sym, ap, subst, ◌∙◌}
 use mathlib.Core.Bool.{Bool, true, false}
 use mathlib.Core.List.{List, ◌++◌}
 use native.Mathlib.Nat.{zero-add}
-use native.Mathlib.Numerals.{add-one}
 use native.Mathlib.Omega.{arith}
-use lib.ListN.{
-  length,
-  get_or,
-  set,
-  take,
-  drop,
-  take-append-drop,
-  drop_of_length-le,
-  length-set,
-  replicate,
-  length-replicate,
-}
-use lib.Seq.{paste, paste-suc, take-paste, length-paste}
+use lib.ListN.{length, take, drop, take-append-drop, drop_of_length-le, replicate, length-replicate}
+use lib.Seq.{paste, take-paste, length-paste}
 use lib.Dec.{ltb}
 use borrow.Author.Tests.{ltb-true, ltb-false}
 use Rattle.copies.specs.Copied.{copied}
-
--- The loop over n places: the first i are copied.
-pub record Copying {A : Type 0} (to from : List A) (n i : ℕ) (at : List A) : Type 0 where
-  pub count : n ≡ min (length to) (length from)
-  pub within : i ≤ n
-  pub same : at ≡ paste to 0 from i
-  pub long : length at ≡ length to
-
-module _ {A : Type 0} (to from : List A) (n : ℕ) where
-  pub copying-goes-on :
-      (i : ℕ) (d : A) (at : List A) →
-      i < n →
-      Copying to from n i at →
-      Copying to from n (i + 1) (set at i (get_or from i d))
-  copying-goes-on i d at l c =
-      let e : set at i (get_or from i d) ≡ paste to 0 from (i + 1) =
-      ap (λ (m : List A). set m i (get_or from i d)) c.same
-      ∙ ap (λ (k : ℕ). set (paste to 0 from i) k (get_or from i d)) (sym (zero-add i))
-      ∙ paste-suc to 0 from i d (omega (arith, c.count)) (omega (arith, c.count))
-      ∙ ap (paste to 0 from) (sym (add-one i)) in
-      record { count = c.count; within = omega arith; same = e; long = length-set at i (get_or from i d) ∙ c.long }
-
-  pub copying-ends : (i : ℕ) (at : List A) → n ≤ i → Copying to from n i at → at ≡ copied to from
-  unfolding copied
-  copying-ends i at l c =
-      let e : i ≡ min (length to) (length from) = omega (arith, c.within, c.count) in
-      c.same ∙ ap (paste to 0 from) e
 
 -- What was saved in z is put back over what came of it, if nothing changed past the places that z has.
 module _ {A : Type 0} (z kept left : List A) (same : length left ≡ length kept) where

@@ -1,7 +1,7 @@
 // Decimal text: digits and literals, their lengths, and their bytes at the start of a lent part.
 #![tactic(auto)]
 
-ghost use Rattle.std.specs.Prelude.{◌≡◌, ◌≤◌, length, pos, nat_abs, ◌<ℤ◌};
+ghost use Rattle.std.specs.Prelude.{◌≡◌, ◌≤◌, length, nat_abs};
 ghost use Rattle.decimal.specs.Decimal.{digits, literal_text};
 ghost use Rattle.decimal.specs.Written.{Wrote};
 
@@ -27,33 +27,19 @@ pub fn put_digits(out: &mut [u8], x: u64) -> usize
     }
 }
 
-// The magnitude of a negative number, the most negative one included.
-fn magnitude(z: i64) -> u64
-    requires { z <ℤ pos 0 }
-    ensures { result ≡ nat_abs z }
-{
-    (-(z + 1)) as u64 + 1
-}
-
 // The magnitude of any number.
 pub fn absolute(z: i64) -> u64
     ensures { result ≡ nat_abs z }
 {
-    if z < 0 {
-        return magnitude(z);
-    }
-    z as u64
+    z.unsigned_abs()
 }
 
 // How long the text of the literal `z` is.
 pub fn literal_length(z: i64) -> u64
     ensures { result ≡ length (literal_text z) }
 {
-    if z < 0 {
-        digits_length(magnitude(z)) + 1
-    } else {
-        digits_length(z as u64)
-    }
+    let n = digits_length(z.unsigned_abs());
+    if z < 0 { n + 1 } else { n }
 }
 
 // Writes the literal `z`.
@@ -61,10 +47,11 @@ pub fn put_literal(out: &mut [u8], z: i64) -> usize
     requires { length (literal_text z) ≤ length out.old }
     ensures { Wrote (literal_text z) result out.old out.new }
 {
+    let magnitude = z.unsigned_abs();
     if z < 0 {
         out[0] = 45;
-        put_digits(&mut out[1..], magnitude(z)) + 1
+        put_digits(&mut out[1..], magnitude) + 1
     } else {
-        put_digits(out, z as u64)
+        put_digits(out, magnitude)
     }
 }

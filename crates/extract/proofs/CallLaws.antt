@@ -17,7 +17,8 @@ use Rattle.table_rows.proofs.Held.KnownLaws.{known-of-accepted}
 use Rattle.table_rows.specs.Flattened.{Space}
 use Rattle.table_rows.specs.Loading.{asked_in, Standing, Loads}
 use Rattle.table_rows.specs.declared.Loaded.{Loaded}
-use Rattle.table_rows.specs.declared.Loaded.TheVariants.{Refused as NotLoaded, Class, Literal}
+use Rattle.table_rows.specs.declared.Loaded.TheVariants.{Class, Literal}
+use Rattle.std.specs.Prelude.{Result, Ok, Err}
 use Rattle.table_rows.proofs.LoadLaws.{accepted-of}
 use Rattle.answer_rules.specs.Answers.{After, refused}
 use Rattle.answer_rules.specs.Best.{BestTerm, best_at}
@@ -39,7 +40,7 @@ space-of n k m h i j = record {
 
 -- What was loaded, by its case.
 module _
-    (file : List ℕ) (s v : ℕ) (r : Loaded) (values : List ℤ)
+    (file : List ℕ) (s v : ℕ) (r : Result Loaded Refusal) (values : List ℤ)
     (labels arities functions cells order flat heads starts children : List ℕ)
     (l : Loads (table_at file) s v r values labels arities functions cells order flat heads starts children) where
   pub standing :
@@ -52,10 +53,10 @@ module _
       OnGot g (λ t. Standing t s r values labels arities functions cells order flat heads starts children))
       e l.filled
 
-  pub refused-answer : (x : Refusal) → r ≡ NotLoaded x → (lent : Store) → refused x lent ≡ best_at file s v lent
+  pub refused-answer : (x : Refusal) → r ≡ Err x → (lent : Store) → refused x lent ≡ best_at file s v lent
   refused-answer x e lent = best-refuses file s v x lent (sym (ap asked_in e) ∙ l.answer)
 
-  module _ (i : ℕ) (e : r ≡ Literal i) where
+  module _ (i : ℕ) (e : r ≡ Ok (Literal i)) where
     root-literal : LiteralRoot file s v i
     root-literal = literal-root file s v i (sym (ap asked_in e) ∙ l.answer)
 
@@ -80,7 +81,7 @@ module _
         root-literal.below)
         ∙ root-literal.answer lent
 
-  module _ (c n m w : ℕ) (e : r ≡ Class c n m w) where
+  module _ (c n m w : ℕ) (e : r ≡ Ok (Class c (record { rows = n; children = m; classes = w }))) where
     root-class : ClassRoot file s v c
     root-class = class-root file s v c (sym (ap asked_in e) ∙ l.answer)
 

@@ -15,6 +15,8 @@ use Rattle.table_rules.specs.Rules.Facts.{Known, arity_of}
 use Rattle.table_rows.proofs.Held.PlaceLaws.{block-take}
 use Rattle.table_rows.proofs.Held.HeldLaws.{every-of-get}
 use Rattle.table_rows.specs.Loading.{Standing}
+use Rattle.std.specs.Prelude.{Result, Ok}
+use Rattle.refusal.specs.declared.Refusal.{Refusal}
 use Rattle.table_rows.specs.declared.Loaded.{Loaded}
 use Rattle.table_rows.specs.declared.Loaded.TheVariants.{Class}
 use Rattle.variant_order.specs.Arrays.{cells_in}
@@ -23,7 +25,7 @@ use Rattle.variants_root.specs.Several.{KeyedTable}
 use Rattle.extract.proofs.TableLaws.{functions-length, laid, flat-table}
 
 module _
-    (t : Table) (known : Known t) (root : ℕ) (r : Loaded) (values : List ℤ)
+    (t : Table) (known : Known t) (root : ℕ) (r : Result Loaded Refusal) (values : List ℤ)
     (labels arities functions cells order flat heads starts children : List ℕ)
     (h : Standing t root r values labels arities functions cells order flat heads starts children) where
   few-cells : Every (λ (x : Row). length x.cells ≤ 9) t.rows
@@ -46,7 +48,7 @@ module _
       ∙ ap (λ (x : List ℕ). take (length (table_row_of t i).cells) (drop (i * 9) x)) h.cells_are
       ∙ block-take 9216 9 (λ (x : Row). x.cells) t.rows few-cells no_table_row i l
 
-  module _ (c n m w : ℕ) (e : r ≡ Class c n m w) (below : root < length t.sorts) where
+  module _ (c n m w : ℕ) (e : r ≡ Ok (Class c (record { rows = n; children = m; classes = w }))) (below : root < length t.sorts) where
     keyed :
         VariantTable t root (take n flat) (take n heads) (take (n + 1) starts) (take m children) (take n order)
         functions labels values cells

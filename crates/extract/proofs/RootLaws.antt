@@ -22,7 +22,8 @@ use Rattle.table_rules.specs.Rules.Terms.{literal_of}
 use Rattle.table_rules.proofs.Rules.ClassLaws.{flat_class-below}
 use Rattle.table_rules.proofs.Rules.CoverLaws.{range_of-eq}
 use Rattle.table_rows.specs.Rooted.{root_of}
-use Rattle.table_rows.specs.declared.prepare.Root.TheVariants.{Bad, Class as RootClass, Literal as RootLiteral}
+use Rattle.table_rows.specs.declared.prepare.Root.TheVariants.{Class as RootClass, Literal as RootLiteral}
+use Rattle.std.specs.Prelude.{Some, None}
 use Rattle.table_rows.specs.Loading.{fault as as_fault, literal as as_literal, class as as_class, asked_of, asked}
 use Rattle.answer_rules.specs.Answers.{refused}
 use Rattle.table_rules.specs.Rules.Choosing.{answer_for, prices_for, run_of}
@@ -34,15 +35,15 @@ differ z = absurd (omega arith)
 
 -- A root out of range, a literal, a class.
 module _ (t : Table) (s v : ℕ) where
-  pub root-bad : is_root t s v ≡ false → root_of t s v ≡ Bad
+  pub root-bad : is_root t s v ≡ false → root_of t s v ≡ None
   unfolding root_of
   root-bad p = rw (p, root_of)
 
-  pub root-literal : is_root t s v ≡ true → eqb (sort_of t s).kind 0 ≡ true → root_of t s v ≡ RootLiteral v
+  pub root-literal : is_root t s v ≡ true → eqb (sort_of t s).kind 0 ≡ true → root_of t s v ≡ Some (RootLiteral v)
   unfolding root_of
   root-literal p q = rw (p, q, root_of)
 
-  pub root-class : is_root t s v ≡ true → eqb (sort_of t s).kind 0 ≡ false → root_of t s v ≡ RootClass (flat_class t s v)
+  pub root-class : is_root t s v ≡ true → eqb (sort_of t s).kind 0 ≡ false → root_of t s v ≡ Some (RootClass (flat_class t s v))
   unfolding root_of
   root-class p q = rw (p, q, root_of)
 

@@ -22,6 +22,8 @@ use Rattle.table_rows.proofs.Held.PlaceLaws.{pad-map-get}
 use Rattle.table_rows.proofs.Held.HeldLaws.{every-of-get}
 use Rattle.table_rows.specs.Flattened.{Flattened}
 use Rattle.table_rows.specs.Loading.{OnClass, Standing}
+use Rattle.std.specs.Prelude.{Result, Ok}
+use Rattle.refusal.specs.declared.Refusal.{Refusal}
 use Rattle.table_rows.specs.declared.Loaded.{Loaded}
 use Rattle.table_rows.specs.declared.Loaded.TheVariants.{Class}
 use Rattle.best_class.specs.Flat.{FlatTable}
@@ -54,7 +56,7 @@ module _
   label-name = name_at-of-entry labelled name label-drop.0 k label-drop.1
 
 module _
-    (t : Table) (known : Known t) (root : ℕ) (r : Loaded) (values : List ℤ)
+    (t : Table) (known : Known t) (root : ℕ) (r : Result Loaded Refusal) (values : List ℤ)
     (labels arities functions cells order flat heads starts children : List ℕ)
     (h : Standing t root r values labels arities functions cells order flat heads starts children) where
   short-names : Every (λ (f : Function). length f.name ≤ 31) t.functions
@@ -103,10 +105,10 @@ module _
       name-is (get_or functions i 0) (row-function i l) ∙ ap (λ (f : ℕ). (function_of t f).name) (function-is i)
 
   -- The lists of a class.
-  module _ (c n m w : ℕ) (e : r ≡ Class c n m w) (below : root < length t.sorts) where
+  module _ (c n m w : ℕ) (e : r ≡ Ok (Class c (record { rows = n; children = m; classes = w }))) (below : root < length t.sorts) where
     pub laid : Flattened t (root ∷ []) n m w order flat heads starts children
     laid =
-        subst (λ (x : Loaded). OnClass x (λ n m w. Flattened t (root ∷ []) n m w order flat heads starts children)) e
+        subst (λ (x : Result Loaded Refusal). OnClass x (λ n m w. Flattened t (root ∷ []) n m w order flat heads starts children)) e
         h.reached
 
     pub flat-table :

@@ -10,7 +10,8 @@ use Rattle.table_rules.specs.Rules.Facts.{Known}
 use Rattle.table_rows.proofs.Held.KnownLaws.{known-of-accepted}
 use Rattle.table_rows.specs.Loading.{asked_in, Standing, Loads}
 use Rattle.table_rows.specs.declared.Loaded.{Loaded}
-use Rattle.table_rows.specs.declared.Loaded.TheVariants.{Refused as NotLoaded, Class, Literal}
+use Rattle.table_rows.specs.declared.Loaded.TheVariants.{Class, Literal}
+use Rattle.std.specs.Prelude.{Result, Ok, Err}
 use Rattle.table_rows.proofs.LoadLaws.{accepted-of}
 use Rattle.answer_rules.specs.Variants.{VariantsAfter, Lending, variants_refused, variants_at}
 use Rattle.variants_root.specs.Several.{literal_answer, KeyedTable, SomeTable, ClassAnswers}
@@ -20,17 +21,17 @@ use Rattle.extract.proofs.VariantRootLaws.{LiteralRoot, ClassRoot, variants-refu
 use Rattle.extract.proofs.CallLaws.{standing}
 
 module _
-    (file : List ℕ) (s v : ℕ) (r : Loaded) (values : List ℤ)
+    (file : List ℕ) (s v : ℕ) (r : Result Loaded Refusal) (values : List ℤ)
     (labels arities functions cells order flat heads starts children : List ℕ)
     (l : Loads (table_at file) s v r values labels arities functions cells order flat heads starts children) where
   pub refused-variants :
       (x : Refusal) →
-      r ≡ NotLoaded x →
+      r ≡ Err x →
       (most : ℕ) (lent : Lending) →
       variants_refused x lent ≡ variants_at file s v most lent
   refused-variants x e most lent = variants-refuse file s v x most lent (sym (ap asked_in e) ∙ l.answer)
 
-  module _ (i : ℕ) (e : r ≡ Literal i) where
+  module _ (i : ℕ) (e : r ≡ Ok (Literal i)) where
     root-literal : LiteralRoot file s v i
     root-literal = literal-root file s v i (sym (ap asked_in e) ∙ l.answer)
 
@@ -54,7 +55,7 @@ module _
         children stands-literal i root-literal.below)
         ∙ root-literal.answer most lent
 
-  module _ (c n m w : ℕ) (e : r ≡ Class c n m w) where
+  module _ (c n m w : ℕ) (e : r ≡ Ok (Class c (record { rows = n; children = m; classes = w }))) where
     root-class : ClassRoot file s v c
     root-class = class-root file s v c (sym (ap asked_in e) ∙ l.answer)
 

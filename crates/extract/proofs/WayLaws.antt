@@ -24,8 +24,7 @@ use Rattle.choice_rules.specs.Run.{costed}
 use Rattle.choice_rules.specs.Answer.{Answer as Verdict, no_term, too_dear, best}
 use Rattle.choice_rules.proofs.Promises.{promises}
 use Rattle.choice_rules.specs.Demand.Deriving.{Answered}
-use Rattle.build.specs.declared.Built.{Built}
-use Rattle.build.specs.declared.Built.TheVariants.{Done, Full}
+use Rattle.std.specs.Prelude.{Option, Some, None}
 use Rattle.build.specs.Whole.{Left, whole}
 use Rattle.file_rules.specs.Table.{Table}
 use Rattle.file_rules.specs.File.{table_at}
@@ -190,17 +189,17 @@ module _ (w p : ℕ) (s : Store) where
   unfolding best_built
   built-passes l b e = go l.answer refl
     where
-      go : (x : Built) → l.answer ≡ x → b.passes ≡ p
-      go (Done i n m) d = sym (ap (λ (y : BestTerm). y.passes) (same-value (rw d at e)))
-      go Full d = not-refused (sym (rw d at e))
+      go : (x : Option ℕ) → l.answer ≡ x → b.passes ≡ p
+      go (Some a) d = sym (ap (λ (y : BestTerm). y.passes) (same-value (rw d at e)))
+      go None d = not-refused (sym (rw d at e))
 
   built-unchanged : (l : Left) (k : ℕ) → (best_built w p s l).answer ≡ refusal k → (best_built w p s l).store ≡ s
   unfolding best_built
   built-unchanged l k e = go l.answer refl
     where
-      go : (x : Built) → l.answer ≡ x → (best_built w p s l).store ≡ s
-      go (Done i n m) d = not-refused (rw d at e)
-      go Full d = rw d
+      go : (x : Option ℕ) → l.answer ≡ x → (best_built w p s l).store ≡ s
+      go (Some a) d = not-refused (rw d at e)
+      go None d = rw d
 
 module _ (t : Table) (p : Prices) (n c : ℕ) (s : Store) where
   pub class-passes : (v : Verdict) (b : BestTerm) → (best_class t p n c s v).answer ≡ value b → b.passes ≡ n

@@ -2,7 +2,7 @@
 -- and 'Refusal numbers'. `best_at` is the definition that `best` equals: an answer, and the lent store as it is left.
 -- `variants_at` is that of `variants`, which leaves two lists of results besides.
 -- Assumes nothing: statements, kept by `promises` of proofs/Promises.antt.
-use Rattle.std.specs.Prelude.{◌≡◌, true, false, List, [], ◌∷◌, ◌↔◌, ◌⊎◌, ℕ, ◌+◌, ◌<◌, ◌≤◌, ℤ, length}
+use Rattle.std.specs.Prelude.{◌≡◌, true, false, List, [], ◌∷◌, ◌↔◌, ◌⊎◌, ℕ, ◌+◌, ◌<◌, ◌≤◌, ℤ, length, Result}
 use Rattle.refusal.specs.declared.Refusal.{Refusal}
 use Rattle.bits.specs.Got.{got, refused as fault}
 use Rattle.term_rules.specs.Lent.{Store}
@@ -25,13 +25,11 @@ use Rattle.answer_rules.specs.Room.{Fits, HasRoom, NoRoomFor}
 use Rattle.answer_rules.specs.Demand.{Choice, chosen_term, ComesBack}
 use Rattle.answer_rules.specs.Variants.{Kept, VariantsAfter, Lending, variants_refused, variants_at}
 use Rattle.variant_order.specs.Arrays.{AllBelow}
-use Rattle.variants_root.specs.declared.VariantsAnswer.{VariantsAnswer}
-use Rattle.variants_root.specs.Several.{seen_variants}
+use Rattle.variants_root.specs.Several.{Kept as KeptAnswer, seen_variants}
 use Rattle.extract.specs.First.{FirstRows, kept_file_rows, kept_costs, ComeBack}
 use Rattle.extract.specs.Terms.{HasRoomForRows, NoRoomForRows}
 use Rattle.extract.specs.Told.{OneOf, HasDear, NoPlaces, Places, Unchanged, EmptyList, RestStays, LiteralTold}
-use Rattle.best_root.specs.declared.BestAnswer.{BestAnswer}
-use Rattle.best_root.specs.Single.{seen_best}
+use Rattle.best_root.specs.Single.{Best, seen_best}
 
 -- The file is accepted and holds table t.
 pub record Holding (file : List ℕ) (t : Table) : Type 0 where
@@ -153,11 +151,11 @@ pub record Promises : Type 0 where
       (file : List ℕ) (root v : ℕ) (s : Store) (k : ℕ) →
       (best_at file root v s).answer ≡ refusal k →
       (best_at file root v s).store ≡ s
-  -- Any two answers that the contract of `best` allows coincide, and so do the lists that it leaves.
+  -- Any two answers that the contract of `best` allows coincide, and so do the stores that it leaves.
   pub one_answer :
-      (r q : BestAnswer) (rs rs' : List ℕ) (ls ls' : List ℤ) (ns ns' : List ℕ) (n m : ℕ) →
-      seen_best r rs ls ns n m ≡ seen_best q rs' ls' ns' n m →
-      (r ≡ q) × (rs ≡ rs') × (ls ≡ ls') × (ns ≡ ns')
+      (r q : Result Best Refusal) (s s' : Store) →
+      seen_best r s ≡ seen_best q s' →
+      (r ≡ q) × (s ≡ s')
   -- Variants, "every usable row of it with a cost, sorted by cost, function name bytes, row cells as numbers (literal
   -- indices, not values), then the first n": the rows that are kept are these, at these costs.
   pub variants_kept : OfVariants (λ t root p c n l a. FirstRows t c n (kept_file_rows t p c n) (kept_costs t p c n))
@@ -229,8 +227,8 @@ pub record Promises : Type 0 where
       (file : List ℕ) (root v n : ℕ) (l : Lending) (k : Kept) →
       (variants_at file root v n l).answer ≡ value k →
       RestStays l (variants_at file root v n l) k.count
-  -- Any two answers that the contract of `variants` allows coincide, and so do all lists that it leaves.
+  -- Any two answers that the contract of `variants` allows coincide, and so do the stores and the lists that it leaves.
   pub variants_one_answer :
-      (r q : VariantsAnswer) (n m : ℕ) (rs rs' : List ℕ) (ls ls' : List ℤ) (ns ns' ws ws' us us' : List ℕ) →
-      seen_variants r n m rs ls ns ws us ≡ seen_variants q n m rs' ls' ns' ws' us' →
-      (r ≡ q) × (rs ≡ rs') × (ls ≡ ls') × (ns ≡ ns') × (ws ≡ ws') × (us ≡ us')
+      (r q : Result KeptAnswer Refusal) (s s' : Store) (ws ws' us us' : List ℕ) →
+      seen_variants r s ws us ≡ seen_variants q s' ws' us' →
+      (r ≡ q) × (s ≡ s') × (ws ≡ ws') × (us ≡ us')

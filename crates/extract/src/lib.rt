@@ -4,38 +4,29 @@
 #![tactic(auto)]
 
 ghost use Rattle.std.specs.Prelude.{◌≡◌};
-ghost use Rattle.term_rules.specs.Lent.{store};
+ghost use Rattle.term_add.specs.Held.{held, SameLoans};
 ghost use Rattle.answer_rules.specs.Best.{best_at};
 ghost use Rattle.answer_rules.specs.Variants.{variants_at};
 ghost use Rattle.variant_answers.specs.Kept.{lending};
 ghost use Rattle.variants_root.specs.Several.{seen_variants};
 ghost use Rattle.best_root.specs.Single.{seen_best};
 
-use best_root::BestAnswer;
+use best_root::Best;
+use file_rules::Table;
+use refusal::Refusal;
 use table_rows::Loaded;
-use variants_root::VariantsAnswer;
+use term_add::store_mut::StoreMut;
+use variants_root::Kept;
 
 // The best term of the root: the first fault of the file, else the first of BadRoot, BadStore, NoTerm, TooDear and
 // NoRoom, else the cost and the number of the term in the store, which then has it and every term that it had.
-pub fn best(
-    file: &[u8],
-    sort: u64,
-    value: u64,
-    records: &mut [u64],
-    literals: &mut [i64],
-    names: &mut [u8],
-    terms: usize,
-    symbols: usize,
-) -> BestAnswer
-    ensures { seen_best result records.new literals.new names.new terms symbols
+pub fn best(file: &[u8], sort: u64, value: u64, store: &mut StoreMut) -> Result<Best, Refusal>
+    ensures loans { SameLoans store.old store.new }
+    ensures best { seen_best result (held store.new)
         ≡ best_at file.now sort value
-        (store records.old literals.old names.old terms symbols) }
+        (held store.old) }
 {
-    let mut values: [i64; 512] = [0; 512];
-    let mut labels: [u8; name::TABLE] = [0; name::TABLE];
-    let mut arities: [u64; 128] = [0; 128];
-    let mut functions: [u64; 1024] = [0; 1024];
-    let mut cells: [u64; 9216] = [0; 9216];
+    let mut table = Table::empty();
     let mut order: [u64; 1024] = [0; 1024];
     let mut flat: [u64; 1024] = [0; 1024];
     let mut heads: [u64; 1024] = [0; 1024];
@@ -45,25 +36,29 @@ pub fn best(
         file,
         sort,
         value,
-        &mut values,
-        &mut labels,
-        &mut arities,
-        &mut functions,
-        &mut cells,
+        &mut table,
         &mut order,
         &mut flat,
         &mut heads,
         &mut starts,
         &mut children,
-    );
+    )?;
     match loaded {
-        Loaded::Refused(r) => BestAnswer::Refused(r),
-        Loaded::Literal(i) => best_root::of_literal(
-            &values, i, records, literals, names, terms, symbols,
-        ),
-        Loaded::Class(c, n, m, w) => best_root::of_class(
-            &flat, &heads, &starts, &children, &order, &functions, &labels, &values, c, n, m, w,
-            records, literals, names, terms, symbols,
+        Loaded::Literal(i) => best_root::of_literal(&table.literals, i, store),
+        Loaded::Class { class, flat: laid } => best_root::of_class(
+            &flat,
+            &heads,
+            &starts,
+            &children,
+            &order,
+            &table.rows.functions,
+            &table.functions.names,
+            &table.literals,
+            class,
+            laid.rows,
+            laid.children,
+            laid.classes,
+            store,
         ),
     }
 }
@@ -76,25 +71,18 @@ pub fn variants(
     sort: u64,
     value: u64,
     most: usize,
-    records: &mut [u64],
-    literals: &mut [i64],
-    names: &mut [u8],
-    terms: usize,
-    symbols: usize,
+    store: &mut StoreMut,
     costs: &mut [u64],
     found: &mut [u64],
-) -> VariantsAnswer
-    ensures { seen_variants result terms symbols records.new literals.new names.new
+) -> Result<Kept, Refusal>
+    ensures loans { SameLoans store.old store.new }
+    ensures variants { seen_variants result (held store.new)
         costs.new found.new
         ≡ variants_at file.now sort value most
-        (lending (store records.old literals.old names.old terms symbols)
+        (lending (held store.old)
         costs.old found.old) }
 {
-    let mut values: [i64; 512] = [0; 512];
-    let mut labels: [u8; name::TABLE] = [0; name::TABLE];
-    let mut arities: [u64; 128] = [0; 128];
-    let mut functions: [u64; 1024] = [0; 1024];
-    let mut cells: [u64; 9216] = [0; 9216];
+    let mut table = Table::empty();
     let mut order: [u64; 1024] = [0; 1024];
     let mut flat: [u64; 1024] = [0; 1024];
     let mut heads: [u64; 1024] = [0; 1024];
@@ -104,25 +92,33 @@ pub fn variants(
         file,
         sort,
         value,
-        &mut values,
-        &mut labels,
-        &mut arities,
-        &mut functions,
-        &mut cells,
+        &mut table,
         &mut order,
         &mut flat,
         &mut heads,
         &mut starts,
         &mut children,
-    );
+    )?;
     match loaded {
-        Loaded::Refused(r) => VariantsAnswer::Refused(r),
-        Loaded::Literal(i) => variants_root::of_literal(
-            &values, i, records, literals, names, terms, symbols, costs, found,
-        ),
-        Loaded::Class(c, n, m, w) => variants_root::of_class(
-            &flat, &heads, &starts, &children, &order, &functions, &labels, &values, &cells, c, n,
-            m, w, most, records, literals, names, terms, symbols, costs, found,
+        Loaded::Literal(i) => variants_root::of_literal(&table.literals, i, store, costs, found),
+        Loaded::Class { class, flat: laid } => variants_root::of_class(
+            &flat,
+            &heads,
+            &starts,
+            &children,
+            &order,
+            &table.rows.functions,
+            &table.functions.names,
+            &table.literals,
+            &table.rows.cells,
+            class,
+            laid.rows,
+            laid.children,
+            laid.classes,
+            most,
+            store,
+            costs,
+            found,
         ),
     }
 }

@@ -3,15 +3,15 @@ use Prim.Native.Nat.{ℕ}
 use mathlib.Core.Path.{◌≡◌, refl, sym, ap}
 use mathlib.Core.List.{List, []}
 use native.Mathlib.Omega.{arith}
+use Rattle.std.specs.Prelude.{Result, Ok, Err}
 use Rattle.refusal.specs.declared.Refusal.{Refusal}
 use Rattle.refusal.specs.Numbers.{refusal_no}
 use Rattle.refusal.specs.Answer.{Answer, value, refusal}
 use Rattle.refusal.proofs.NumberLaws.{number-once}
 use Rattle.bits.specs.Got.{Got, got, refused}
+use Rattle.file_rules.specs.declared.Counts.{Counts as Told}
 use Rattle.file_rules.specs.Table.{Table}
 use Rattle.file_rules.specs.File.{table_at}
-use Rattle.file_reader.specs.declared.Outcome.{Outcome}
-use Rattle.file_reader.specs.declared.Outcome.TheVariants.{Read as Done, Refused as NotDone}
 use Rattle.file.specs.Lent.{Arrays, lent, Counts, counts, After, answer_of, seen, read_of}
 use Rattle.file.specs.Promises.{Holding, Refused, Read}
 
@@ -75,17 +75,17 @@ counts_in : Answer Counts → Counts
 counts_in (value c) = c
 counts_in (refusal k) = counts 0 0 0 0
 
-done : Counts → Outcome
-done c = Done c.sorts c.literals c.functions c.rows
+told_of : Counts → Told
+told_of c = record { sorts = c.sorts; literals = c.literals; functions = c.functions; rows = c.rows }
 
-same_answer : (r q : Outcome) → answer_of r ≡ answer_of q → r ≡ q
-unfolding number_in counts_in done
-same_answer (Done s l f n) (Done s' l' f' n') e = ap (λ (a : Answer Counts). done (counts_in a)) e
-same_answer (Done s l f n) (NotDone y) e = absurd (not-value (refusal_no y) _ e)
-same_answer (NotDone x) (Done s l f n) e = absurd (not-value (refusal_no x) _ (sym e))
-same_answer (NotDone x) (NotDone y) e = ap NotDone (number-once x y (ap number_in e))
+same_answer : (r q : Result Told Refusal) → answer_of r ≡ answer_of q → r ≡ q
+unfolding number_in counts_in told_of
+same_answer (Ok c) (Ok d) e = ap (λ (a : Answer Counts). Ok (told_of (counts_in a))) e
+same_answer (Ok c) (Err y) e = absurd (not-value (refusal_no y) _ e)
+same_answer (Err x) (Ok d) e = absurd (not-value (refusal_no x) _ (sym e))
+same_answer (Err x) (Err y) e = ap Err (number-once x y (ap number_in e))
 
-pub one_answer : (a b : Arrays) (r q : Outcome) → seen r a ≡ seen q b → (r ≡ q) × (a ≡ b)
+pub one_answer : (a b : Arrays) (r q : Result Told Refusal) → seen r a ≡ seen q b → (r ≡ q) × (a ≡ b)
 one_answer a b r q e = (
   same_answer r q (ap (λ (x : After). x.answer) e),
   ap (λ (x : After). x.arrays) e,

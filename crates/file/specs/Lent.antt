@@ -1,13 +1,14 @@
 -- The lent arrays, and what a call of `read` answers and leaves in them. Assumes nothing: definitions.
-use Rattle.std.specs.Prelude.{ℕ, List, map, ℤ, pos, length}
+use Rattle.std.specs.Prelude.{ℕ, List, map, ℤ, pos, length, Result, Ok, Err}
+use Rattle.refusal.specs.declared.Refusal.{Refusal}
 use Rattle.refusal.specs.Answer.{Answer, value, refuse}
 use Rattle.name.specs.Entries.{table_length, entry}
 use Rattle.bits.specs.Got.{Got, got, refused}
+use Rattle.file_rules.specs.declared.Counts.{Counts as Told}
+use Rattle.file_rules.specs.declared.Table.{Table as Given}
 use Rattle.file_rules.specs.Table.{Sort, Function, Row, Table}
 use Rattle.file_rules.specs.Sorts.{kinds_of}
 use Rattle.file_rules.specs.Arrays.{pad_with, pad, blocks}
-use Rattle.file_reader.specs.declared.Outcome.{Outcome}
-use Rattle.file_reader.specs.declared.Outcome.TheVariants.{Read, Refused}
 
 -- The contents of the fourteen arrays.
 pub record Arrays : Type 0 where
@@ -46,6 +47,14 @@ lent kinds classes literals names declared costs unextractable hidden outputs ar
       subsumed = subsumed;
       cells = cells;
     }
+
+-- What the lent arrays hold.
+abbrev pub arrays : Given → Arrays
+arrays a =
+    lent a.sorts.kinds a.sorts.classes a.literals
+    a.functions.names a.functions.declared a.functions.costs a.functions.unextractable a.functions.hidden
+    a.functions.outputs a.functions.arities a.functions.arguments
+    a.rows.functions a.rows.subsumed a.rows.cells
 
 -- A table in the arrays: each list from the front, zeros after it.
 abbrev pub arrays_of : Table → Arrays
@@ -86,11 +95,11 @@ pub record After : Type 0 where
   pub arrays : Arrays
 
 -- The code's answer, in document 01's numbers.
-abbrev pub answer_of : Outcome → Answer Counts
-answer_of (Read s l f r) = value (counts s l f r)
-answer_of (Refused r) = refuse r
+abbrev pub answer_of : Result Told Refusal → Answer Counts
+answer_of (Ok c) = value (counts c.sorts c.literals c.functions c.rows)
+answer_of (Err r) = refuse r
 
-abbrev pub seen : Outcome → Arrays → After
+abbrev pub seen : Result Told Refusal → Arrays → After
 seen r a = record { answer = answer_of r; arrays = a }
 
 -- The answer for a file: its table's counts and the table in the arrays, or the number of the first fault and the arrays

@@ -1,20 +1,20 @@
 -- What the reader of table files promises, beside the contract of `read`: document 01, 'The table file' and 'Refusal
 -- numbers'. `table_at` is the definition that `read` equals, `read_of` what it answers and leaves in the lent arrays.
 -- Assumes nothing: definitions.
-use Rattle.std.specs.Prelude.{ℕ, ◌≤◌, ◌<◌, ◌≡◌, List, ◌∷◌, ◌++◌, length}
+use Rattle.std.specs.Prelude.{ℕ, ◌≤◌, ◌<◌, ◌≡◌, List, ◌∷◌, ◌++◌, length, Result}
 use Rattle.refusal.specs.declared.Refusal.{Refusal}
 use Rattle.refusal.specs.Numbers.{refusal_no}
 use Rattle.refusal.specs.Answer.{value, refusal}
 use Rattle.refusal.specs.declared.Refusal.TheVariants.{Short, Trailing}
 use Rattle.bits.specs.Bits.{bits_of}
 use Rattle.bits.specs.Got.{got}
+use Rattle.file_rules.specs.declared.Counts.{Counts as Told}
 use Rattle.file_rules.specs.Table.{Table}
 use Rattle.file_rules.specs.Every.{Every}
 use Rattle.file_rules.specs.File.{table_at}
 use Rattle.file_rules.specs.Accepted.{Accepted}
 use Rattle.file_rules.specs.Code.{code_file}
 use Rattle.file_rules.specs.Bytes.{file_of}
-use Rattle.file_reader.specs.declared.Outcome.{Outcome}
 use Rattle.file.specs.Lent.{Arrays, seen, read_of, counts_of, arrays_of}
 
 -- The file holds the table.
@@ -72,7 +72,7 @@ pub record Promises : Type 0 where
       (s : List ℕ) (t : Table) (b : ℕ) (rest : List ℕ) → Holding s t → Refused (s ++ (b ∷ rest)) (refusal_no Trailing)
   -- Any two results that the contract of `read` allows coincide, and so do the lent contents.
   pub one_answer :
-      (s : List ℕ) (before a b : Arrays) (r q : Outcome) →
+      (s : List ℕ) (before a b : Arrays) (r q : Result Told Refusal) →
       seen r a ≡ read_of (table_at s) before →
       seen q b ≡ read_of (table_at s) before →
       (r ≡ q) × (a ≡ b)

@@ -3,4 +3,4 @@
 
 pub mod sorts; // sorts.rt: the reader of a table file's sorts
 pub mod literals; // literals.rt: the reader of a table file's literals
-pub mod function_fields; // function_fields.rt: the fields of a function after its name: cost, flags, output sort and argument sorts, each into place `i` of its array
+pub mod function_fields; // function_fields.rt: cost, flags, output sort and argument sorts of a function

@@ -2,10 +2,10 @@
 use Prim.Native.Nat.{ℕ, zero, suc, ◌+◌, ◌-◌, ◌≤◌, ◌<◌}
 use mathlib.Core.Bool.{Bool, true, false, not, ◌||◌}
 use mathlib.Core.List.{List, [], ◌++◌}
-use mathlib.Core.Path.{◌≡◌, refl, sym, ap, ◌∙◌, fun_ext}
+use mathlib.Core.Path.{◌≡◌, refl, ap, ◌∙◌, fun_ext}
 use native.Mathlib.Omega.{arith}
 use native.Mathlib.Numerals.{add-one}
-use lib.ListN.{length, take, drop, replicate, drop_of_length-le}
+use lib.ListN.{length, drop, replicate, drop_of_length-le}
 use lib.Seq.{drop-cons}
 use Rattle.refusal.specs.declared.Refusal.{Refusal}
 use Rattle.refusal.specs.declared.Refusal.TheVariants.{DupName}
@@ -21,10 +21,9 @@ use Rattle.name.specs.Entries.{
   find_from,
   find_name,
 }
-use Rattle.name.specs.declared.Found.{Found}
-use Rattle.name.specs.declared.Found.TheVariants.{At}
+use Rattle.std.specs.Prelude.{Option, Some}
 use Rattle.name.proofs.EntryLaws.{entry_length, length_at-of-entry, name_at-of-entry}
-use Rattle.bits.specs.Got.{Got, got, refused, then, must}
+use Rattle.bits.specs.Got.{got, refused, then, must}
 use Rattle.bits.proofs.GotLaws.{All, all-got, all-at, all_then, all-must}
 use Rattle.file_rules.specs.Table.{Function}
 use Rattle.file_rules.specs.Rows.{function_no}
@@ -33,20 +32,7 @@ use Rattle.file_rules.specs.Arrays.{pad_with, blocks}
 use Rattle.file_rules.proofs.FunctionLaws.{NameKept, name-kept}
 use Rattle.file_rules.proofs.BlockLaws.{every_map, every_get, blocks-drop, blocks-length}
 use Rattle.file_rules.proofs.ArraysLaws.{pad_with-length}
-use Rattle.file_names.specs.declared.NameRead.{NameRead}
-use Rattle.file_names.specs.declared.NameRead.TheVariants.{Name, Refused}
-use Rattle.file_names.specs.Name.{HoldsNames, NameIs, free_name_at, got_name, is_missing, is_free}
-
--- The code's answer told by its case.
-module _ {g : Got (List ℕ)} {r : NameRead} {buffer : List ℕ} (h : NameIs g r buffer) where
-  pub name-got : {n k : ℕ} → r ≡ Name n k → g ≡ got (take n buffer) k
-  name-got e = sym h.answer ∙ ap (λ (x : NameRead). got_name x buffer) e
-
-  pub name-refused : {x : Refusal} → r ≡ Refused x → g ≡ refused x
-  name-refused e = sym h.answer ∙ ap (λ (x : NameRead). got_name x buffer) e
-
-  pub name-length : {n k : ℕ} → r ≡ Name n k → n ≤ 31
-  name-length e = rw e at h.short
+use Rattle.file_names.specs.Name.{HoldsNames, free_name_at, is_missing, is_free}
 
 abbrev pub entry_of : Function → List ℕ
 entry_of f = entry f.name
@@ -92,8 +78,8 @@ module _ {table : List ℕ} {i : ℕ} {fs : List Function} (h : HoldsNames table
         short = λ k l. rw (length-at h k l) (every_get h.short k _ (omega (arith, h.count)));
       }
 
-missing-by : (b : Bool) (k : ℕ) (f : Found) (t : Bool) → is_missing f ≡ not t
-    → is_missing (elim b [ true ↦ At k | false ↦ f ]) ≡ not (b || t)
+missing-by : (b : Bool) (k : ℕ) (f : Option ℕ) (t : Bool) → is_missing f ≡ not t
+    → is_missing (elim b [ true ↦ Some k | false ↦ f ]) ≡ not (b || t)
 unfolding is_missing
 missing-by true k f t e = refl
 missing-by false k f t e = e

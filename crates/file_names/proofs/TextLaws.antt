@@ -8,6 +8,7 @@ use native.Mathlib.Numerals.{add-one}
 use lib.ListN.{length, take, set}
 use lib.Seq.{take-suc-set}
 use borrow.Author.Tests.{le-leb, lt-leb}
+use Rattle.refusal.specs.declared.Refusal.{Refusal}
 use Rattle.refusal.specs.declared.Refusal.TheVariants.{Short, BadName}
 use Rattle.name.specs.Name.{all_allowed}
 use Rattle.bits.specs.Bits.{number}
@@ -30,9 +31,9 @@ pub bytes-more : (s : List ℕ) (k j : ℕ) (buffer : List ℕ) {b : ℕ} → j 
 bytes-more s k j buffer h e d = rw (add-one, take-suc-set buffer j _ h, e, d, bytes_at-suc)
 
 module _ (s : List ℕ) (at : ℕ) where
-  pub name_short : field s at 5 ≡ refused Short → name_at s at ≡ refused Short
+  pub name_refused : {r : Refusal} → field s at 5 ≡ refused r → name_at s at ≡ refused r
   unfolding name_at then
-  name_short e = rw e
+  name_refused e = rw e
 
   module _ {n p : ℕ} (e : field s at 5 ≡ got n p) where
     pub name-empty : n ≡ 0 → name_at s at ≡ refused BadName

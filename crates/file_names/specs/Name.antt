@@ -1,34 +1,31 @@
 -- What the readers of a name promise. Assumes nothing: definitions.
-use Rattle.std.specs.Prelude.{ℕ, ◌≤◌, ◌≡◌, Bool, true, false, List, length, take}
+use Rattle.std.specs.Prelude.{ℕ, ◌≤◌, ◌≡◌, Bool, true, false, List, length, take, Option, Some, None, Result, Ok, Err}
 use Rattle.name.specs.Entries.{table_length, entry, find_name, put_name}
-use Rattle.name.specs.declared.Found.{Found}
-use Rattle.name.specs.declared.Found.TheVariants.{At, Missing}
+use Rattle.refusal.specs.declared.Refusal.{Refusal}
 use Rattle.refusal.specs.declared.Refusal.TheVariants.{DupName}
 use Rattle.bits.specs.Got.{Got, got, refused, then, must}
 use Rattle.file_rules.specs.Table.{Function}
 use Rattle.file_rules.specs.Functions.{name_at}
 use Rattle.file_rules.specs.Every.{Every}
 use Rattle.file_rules.specs.Arrays.{pad, blocks}
-use Rattle.file_names.specs.declared.NameRead.{NameRead}
-use Rattle.file_names.specs.declared.NameRead.TheVariants.{Name, Refused}
 
 -- The code's answer as a reading, with the name at the front of the buffer.
-abbrev pub got_name : NameRead → List ℕ → Got (List ℕ)
-got_name (Name n k) buffer = got (take n buffer) k
-got_name (Refused r) buffer = refused r
+abbrev pub got_name : Result (ℕ × ℕ) Refusal → List ℕ → Got (List ℕ)
+got_name (Ok (n, k)) buffer = got (take n buffer) k
+got_name (Err r) buffer = refused r
 
 -- The length that the answer tells.
-abbrev pub name_length : NameRead → ℕ
-name_length (Name n k) = n
-name_length (Refused r) = 0
+abbrev pub name_length : Result (ℕ × ℕ) Refusal → ℕ
+name_length (Ok (n, k)) = n
+name_length (Err r) = 0
 
-pub record NameIs (g : Got (List ℕ)) (r : NameRead) (buffer : List ℕ) : Type 0 where
+pub record NameIs (g : Got (List ℕ)) (r : Result (ℕ × ℕ) Refusal) (buffer : List ℕ) : Type 0 where
   pub answer : got_name r buffer ≡ g
   pub short : name_length r ≤ 31
 
-unfoldable pub is_missing : Found → Bool
-is_missing (At k) = false
-is_missing Missing = true
+unfoldable pub is_missing : Option ℕ → Bool
+is_missing (Some k) = false
+is_missing None = true
 
 -- Whether none of the first i entries has the name.
 unfoldable pub is_free : List ℕ → ℕ → List ℕ → Bool

@@ -8,17 +8,7 @@ ghost use Rattle.file_rules.specs.Functions.{bytes_at, name_at};
 ghost use Rattle.file_rules.specs.Reading.{Reads};
 ghost use Rattle.file_names.specs.Name.{NameIs, is_free, free_name_at, PutName};
 
-use bits::Field;
-use file_rules::Step;
-use name::Found;
 use refusal::Refusal;
-
-// A name's length and the position after it, or the first fault.
-#[derive(Clone, Copy)]
-pub enum NameRead {
-    Name(usize, usize),
-    Refused(Refusal),
-}
 
 // The `n` bytes from position `at`, to the front of `buffer`.
 fn read_bytes(s: &[u8], at: usize, n: usize, buffer: &mut [u8])
@@ -27,35 +17,30 @@ fn read_bytes(s: &[u8], at: usize, n: usize, buffer: &mut [u8])
     requires n_in_bounds { n ≤ length buffer.old }
     ensures { take n buffer.new ≡ bytes_at s.now at n }
 {
-    let mut j: usize = 0;
-    while j < n {
+    for j in 0..n {
         buffer[j] = bits::gather(s, at + 8 * j, 8) as u8;
-        j += 1;
     }
 }
 
-// The name at position `at`, to the front of `buffer`.
-fn read_text(s: &[u8], at: usize, buffer: &mut [u8]) -> NameRead
+// The name at position `at`, to the front of `buffer`: its length, and the position after it.
+fn read_text(s: &[u8], at: usize, buffer: &mut [u8]) -> Result<(usize, usize), Refusal>
     requires at_bound { at < 2 ^ 40 }
     requires in_bounds { 31 ≤ length buffer.old }
     ensures { NameIs (name_at s.now at) result buffer.new }
 {
-    let f = bits::read(s, at, 5);
-    let Field::Value(v, p) = f else {
-        return NameRead::Refused(Refusal::Short);
-    };
+    let (v, p) = bits::read(s, at, 5)?;
     if v == 0 {
-        return NameRead::Refused(Refusal::BadName);
+        return Err(Refusal::BadName);
     }
     let n = v as usize;
     if !bits::has(s, p, 8 * n) {
-        return NameRead::Refused(Refusal::Short);
+        return Err(Refusal::Short);
     }
     read_bytes(s, p, n, buffer);
     if !name::all_allowed(&buffer[..n]) {
-        return NameRead::Refused(Refusal::BadName);
+        return Err(Refusal::BadName);
     }
-    NameRead::Name(n, p + 8 * n)
+    Ok((n, p + 8 * n))
 }
 
 // Puts the name at entry `i`, unless one of the `i` entries before has it.
@@ -66,10 +51,9 @@ fn put_new(entries: &mut [u8], i: usize, name: &[u8]) -> bool
     ensures value { result ≡ is_free entries.old i name.now }
     ensures entries_after { entries.new ≡ pick result (put_name entries.old i name.now) entries.old }
 {
-    let found = name::find(entries, i, name);
-    match found {
-        Found::At(_) => false,
-        Found::Missing => {
+    match name::find(entries, i, name) {
+        Some(_) => false,
+        None => {
             name::put(entries, i, name);
             true
         }
@@ -77,7 +61,7 @@ fn put_new(entries: &mut [u8], i: usize, name: &[u8]) -> bool
 }
 
 // The name at position `at`, into entry `i`, where none of the `i` entries before has it.
-pub fn read_name(s: &[u8], at: usize, i: usize, entries: &mut [u8]) -> Step
+pub fn read_name(s: &[u8], at: usize, i: usize, entries: &mut [u8]) -> Result<usize, Refusal>
     requires at_bound { at < 2 ^ 40 }
     requires i_bound { i < 128 }
     requires entries { Entries entries.old i }
@@ -86,14 +70,9 @@ pub fn read_name(s: &[u8], at: usize, i: usize, entries: &mut [u8]) -> Step
         (PutName i entries.old entries.new) }
 {
     let mut buffer = [0u8; name::WIDTH];
-    let x = read_text(s, at, &mut buffer);
-    match x {
-        NameRead::Refused(r) => Step::Refused(r),
-        NameRead::Name(n, q) => {
-            if put_new(entries, i, &buffer[..n]) {
-                return Step::Done(q);
-            }
-            Step::Refused(Refusal::DupName)
-        }
+    let (n, q) = read_text(s, at, &mut buffer)?;
+    if !put_new(entries, i, &buffer[..n]) {
+        return Err(Refusal::DupName);
     }
+    Ok(q)
 }

@@ -7,23 +7,25 @@ use lib.IntN.{ℤ}
 use lib.ListN.{length, take, length-map}
 use lib.Dec.{leb}
 use lib.Seq.{take_at}
+use Rattle.std.specs.Prelude.{Result, Ok, Err}
+use Rattle.std.specs.Result.{IsErrAnd}
 use Rattle.refusal.specs.declared.Refusal.{Refusal}
 use Rattle.refusal.specs.declared.Refusal.TheVariants.{BadSize}
 use Rattle.bits.specs.Got.{Got, got, refused, then, must}
 use Rattle.bits.specs.Field.{field}
 use Rattle.bits.proofs.GotLaws.{all-at}
+use Rattle.file_rules.specs.declared.Counts.{Counts}
 use Rattle.file_rules.specs.Table.{Sort, Function, Row, Table}
 use Rattle.file_rules.specs.Every.{Every}
 use Rattle.file_rules.specs.Sorts.{kinds_of}
 use Rattle.file_rules.specs.Reading.{OnGot}
 use Rattle.file_rules.specs.File.{version_at, sorts_part, literals_part, functions_part, rows_part, end_at, table_at}
 use Rattle.file_rules.specs.Arrays.{pad_with, HoldsSorts, HoldsFunctions}
-use Rattle.file_rules.proofs.ReadingLaws.{Read-to}
+use Rattle.file_rules.proofs.ReadingLaws.{exit-is, Read-to}
 use Rattle.file_rules.proofs.ArraysLaws.{pad_with-length}
 use Rattle.file_rules.proofs.TableLaws.{version-end, sorts-in, literals-in, FunctionsIn, functions-in}
 use Rattle.file_rows.proofs.InLaws.{rows_are}
 use Rattle.file_reader.specs.Parts.{rows_part_in, tail_in}
-use Rattle.file_reader.specs.declared.Outcome.TheVariants.{Read, Refused}
 use Rattle.file_reader.specs.Outcome.{Answers}
 
 -- The rows and the end of the file.
@@ -137,13 +139,18 @@ module _ (s : List ℕ) where
 module _ {P : Table → Type 0} where
   pub answers-got : {g : Got Table} {t : Table} {k n l m r : ℕ} → g ≡ got t k → length t.sorts ≡ n
       → length t.literals ≡ l
-      → length t.functions ≡ m → length t.rows ≡ r → P t → Answers g (Read n l m r) P
+      → length t.functions ≡ m → length t.rows ≡ r → P t
+      → Answers g (Ok (record { sorts = n; literals = l; functions = m; rows = r })) P
   unfolding OnGot
   answers-got e a b c d h = rw e (record { answer = rw (a, b, c, d); filled = h })
 
-  pub answers-refused : {g : Got Table} {x : Refusal} → g ≡ refused x → Answers g (Refused x) P
+  pub answers-refused : {g : Got Table} {x : Refusal} → g ≡ refused x → Answers g (Err x) P
   unfolding OnGot
   answers-refused e = rw e (record { answer = refl; filled = tt })
+
+  pub answers-exit : {g : Got Table} (r : Result Counts Refusal) {x : Refusal} → IsErrAnd r (λ y. y ≡ x) → g ≡ refused x
+      → Answers g r P
+  answers-exit r h e = rw (exit-is r h) (answers-refused e)
 
 -- Where the parts end.
 pub version-near : (s : List ℕ) {a : ℕ} {P : ℕ → Type 0} → Read-to (version_at s 0) a P → a ≡ 4

@@ -2,3 +2,4 @@
 pub mod Put
 pub mod Parts
 pub mod Outcome
+pub mod Held

@@ -1,112 +1,66 @@
 // The reader of a table file's functions: each into its place of the arrays.
-ghost use Rattle.std.specs.Prelude.{◌≡◌, List, ◌+◌, ◌*◌, ◌^◌, ◌<◌, ◌≤◌, length, take, replicate};
-ghost use Rattle.name.specs.Entries.{table_length, Entries};
+ghost use Rattle.std.specs.Prelude.{◌≡◌, List, ◌+◌, ◌*◌, ◌^◌, ◌<◌, ◌≤◌, length, take};
+ghost use Rattle.name.specs.Entries.{Entries};
 ghost use Rattle.file_rules.specs.Table.{Function};
 ghost use Rattle.file_rules.specs.Functions.{function_at, functions_at};
 ghost use Rattle.file_rules.specs.Reading.{Reads};
-ghost use Rattle.file_rules.specs.Arrays.{HoldsFunctions};
+ghost use Rattle.file_rules.specs.Held.{holds_functions, empty};
 ghost use Rattle.file_names.specs.Name.{HoldsNames};
-ghost use Rattle.file_reader.specs.Put.{PutFunction, Zeros};
+ghost use Rattle.file_reader.specs.Held.{put_function};
 
 use file_fields::function_fields;
-use file_rules::Step;
+use file_rules::{Functions, Sorts};
+use refusal::Refusal;
 
-// The function at position `at`, into place `i` of the arrays; the `n` sorts have the first kinds of `kinds`.
+// The function at position `at`, into place `i` of the arrays; there are `n` sorts, the first of `sorts`.
 fn read_function(
     s: &[u8],
     at: usize,
     n: usize,
-    kinds: &[u64; 32],
+    sorts: &Sorts,
     i: usize,
-    names: &mut [u8; name::TABLE],
-    declared: &mut [u64; 128],
-    costs: &mut [u64; 128],
-    unextractable: &mut [u64; 128],
-    hidden: &mut [u64; 128],
-    outputs: &mut [u64; 128],
-    arities: &mut [u64; 128],
-    arguments: &mut [u64; 1024],
-) -> Step
+    functions: &mut Functions,
+) -> Result<usize, Refusal>
     requires at_bound { at < 2 ^ 39 }
-    requires n_bound { (n < 32) × (length kinds.now ≡ 32) }
+    requires n_bound { (n < 32) × (length sorts.now.kinds ≡ 32) }
     requires i_bound { i < 128 }
-    requires entries { Entries names.old i }
-    requires names_len { length names.old ≡ table_length }
-    ensures { (fs : List Function) → HoldsNames names.old i fs
-        → Reads (function_at s.now (take n kinds.now) fs at) result
-        (PutFunction i
-        names.old declared.old costs.old unextractable.old
-        hidden.old outputs.old arities.old arguments.old
-        names.new declared.new costs.new unextractable.new
-        hidden.new outputs.new arities.new arguments.new) }
+    requires entries { Entries functions.old.names i }
+    ensures { (fs : List Function) → HoldsNames functions.old.names i fs
+        → Reads (function_at s.now (take n sorts.now.kinds) fs at) result
+        (put_function i functions.old functions.new) }
 {
-    let a = file_names::read_name(s, at, i, names);
-    let Step::Done(p) = a else {
-        return a;
-    };
-    let b = function_fields::read_cost(s, p, i, declared, costs);
-    let Step::Done(q) = b else {
-        return b;
-    };
-    let c = function_fields::read_flags(s, q, i, unextractable, hidden);
-    let Step::Done(t) = c else {
-        return c;
-    };
-    let d = function_fields::read_output(s, t, n, kinds, i, outputs);
-    let Step::Done(u) = d else {
-        return d;
-    };
-    function_fields::read_arguments(s, u, n, i, arities, arguments)
+    let p = file_names::read_name(s, at, i, &mut functions.names)?;
+    let q = function_fields::read_cost(s, p, i, &mut functions.declared, &mut functions.costs)?;
+    let t = function_fields::read_flags(
+        s,
+        q,
+        i,
+        &mut functions.unextractable,
+        &mut functions.hidden,
+    )?;
+    let u = function_fields::read_output(s, t, n, sorts, i, &mut functions.outputs)?;
+    function_fields::read_arguments(s, u, n, i, &mut functions.arities, &mut functions.arguments)
 }
 
-// `count` functions from position `at`, into eight arrays of zeros; the `n` sorts have the first kinds of `kinds`.
+// `count` functions from position `at`, into arrays of zeros; there are `n` sorts, the first of `sorts`.
 pub fn read_functions(
     s: &[u8],
     at: usize,
     count: usize,
     n: usize,
-    kinds: &[u64; 32],
-    names: &mut [u8; name::TABLE],
-    declared: &mut [u64; 128],
-    costs: &mut [u64; 128],
-    unextractable: &mut [u64; 128],
-    hidden: &mut [u64; 128],
-    outputs: &mut [u64; 128],
-    arities: &mut [u64; 128],
-    arguments: &mut [u64; 1024],
-) -> Step
+    sorts: &Sorts,
+    functions: &mut Functions,
+) -> Result<usize, Refusal>
     requires at_bound { at < 2 ^ 32 }
     requires count_bound { count < 128 }
-    requires n_bound { (n < 32) × (length kinds.now ≡ 32) }
-    requires zeros { Zeros names.old declared.old costs.old unextractable.old hidden.old outputs.old arities.old
-        arguments.old }
-    ensures { Reads (functions_at s.now (take n kinds.now) count at) result
-        (HoldsFunctions names.new declared.new costs.new unextractable.new
-        hidden.new outputs.new arities.new arguments.new) }
+    requires n_bound { (n < 32) × (length sorts.now.kinds ≡ 32) }
+    requires functions_value { functions.old ≡ empty.functions }
+    ensures { Reads (functions_at s.now (take n sorts.now.kinds) count at) result
+        (holds_functions functions.new) }
 {
     let mut p = at;
-    let mut i: usize = 0;
-    while i < count {
-        let x = read_function(
-            s,
-            p,
-            n,
-            kinds,
-            i,
-            names,
-            declared,
-            costs,
-            unextractable,
-            hidden,
-            outputs,
-            arities,
-            arguments,
-        );
-        let Step::Done(q) = x else {
-            return x;
-        };
-        p = q;
-        i += 1;
+    for i in 0..count {
+        p = read_function(s, p, n, sorts, i, functions)?;
     }
-    Step::Done(p)
+    Ok(p)
 }

@@ -8,7 +8,7 @@ use lib.Dec.{ltb}
 use lib.ListN.{length, set, get_or}
 use borrow.Author.Tests.{lt-ltb, le-ltb, eq-eqb, ne_eqb}
 use Rattle.refusal.specs.declared.Refusal.{Refusal}
-use Rattle.refusal.specs.declared.Refusal.TheVariants.{Short, BadValue}
+use Rattle.refusal.specs.declared.Refusal.TheVariants.{BadValue}
 use Rattle.bits.specs.Got.{got, refused, then, must, pick}
 use Rattle.bits.specs.Field.{field}
 use Rattle.bits.proofs.FieldLaws.{field-read}
@@ -49,9 +49,9 @@ module _ (outputs arities arguments : List ℕ) (f j : ℕ) where
   column-small s = small_by (ltb j (get_or arities f 0)) s
 
 module _ (s : List ℕ) (bound at : ℕ) where
-  pub cell-short : field s at 9 ≡ refused Short → cell_at s bound at ≡ refused Short
+  pub cell-refused : {r : Refusal} → field s at 9 ≡ refused r → cell_at s bound at ≡ refused r
   unfolding cell_at then
-  cell-short e = rw e
+  cell-refused e = rw e
 
   module _ {v q : ℕ} (e : field s at 9 ≡ got v q) where
     pub cell-over : bound ≤ v → cell_at s bound at ≡ refused BadValue

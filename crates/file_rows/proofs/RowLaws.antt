@@ -7,7 +7,7 @@ use lib.ListN.{length, get_or, length-append}
 use lib.Seq.{sets, sets-eq}
 use borrow.Author.Tests.{lt-ltb, le-ltb}
 use Rattle.refusal.specs.declared.Refusal.{Refusal}
-use Rattle.refusal.specs.declared.Refusal.TheVariants.{Short, BadFunction}
+use Rattle.refusal.specs.declared.Refusal.TheVariants.{BadFunction}
 use Rattle.bits.specs.Got.{got, refused, then, must, many}
 use Rattle.bits.specs.Field.{field}
 use Rattle.bits.proofs.FieldLaws.{field-read}
@@ -27,10 +27,12 @@ use Rattle.bits.proofs.GotLaws.{
   loop-refuses,
   loop-ends,
 }
+use Rattle.file_rules.specs.declared.Rows.{Rows}
 use Rattle.file_rules.specs.Table.{Row}
 use Rattle.file_rules.specs.Every.{Every, every-nil}
 use Rattle.file_rules.specs.Rows.{cell_at}
 use Rattle.file_rules.specs.Arrays.{pad, blocks, HoldsRows}
+use Rattle.file_rules.specs.Held.{empty}
 use Rattle.file_rules.proofs.ArraysLaws.{pad_with-nil, pad_with-length, pad-set-map}
 use Rattle.file_rules.proofs.BlockLaws.{every-snoc, every_map, blocks-snoc, blocks-length, pad-block, pad-of-pad}
 use Rattle.file_rows.specs.In.{cell_in, cells_in, row_in, rows_in, Sound, Zeros, PutRow}
@@ -83,10 +85,10 @@ module _ (s kinds classes : List ℕ) (l : ℕ) (outputs arities arguments : Lis
 
 -- The ways that the reading of a row goes.
 module _ (s kinds classes : List ℕ) (l count : ℕ) (outputs arities arguments : List ℕ) (at : ℕ) where
-  pub row-short : field s at 7 ≡ refused Short
-      → row_in s kinds classes l count outputs arities arguments at ≡ refused Short
+  pub row-refused : {r : Refusal} → field s at 7 ≡ refused r
+      → row_in s kinds classes l count outputs arities arguments at ≡ refused r
   unfolding row_in then
-  row-short e = rw e
+  row-refused e = rw e
 
   module _ {f p : ℕ} (e : field s at 7 ≡ got f p) where
     pub row-none : count ≤ f → row_in s kinds classes l count outputs arities arguments at ≡ refused BadFunction
@@ -94,8 +96,8 @@ module _ (s kinds classes : List ℕ) (l count : ℕ) (outputs arities arguments
     row-none h = rw (e, le-ltb _ _ h)
 
     module _ (h : f < count) where
-      pub row_cut : field s p 1 ≡ refused Short
-          → row_in s kinds classes l count outputs arities arguments at ≡ refused Short
+      pub row_cut : {r : Refusal} → field s p 1 ≡ refused r
+          → row_in s kinds classes l count outputs arities arguments at ≡ refused r
       unfolding row_in then must
       row_cut d = rw (e, lt-ltb _ _ h, d)
 
@@ -127,6 +129,10 @@ cells-more rows r i h c b l =
     ∙ pad-block 9216 (blocks places_of rows) xs (i * 9) (i * 9 + length xs) n refl (omega arith)
     ∙ sym (pad-of-pad 9216 9 (blocks places_of rows) xs l (omega arith))
     ∙ ap (pad 9216) (sym (blocks-snoc places_of rows r))
+
+-- Rows of which none is read.
+pub zeros_of : {r : Rows} → r ≡ empty.rows → Zeros r.functions r.subsumed r.cells
+zeros_of e = rw e (record { functions_zero = refl; subsumed_zero = refl; cells_zero = refl })
 
 -- The loop over n rows from at: those of rows are read up to p and stand in the arrays.
 pub record Rows-read (s kinds classes : List ℕ) (l count : ℕ) (outputs arities arguments : List ℕ) (at n : ℕ)

@@ -1,181 +1,131 @@
-// The reader of a table file's rows: each into its place of three arrays, against the arrays of sorts and functions.
+// The reader of a table file's rows: each into its place of the arrays, against the arrays of sorts and functions.
 #![tactic(auto)]
 
-ghost use Rattle.std.specs.Prelude.{◌≡◌, ◌+◌, ◌*◌, ◌^◌, ◌<◌, ◌≤◌, length, get_or, replicate};
+ghost use Rattle.std.specs.Prelude.{◌≡◌, ◌+◌, ◌*◌, ◌^◌, ◌<◌, ◌≤◌, get_or};
 ghost use Rattle.file_rules.specs.Reading.{Reads};
-ghost use Rattle.file_rules.specs.Arrays.{HoldsRows};
-ghost use Rattle.file_rows.specs.In.{range_in, column_in, cells_in, row_in, rows_in, Sound, Zeros, PutCells, PutRow};
+ghost use Rattle.file_rules.specs.Held.{holds_rows, empty};
+ghost use Rattle.file_rows.specs.In.{PutCells};
+ghost use Rattle.file_rows.specs.Held.{range_of, column_of, cells_of, row_of, rows_of, sound, put_row};
 
-use bits::Field;
-use file_rules::Step;
+use file_rules::{Functions, Rows, Sorts};
 use refusal::Refusal;
 
 // The bound of a cell of the sort `k`: the sort's class count, or the literal count for a base sort.
-fn bound_of(kinds: &[u64; 32], classes: &[u64; 32], literals: u64, k: u64) -> u64
+fn bound_of(sorts: &Sorts, literals: u64, k: u64) -> u64
     requires { k < 32 }
-    ensures { result ≡ range_in kinds.now classes.now literals k }
+    ensures { result ≡ range_of sorts.now literals k }
 {
     let j = k as usize;
-    if kinds[j] == 1 {
-        return classes[j];
+    if sorts.kinds[j] == 1 {
+        return sorts.classes[j];
     }
     literals
 }
 
 // The sort of column `j` of the function `f`: an argument's, and after these the output's.
-fn column_of(
-    f: usize,
-    j: usize,
-    outputs: &[u64; 128],
-    arities: &[u64; 128],
-    arguments: &[u64; 1024],
-) -> u64
+fn column_of(f: usize, j: usize, functions: &Functions) -> u64
     requires f_bound { f < 128 }
-    requires f_bound_2 { get_or arities.now f 0 ≤ 8 }
-    ensures { result ≡ column_in outputs.now arities.now arguments.now f j }
+    requires f_bound_2 { get_or functions.now.arities f 0 ≤ 8 }
+    ensures { result ≡ column_of functions.now f j }
 {
-    if (j as u64) < arities[f] {
+    if (j as u64) < functions.arities[f] {
         let k = f * 8 + j;
-        return arguments[k];
+        return functions.arguments[k];
     }
-    outputs[f]
+    functions.outputs[f]
 }
 
 // The cells of a row of the function `f` from position `at`, into the places from `from`.
 fn read_cells(
     s: &[u8],
     at: usize,
-    kinds: &[u64; 32],
-    classes: &[u64; 32],
+    sorts: &Sorts,
     literals: u64,
-    outputs: &[u64; 128],
-    arities: &[u64; 128],
-    arguments: &[u64; 1024],
+    functions: &Functions,
     f: usize,
     from: usize,
     cells: &mut [u64; 9216],
-) -> Step
+) -> Result<usize, Refusal>
     requires at_bound { at < 2 ^ 40 }
     requires f_bound { f < 128 }
     requires from_bound { from + 9 ≤ 9216 }
-    requires sound { Sound outputs.now arities.now arguments.now }
-    ensures { Reads
-        (cells_in s.now kinds.now classes.now literals outputs.now
-        arities.now arguments.now f at)
-        result (PutCells from cells.old cells.new) }
+    requires sound { sound functions.now }
+    ensures { Reads (cells_of s.now sorts.now literals functions.now f at) result
+        (PutCells from cells.old cells.new) }
 {
-    let n = arities[f] as usize + 1;
+    let n = functions.arities[f] as usize + 1;
     let mut p = at;
-    let mut j: usize = 0;
-    while j < n {
-        let k = column_of(f, j, outputs, arities, arguments);
-        let bound = bound_of(kinds, classes, literals, k);
-        let x = bits::read(s, p, 9);
-        let Field::Value(v, q) = x else {
-            return Step::Refused(Refusal::Short);
-        };
+    for j in 0..n {
+        let k = column_of(f, j, functions);
+        let bound = bound_of(sorts, literals, k);
+        let (v, q) = bits::read(s, p, 9)?;
         if bound <= v {
-            return Step::Refused(Refusal::BadValue);
+            return Err(Refusal::BadValue);
         }
         let place = from + j;
         cells[place] = v;
         p = q;
-        j += 1;
     }
-    Step::Done(p)
+    Ok(p)
 }
 
 // The row at position `at`, into place `i` of the arrays; there are `count` functions.
 fn read_row(
     s: &[u8],
     at: usize,
-    kinds: &[u64; 32],
-    classes: &[u64; 32],
+    sorts: &Sorts,
     literals: u64,
     count: u64,
-    outputs: &[u64; 128],
-    arities: &[u64; 128],
-    arguments: &[u64; 1024],
+    functions: &Functions,
     i: usize,
-    functions: &mut [u64; 1024],
-    subsumed: &mut [u64; 1024],
-    cells: &mut [u64; 9216],
-) -> Step
+    rows: &mut Rows,
+) -> Result<usize, Refusal>
     requires at_bound { at < 2 ^ 39 }
     requires i_bound { i < 1024 }
-    requires sound { Sound outputs.now arities.now arguments.now }
-    ensures { Reads
-        (row_in s.now kinds.now classes.now literals count outputs.now
-        arities.now arguments.now at)
-        result
-        (PutRow i functions.old subsumed.old cells.old functions.new
-        subsumed.new cells.new) }
+    requires sound { sound functions.now }
+    ensures { Reads (row_of s.now sorts.now literals count functions.now at) result
+        (put_row i rows.old rows.new) }
 {
-    let x = bits::read(s, at, 7);
-    let Field::Value(f, p) = x else {
-        return Step::Refused(Refusal::Short);
-    };
+    let (f, p) = bits::read(s, at, 7)?;
     if count <= f {
-        return Step::Refused(Refusal::BadFunction);
+        return Err(Refusal::BadFunction);
     }
-    let y = bits::read(s, p, 1);
-    let Field::Value(bit, q) = y else {
-        return Step::Refused(Refusal::Short);
-    };
-    functions[i] = f;
-    subsumed[i] = bit;
+    let (bit, q) = bits::read(s, p, 1)?;
+    rows.functions[i] = f;
+    rows.subsumed[i] = bit;
     read_cells(
         s,
         q,
-        kinds,
-        classes,
+        sorts,
         literals,
-        outputs,
-        arities,
-        arguments,
+        functions,
         f as usize,
         i * 9,
-        cells,
+        &mut rows.cells,
     )
 }
 
-// `n` rows from position `at`, into three arrays of zeros; there are `count` functions.
+// `n` rows from position `at`, into arrays of zeros; there are `count` functions.
 pub fn read_rows(
     s: &[u8],
     at: usize,
     n: usize,
-    kinds: &[u64; 32],
-    classes: &[u64; 32],
+    sorts: &Sorts,
     literals: u64,
     count: u64,
-    outputs: &[u64; 128],
-    arities: &[u64; 128],
-    arguments: &[u64; 1024],
-    functions: &mut [u64; 1024],
-    subsumed: &mut [u64; 1024],
-    cells: &mut [u64; 9216],
-) -> Step
+    functions: &Functions,
+    rows: &mut Rows,
+) -> Result<usize, Refusal>
     requires at_bound { at < 2 ^ 32 }
     requires n_bound { n ≤ 1024 }
-    requires sound { Sound outputs.now arities.now arguments.now }
-    requires zeros { Zeros functions.old subsumed.old cells.old }
-    ensures { Reads
-        (rows_in s.now kinds.now classes.now literals count outputs.now
-        arities.now arguments.now n at)
-        result (HoldsRows functions.new subsumed.new cells.new) }
+    requires sound { sound functions.now }
+    requires rows_value { rows.old ≡ empty.rows }
+    ensures { Reads (rows_of s.now sorts.now literals count functions.now n at) result
+        (holds_rows rows.new) }
 {
     let mut p = at;
-    let mut i: usize = 0;
-    while i < n {
-        let x = read_row(
-            s, p, kinds, classes, literals, count, outputs, arities, arguments, i, functions,
-            subsumed, cells,
-        );
-        let Step::Done(q) = x else {
-            return x;
-        };
-        p = q;
-        i += 1;
+    for i in 0..n {
+        p = read_row(s, p, sorts, literals, count, functions, i, rows)?;
     }
-    Step::Done(p)
+    Ok(p)
 }

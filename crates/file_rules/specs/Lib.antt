@@ -8,6 +8,7 @@ pub mod File
 pub mod Every
 pub mod Accepted
 pub mod Arrays
+pub mod Held
 pub mod Reading
 pub mod Code
 pub mod Bytes

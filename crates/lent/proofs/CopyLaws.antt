@@ -1,20 +1,21 @@
 -- Laws on copying the records into flat arrays and back, one record at a time. Assumes nothing.
-use Prim.Native.Nat.{ℕ, zero, suc, ◌+◌, ◌≤◌, ◌<◌, min}
+use Prim.Native.Nat.{ℕ, suc, ◌+◌, ◌≤◌, ◌<◌, min}
 use mathlib.Core.Path.{◌≡◌, refl, ap, sym, ◌∙◌, subst}
 use mathlib.Core.Logic.{inl, inr}
 use mathlib.Core.List.{List, [], ◌∷◌, ◌++◌, append_assoc, append-nil}
 use native.Mathlib.Nat.{eq-or-lt_of_le}
 use native.Mathlib.Numerals.{add-one}
 use native.Mathlib.Omega.{arith}
-use lib.ListN.{length, get_or, take, drop, set, length-append, length-take, length-drop}
-use lib.Seq.{take-suc, take-suc-set, take-nil, drop-cons, get_or-take, set_at}
+use lib.ListN.{length, get_or, take, drop, set, length-take}
+use lib.Seq.{take-suc, take-suc-set, drop-cons, get_or-take, set_at}
 use lib.IntN.{ℤ}
 use Rattle.term_rules.specs.declared.Term.{Term}
 use Rattle.term_rules.specs.Lent.{records_length, HasRecord, record_in, numbers as numbers_of, put_record}
 use Rattle.term_rules.proofs.LayoutLaws.{take_put}
-use Rattle.lent.specs.declared.Flat.{Flat}
+use Rattle.lent.specs.declared.copied.Flat.{Flat}
 use Rattle.lent.specs.Records.{no_term, Eight, flat, literals_of, records_in}
 use Rattle.lent.specs.Copies.{AllEight, Loaded}
+use Rattle.lent_entries.proofs.EntriesLaws.{take_min}
 use Rattle.lent.proofs.RecordLaws.{flat_append, literals_of-append, records_in-length}
 
 -- the first i records are copied
@@ -78,23 +79,15 @@ copied_more ys i rs ls t l is e long wide c =
       eight = subst (λ (k : ℕ). AllEight (take k ys)) (sym n) (eight-more ys i l c.eight (subst Eight is e));
     }
 
--- what is past the end of a list takes nothing more
-pub take_min {ℓ} : {X : Type ℓ} (a : ℕ) (l : List X) → take (min a (length l)) l ≡ take a l
-take_min a [] = take-nil (min a 0) ∙ sym (take-nil a)
-take_min zero (x ∷ l) = let e : min 0 (suc (length l)) ≡ 0 = omega arith in ap (λ (n : ℕ). take n (x ∷ l)) e
-take_min (suc a) (x ∷ l) =
-    let e : min (suc a) (suc (length l)) ≡ suc (min a (length l)) = omega arith in
-    ap (λ (n : ℕ). take n (x ∷ l)) e ∙ ap (◌∷◌ x) (take_min a l)
-
 pub copied-whole :
-    (ys : List Term) (rs : List ℕ) (ls : List ℤ) (n : ℕ) (f : Flat) →
-    n ≡ min 1024 (length ys) → length rs ≡ records_length 1024 → length ls ≡ 1024 → Copied ys n rs ls →
-    f ≡ record { records = rs; literals = ls; room = n } → Loaded ys f
-copied-whole ys rs ls n f e long wide c is =
-    let same : take n ys ≡ take 1024 ys = ap (λ (k : ℕ). take k ys) e ∙ take_min 1024 ys in
-    subst (Loaded ys) (sym is) record {
+    (ys : List Term) (f : Flat) → f.room ≡ min (length ys) 1024 → length f.records ≡ records_length 1024 →
+    length f.literals ≡ 1024 → Copied ys f.room f.records f.literals → Loaded ys f
+copied-whole ys f e long wide c =
+    let room : f.room ≡ min 1024 (length ys) = omega arith in
+    let same : take f.room ys ≡ take 1024 ys = ap (λ (k : ℕ). take k ys) room ∙ take_min 1024 ys in
+    record {
       whole = record { long = long; wide = wide; within = omega arith };
-      room = e;
+      room = room;
       numbers = c.numbers ∙ ap flat same;
       literals = c.literals ∙ ap literals_of same;
       eight = subst AllEight same c.eight;
@@ -117,8 +110,3 @@ put_to-more ys rs ls i l =
     ∙ set_at (records_in rs ls i) (get_or ys i no_term) (drop (suc i) ys) (record_in rs ls i) i (records_in-length rs ls i)
     ∙ sym (append_assoc (records_in rs ls i) (record_in rs ls i ∷ []) (drop (suc i) ys))
     ∙ ap (λ (k : ℕ). records_in rs ls k ++ drop k ys) (sym (add-one i))
-
-pub put_to-length : (ys : List Term) (rs : List ℕ) (ls : List ℤ) (i : ℕ) → i ≤ length ys → length (put_to ys rs ls i) ≡
-    length ys
-put_to-length ys rs ls i l =
-    length-append (records_in rs ls i) (drop i ys) ∙ omega (arith, records_in-length rs ls i, length-drop i ys)

@@ -2,4 +2,5 @@
 pub mod RecordLaws
 pub mod CopyLaws
 pub mod StoreLaws
+pub mod LeftLaws
 pub mod Promises

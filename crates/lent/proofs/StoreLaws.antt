@@ -22,9 +22,10 @@ use Rattle.lent_entries.proofs.EntriesLaws.{
 use Rattle.term_rules.specs.declared.Term.{Term}
 use Rattle.term_rules.specs.Lent.{Store, store, records_length, record_room, record_at, symbol_at, term_room, symbol_room}
 use Rattle.term_layout.proofs.TakeLaws.{record-take, room_whole}
-use Rattle.lent.specs.declared.Flat.{Flat}
+use Rattle.lent.specs.declared.copied.Flat.{Flat}
 use Rattle.lent.specs.Records.{no_term, flat, literals_of, lent_store, records_in, records_after}
-use Rattle.lent.specs.Copies.{AllEight, Loaded, store_in}
+use Rattle.lent.specs.declared.copied.StoreCopy.{StoreCopy}
+use Rattle.lent.specs.Copies.{AllEight, Loaded, CopyOf, store_in}
 use Rattle.lent.proofs.RecordLaws.{record_in-flat, flat-length, literals_of-length, records_in-flat, records_in-length, flat-records_in, literals_of-records_in}
 
 -- what is copied is the lent store
@@ -44,6 +45,16 @@ pub store_in-is :
     store (take (records_length f.room) f.records) (take f.room f.literals) bs n m ≡ store_in f ns n m
 unfolding store_in
 store_in-is f ns n m bs e = rw e
+
+-- the store that a call's own copy holds is the lent store
+pub copied-store :
+    (ts : List Term) (ns : List (List ℕ)) (c : StoreCopy) (n m : ℕ) → CopyOf ts ns c →
+    store (take c.numbers c.flat.records) (take c.flat.room c.flat.literals) (take c.bytes c.names) n m ≡ lent_store ts
+    ns n m
+copied-store ts ns c n m k =
+    ap (λ (e : ℕ). store (take e c.flat.records) (take c.flat.room c.flat.literals) (take c.bytes c.names) n m) k.numbers
+    ∙ store_in-is c.flat ns n m (take c.bytes c.names) k.entries
+    ∙ loaded-store ts ns c.flat n m k.records
 
 -- the records of the store are the lent records
 pub lent_store-record :

@@ -1,12 +1,18 @@
 // The term store as a lent slice of term records, with its symbol table as a lent slice of name entries.
 #![tactic(auto)]
 
-ghost use Rattle.std.specs.Prelude.{◌≡◌, ◌<◌, ◌≤◌, min, ◌++◌, length, get_or, set, drop};
+ghost use Rattle.std.specs.Prelude.{◌≡◌, ◌<◌, ◌≤◌, ◌++◌, length, get_or, set, drop};
 ghost use Rattle.term_rules.specs.Lent.{InRecords, put_record};
+ghost use Rattle.term_layout.specs.Sound.{lent_of};
 ghost use Rattle.lent.specs.Records.{no_term, Eight, records_in};
-ghost use Rattle.lent.specs.Copies.{Loaded};
+ghost use Rattle.lent.specs.Copies.{Loaded, CopyOf, copied};
 
+pub use copied::{Flat, StoreCopy};
+use lent_entries::Name;
+use term_layout::lent::Lent;
 use term_rules::Term;
+
+pub mod copied; // copied.rt: a call's own copy of a lent store
 
 // Record `i`.
 pub fn record_at(ts: &[Term], i: usize) -> Term
@@ -26,68 +32,42 @@ pub fn put_at(ts: &mut [Term], i: usize, t: Term)
     ts[i] = t;
 }
 
-// A call's own copy of the records: their numbers and a literal each, and how many there are.
-#[derive(Clone, Copy)]
-pub struct Flat {
-    pub records: [u64; term_layout::RECORDS],
-    pub literals: [i64; 1024],
-    pub room: usize,
-}
-
 // Puts the record at `i` of the flat arrays.
-fn put_flat(records: &mut [u64], literals: &mut [i64], i: usize, t: Term)
-    requires { InRecords records.old literals.old i × Eight t }
-    ensures { (records.new ≡ put_record records.old i t)
-        × (literals.new ≡ set literals.old i t.literal) }
+fn put_flat(flat: &mut Flat, i: usize, t: Term)
+    requires { InRecords flat.old.records flat.old.literals i × Eight t }
+    ensures { flat.new
+        ≡ record {
+          records = put_record flat.old.records i t;
+          literals = set flat.old.literals i t.literal;
+          room = flat.old.room;
+        } }
 {
-    let children = t.children;
     term_layout::put_record(
-        records, literals, i, t.kind, t.symbol, t.count, t.literal, &children,
+        &mut flat.records,
+        &mut flat.literals,
+        i,
+        t.kind,
+        t.symbol,
+        t.count,
+        t.literal,
+        &t.children,
     );
-}
-
-fn no_numbers() -> [u64; term_layout::RECORDS] {
-    [0; term_layout::RECORDS]
-}
-
-fn no_literals() -> [i64; 1024] {
-    [0; 1024]
-}
-
-// How many records a lent slice of `n` holds of a store.
-fn room_of(n: usize) -> usize
-    ensures { result ≡ min 1024 n }
-{
-    if n < 1024 {
-        return n;
-    }
-    1024
-}
-
-fn packed(records: [u64; term_layout::RECORDS], literals: [i64; 1024], room: usize) -> Flat
-    ensures { result ≡ record { records = records; literals = literals; room = room } }
-{
-    Flat {
-        records,
-        literals,
-        room,
-    }
 }
 
 // Copies the lent records into arrays of the call's own.
 pub fn load(ts: &[Term]) -> Flat
     ensures { Loaded ts.now result }
 {
-    let n = room_of(ts.len());
-    let mut records = no_numbers();
-    let mut literals = no_literals();
-    let mut i = 0;
-    while i < n {
-        let t = record_at(ts, i);
-        put_flat(&mut records, &mut literals, i, t);
-        i += 1;
+    let room = ts.len().min(1024);
+    let mut flat = Flat {
+        records: [0; term_layout::RECORDS],
+        literals: [0; 1024],
+        room,
+    };
+    for i in 0..room {
+        put_flat(&mut flat, i, record_at(ts, i));
     }
-    packed(records, literals, n)
+    flat
 }
 
 // Copies the records back.
@@ -96,13 +76,37 @@ pub fn unload(ts: &mut [Term], f: Flat)
     ensures { ts.new
         ≡ records_in f.records f.literals f.room ++ drop f.room ts.old }
 {
-    let records = f.records;
-    let literals = f.literals;
-    let n = f.room;
-    let mut i = 0;
-    while i < n {
-        let t = term_record::record_at(&records, &literals, i);
-        put_at(ts, i, t);
-        i += 1;
+    for i in 0..f.room {
+        put_at(ts, i, term_record::record_at(&f.records, &f.literals, i));
+    }
+}
+
+impl StoreCopy {
+    // The copy as a store of so many terms and symbols, to be read.
+    pub fn lent(&self, terms: usize, symbols: usize) -> Lent<'_>
+        ensures { lent_of result ≡ copied self.now terms symbols }
+    {
+        Lent {
+            records: &self.flat.records[..self.numbers],
+            literals: &self.flat.literals[..self.flat.room],
+            names: &self.names[..self.bytes],
+            terms,
+            symbols,
+        }
+    }
+}
+
+// Copies the lent records and the lent entries.
+pub fn copy_of(ts: &[Term], ns: &[Name]) -> StoreCopy
+    ensures { CopyOf ts.now ns.now result }
+{
+    let flat = load(ts);
+    let mut names = [0u8; name::TABLE];
+    let entries = lent_entries::load_names(ns, &mut names);
+    StoreCopy {
+        flat,
+        names,
+        numbers: flat.room * term_layout::WIDTH,
+        bytes: entries * name::WIDTH,
     }
 }

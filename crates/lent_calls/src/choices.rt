@@ -1,59 +1,37 @@
-// Best and variants on lent structs as steps of a run: an array of 1,024 records is lent to the call and comes back by
-// value. Assumes nothing.
-use best_root::BestAnswer;
+// Best and variants on lent structs as steps of a run, which holds a store of 1,024 records with its counts: the
+// counts are those that the call told. Assumes nothing.
+use crate::steps::Held;
 use lent_entries::Name;
-use term_rules::Term;
-use variants_root::VariantsAnswer;
-
-// What best answered, and the records after it.
-#[derive(Clone, Copy)]
-pub struct Chosen {
-    pub ts: [Term; 1024],
-    pub answer: BestAnswer,
-}
-
-// The same of variants.
-#[derive(Clone, Copy)]
-pub struct Varied {
-    pub ts: [Term; 1024],
-    pub answer: VariantsAnswer,
-}
-
-fn with_best(answer: BestAnswer, ts: [Term; 1024]) -> Chosen {
-    Chosen { ts, answer }
-}
-
-fn with_variants(answer: VariantsAnswer, ts: [Term; 1024]) -> Varied {
-    Varied { ts, answer }
-}
+use lent_extract::counted::{Chosen, Varied};
+use refusal::Refusal;
 
 pub fn best(
+    h: &mut Held,
     file: &[u8],
     sort: u64,
     value: u64,
-    mut ts: [Term; 1024],
     ns: &mut [Name],
-    terms: usize,
-    symbols: usize,
-) -> Chosen {
-    let answer = lent_extract::best(file, sort, value, &mut ts, ns, terms, symbols);
-    with_best(answer, ts)
+) -> Result<Chosen, Refusal> {
+    let best = lent_extract::best(file, sort, value, &mut h.ts, ns, h.terms, h.symbols)?;
+    h.terms = best.terms;
+    h.symbols = best.symbols;
+    Ok(best)
 }
 
 pub fn variants(
+    h: &mut Held,
     file: &[u8],
     sort: u64,
     value: u64,
     most: usize,
-    mut ts: [Term; 1024],
     ns: &mut [Name],
-    terms: usize,
-    symbols: usize,
     costs: &mut [u64],
     found: &mut [u64],
-) -> Varied {
-    let answer = lent_extract::variants(
-        file, sort, value, most, &mut ts, ns, terms, symbols, costs, found,
-    );
-    with_variants(answer, ts)
+) -> Result<Varied, Refusal> {
+    let kept = lent_extract::variants(
+        file, sort, value, most, &mut h.ts, ns, h.terms, h.symbols, costs, found,
+    )?;
+    h.terms = kept.terms;
+    h.symbols = kept.symbols;
+    Ok(kept)
 }

@@ -1,17 +1,13 @@
-// Each call of the store and both texts on lent structs as a step of a run: an array of 1,024 records is lent to it, and
-// comes back by value where the call adds. Best and variants are in the module `choices`. Assumes nothing.
+// Each call of the store and both texts on lent structs as a step of a run, which holds a store of 1,024 records with
+// its counts; a call that adds leaves the counts as they are then. Best and variants are in the module `choices`.
+// Assumes nothing.
 use lent_entries::Name;
 use lent_texts::{lets, plain};
-use term::{Added, Compared, Counted, Got, Looked, Verdict};
+use refusal::Refusal;
+use std::cmp::Ordering;
+use term::Added;
 use term_rules::Term;
-use text_whole::{LetText, Text};
-
-// What an adding call answered, and the records after it.
-#[derive(Clone, Copy)]
-pub struct Step {
-    pub ts: [Term; 1024],
-    pub answer: Added,
-}
+use text_whole::LetText;
 
 // A store's records, and how many terms and symbols it has.
 #[derive(Clone, Copy)]
@@ -21,149 +17,97 @@ pub struct Held {
     pub symbols: usize,
 }
 
-fn no_term() -> Term {
-    Term {
+// A store with no term.
+pub fn empty() -> Held {
+    let none = Term {
         kind: 0,
         symbol: 0,
         count: 0,
         literal: 0,
         children: [0; 8],
-    }
-}
-
-// A store with no term.
-pub fn empty() -> Held {
-    let t = no_term();
-    let ts = [t; 1024];
+    };
     Held {
-        ts,
+        ts: [none; 1024],
         terms: 0,
         symbols: 0,
     }
 }
 
-fn with_added(answer: Added, ts: [Term; 1024]) -> Step {
-    Step { ts, answer }
+// The term that a call has added or found; the store has the counts that the call told.
+fn keep(h: &mut Held, added: Added) -> usize {
+    h.terms = added.terms;
+    h.symbols = added.symbols;
+    added.term
 }
 
-pub fn add_literal(
-    mut ts: [Term; 1024],
-    ns: &[Name],
-    terms: usize,
-    symbols: usize,
-    literal: i64,
-) -> Step {
-    let answer = lent_terms::add_literal(&mut ts, ns, terms, symbols, literal);
-    with_added(answer, ts)
+pub fn add_literal(h: &mut Held, ns: &[Name], literal: i64) -> Result<usize, Refusal> {
+    let added = lent_terms::add_literal(&mut h.ts, ns, h.terms, h.symbols, literal)?;
+    Ok(keep(h, added))
 }
 
-pub fn add_variable(
-    mut ts: [Term; 1024],
-    ns: &mut [Name],
-    terms: usize,
-    symbols: usize,
-    name: &[u8],
-) -> Step {
-    let answer = lent_terms::add_variable(&mut ts, ns, terms, symbols, name);
-    with_added(answer, ts)
+pub fn add_variable(h: &mut Held, ns: &mut [Name], name: &[u8]) -> Result<usize, Refusal> {
+    let added = lent_terms::add_variable(&mut h.ts, ns, h.terms, h.symbols, name)?;
+    Ok(keep(h, added))
 }
 
 pub fn add_application(
-    mut ts: [Term; 1024],
+    h: &mut Held,
     ns: &mut [Name],
-    terms: usize,
-    symbols: usize,
     name: &[u8],
     children: &[u64],
-) -> Step {
-    let answer = lent_terms::add_application(&mut ts, ns, terms, symbols, name, children);
-    with_added(answer, ts)
+) -> Result<usize, Refusal> {
+    let added = lent_terms::add_application(&mut h.ts, ns, h.terms, h.symbols, name, children)?;
+    Ok(keep(h, added))
 }
 
-pub fn find_literal(
-    ts: [Term; 1024],
-    ns: &[Name],
-    terms: usize,
-    symbols: usize,
-    literal: i64,
-) -> Looked {
-    lent_terms::find_literal(&ts, ns, terms, symbols, literal)
+pub fn find_literal(h: &Held, ns: &[Name], literal: i64) -> Result<usize, Refusal> {
+    lent_terms::find_literal(&h.ts, ns, h.terms, h.symbols, literal)
 }
 
-pub fn find_variable(
-    ts: [Term; 1024],
-    ns: &[Name],
-    terms: usize,
-    symbols: usize,
-    name: &[u8],
-) -> Looked {
-    lent_terms::find_variable(&ts, ns, terms, symbols, name)
+pub fn find_variable(h: &Held, ns: &[Name], name: &[u8]) -> Result<usize, Refusal> {
+    lent_terms::find_variable(&h.ts, ns, h.terms, h.symbols, name)
 }
 
 pub fn find_application(
-    ts: [Term; 1024],
+    h: &Held,
     ns: &[Name],
-    terms: usize,
-    symbols: usize,
     name: &[u8],
     children: &[u64],
-) -> Looked {
-    lent_terms::find_application(&ts, ns, terms, symbols, name, children)
+) -> Result<usize, Refusal> {
+    lent_terms::find_application(&h.ts, ns, h.terms, h.symbols, name, children)
 }
 
-pub fn size(ts: [Term; 1024], ns: &[Name], terms: usize, symbols: usize) -> Counted {
-    lent_terms::size(&ts, ns, terms, symbols)
+pub fn size(h: &Held, ns: &[Name]) -> Result<usize, Refusal> {
+    lent_terms::size(&h.ts, ns, h.terms, h.symbols)
 }
 
-pub fn get(ts: [Term; 1024], ns: &[Name], terms: usize, symbols: usize, i: usize) -> Got {
-    lent_terms::get(&ts, ns, terms, symbols, i)
+pub fn get(h: &Held, ns: &[Name], i: usize) -> Result<Term, Refusal> {
+    lent_terms::get(&h.ts, ns, h.terms, h.symbols, i)
 }
 
-pub fn compare(
-    ts: [Term; 1024],
-    ns: &[Name],
-    terms: usize,
-    symbols: usize,
-    i: usize,
-    j: usize,
-) -> Compared {
-    lent_terms::compare(&ts, ns, terms, symbols, i, j)
+pub fn compare(h: &Held, ns: &[Name], i: usize, j: usize) -> Result<Ordering, Refusal> {
+    lent_terms::compare(&h.ts, ns, h.terms, h.symbols, i, j)
 }
 
-pub fn sort(
-    ts: [Term; 1024],
-    ns: &[Name],
-    terms: usize,
-    symbols: usize,
-    list: &mut [u64],
-) -> Verdict {
-    lent_terms::sort(&ts, ns, terms, symbols, list)
+pub fn sort(h: &Held, ns: &[Name], list: &mut [u64]) -> Result<(), Refusal> {
+    lent_terms::sort(&h.ts, ns, h.terms, h.symbols, list)
 }
 
-pub fn plain_text(
-    ts: [Term; 1024],
-    ns: &[Name],
-    terms: usize,
-    symbols: usize,
-    term: usize,
-    out: &mut [u8],
-) -> Text {
-    plain::plain_text(&ts, ns, terms, symbols, term, out)
+pub fn plain_text(h: &Held, ns: &[Name], term: usize, out: &mut [u8]) -> Result<usize, Refusal> {
+    plain::plain_text(&h.ts, ns, h.terms, h.symbols, term, out)
 }
 
 pub fn let_text(
-    ts: [Term; 1024],
+    h: &Held,
     ns: &[Name],
-    terms: usize,
-    symbols: usize,
     term: usize,
     prefix: &[u8],
     hint: &[u8],
     start: u64,
     bare: bool,
     out: &mut [u8],
-) -> LetText {
+) -> Result<LetText, Refusal> {
     lets::let_text(
-        &ts, ns, terms, symbols, term, prefix, hint, start, bare, out,
+        &h.ts, ns, h.terms, h.symbols, term, prefix, hint, start, bare, out,
     )
 }

@@ -7,23 +7,7 @@ use native.Mathlib.Nat.{eq-or-lt_of_le}
 use native.Mathlib.Numerals.{add-one}
 use native.Mathlib.Omega.{arith}
 use lib.ListN.{length, get_or, take, drop, set, length-append, length-take, length-drop}
-use lib.Seq.{
-  take_all,
-  take-suc,
-  take-add,
-  take_at,
-  take-nil,
-  take-paste,
-  take-suc-set,
-  take-append-le,
-  drop-cons,
-  drop-nil,
-  drop-append-add,
-  drop-append-le,
-  get_or-drop,
-  get_or-take,
-  set_at,
-}
+use lib.Seq.{take_all, take-suc, take-add, take_at, take-nil, take-paste, take-append-le, drop-cons, drop-nil, drop-append-add, drop-append-le, get_or-take, set_at}
 use Rattle.name.specs.Entries.{entry_width, entries_length, HasEntry, entry_at, put_entry, length_in, name_in, name_at}
 use Rattle.name.proofs.EntryLaws.{name_at-entry}
 use Rattle.lent_entries.specs.Entries.{entries_of, entries_in, AllWide, LoadedNames, entries_after}
@@ -193,31 +177,12 @@ put_to-more ns bs e k l is =
     ∙ sym (append_assoc (entries_in bs k) (entry_at bs k ∷ []) (drop (suc k) ns))
     ∙ ap (λ (i : ℕ). entries_in bs i ++ drop i ns) (sym (add-one k))
 
-pub put_to-length : (ns : List (List ℕ)) (bs : List ℕ) (k : ℕ) → k ≤ length ns → length (put_to ns bs k) ≡ length ns
-put_to-length ns bs k l = length-append (entries_in bs k) (drop k ns) ∙ omega (
-  arith,
-  entries_in-length bs k,
-  length-drop k ns,
-)
-
 pub put_to-whole :
     (ns : List (List ℕ)) (bs : List ℕ) (n : ℕ) → n ≡ min 128 (length ns) → put_to ns bs n ≡ entries_after ns bs
 unfolding entries_after
 put_to-whole ns bs n e =
     ap (λ (k : ℕ). put_to ns bs k) e
     ∙ ap (λ (t : List (List ℕ)). entries_in bs (min 128 (length ns)) ++ t) (drop_min 128 ns)
-
--- an entry that is copied byte by byte
-pub entry_more :
-    (l e : List ℕ) (a j : ℕ) → j < length e → a + entry_width ≤ length l → j < entry_width → take j e ≡ take j (drop a l) →
-    take (j + 1) (set e j (get_or l (a + j) 0)) ≡ take (j + 1) (drop a l)
-entry_more l e a j he hl h same =
-    ap (λ (n : ℕ). take n (set e j (get_or l (a + j) 0))) (add-one j)
-    ∙ take-suc-set e j (get_or l (a + j) 0) he
-    ∙ ap (λ (s : List ℕ). s ++ (get_or l (a + j) 0 ∷ [])) same
-    ∙ ap (λ (v : ℕ). take j (drop a l) ++ (v ∷ [])) (sym (get_or-drop a l j 0))
-    ∙ sym (take-suc (drop a l) j 0 (omega (arith, length-drop a l)))
-    ∙ ap (λ (n : ℕ). take n (drop a l)) (sym (add-one j))
 
 -- the first k entries need no more than their bytes
 entries_in-front : (a b : List ℕ) (k : ℕ) → entries_length k ≤ length a → entries_in (a ++ b) k ≡ entries_in a k

@@ -5,10 +5,11 @@ use Rattle.answer_rules.specs.Answers.{After}
 use Rattle.answer_rules.specs.Best.{BestTerm}
 use Rattle.answer_rules.specs.Variants.{VariantsAfter, Lending, variants_at}
 use Rattle.variant_answers.specs.Kept.{lending}
-use Rattle.extract.proofs.VariantDeterminedLaws.{costs-seen, terms-seen}
 use Rattle.extract.proofs.Promises.{promises as flat}
 use Rattle.lent_extract.specs.Promises.{Promises}
 use Rattle.lent_extract.proofs.LeftLaws.{lent_seen}
+use Rattle.lent_extract.proofs.DeterminedLaws.{best-once}
+use Rattle.lent_extract.proofs.VariedLaws.{costs-seen, terms-seen, variants-once}
 
 pub promises : Promises
 promises = record {
@@ -19,7 +20,7 @@ promises = record {
   best_kept = λ file root v ts ts' ns ns' n m k r a e.
       a.unchanged (flat.unchanged file root v (lent_store ts ns n m) k e);
   best_determined = λ ts ts' ts'' ns ns' ns'' n m wanted r r' a b. (
-    (flat.one_answer r r' wanted.store.records wanted.store.records wanted.store.literals
+    (best-once r r' wanted.store.records wanted.store.records wanted.store.literals
         wanted.store.literals wanted.store.names wanted.store.names n m (a.answer ∙ sym b.answer)).0,
     (a.records ∙ sym b.records, a.entries ∙ sym b.entries),
   );
@@ -42,7 +43,7 @@ promises = record {
         ),
       );
   variants_determined = λ ts ts' ts'' ns ns' ns'' n m wanted r r' ws ws' us us' a b.
-      let o = flat.variants_one_answer r r' n m wanted.store.records wanted.store.records
+      let o = variants-once r r' n m wanted.store.records wanted.store.records
       wanted.store.literals wanted.store.literals wanted.store.names wanted.store.names ws ws' us us'
       (a.answer ∙ sym b.answer) in
       (o.0, (a.records ∙ sym b.records, (a.entries ∙ sym b.entries, (o.4, o.5))));

@@ -1,10 +1,10 @@
 -- Laws behind the promises of the crate `lent_terms`. Assumes nothing.
 use Prim.Native.Nat.{ℕ, ◌≤◌, ◌<◌, min}
-use mathlib.Core.Path.{◌≡◌, ap, sym, ◌∙◌, subst}
+use mathlib.Core.Path.{◌≡◌, refl, ap, sym, ◌∙◌, subst}
 use mathlib.Core.Bool.{true}
 use mathlib.Core.List.{List, [], ◌++◌}
 use native.Mathlib.Omega.{arith}
-use borrow.Author.Tests.{leb-true, leb-false}
+use borrow.Author.Tests.{leb-true, leb-false, lt-ltb}
 use lib.Dec.{leb}
 use lib.ListN.{length, get_or, take, drop, length-append, drop_of_length-le}
 use lib.Seq.{drop_at}
@@ -18,10 +18,11 @@ use Rattle.lent.specs.Records.{no_term, literals_of, lent_store, records_in, rec
 use Rattle.lent.specs.Promises.{Shaped}
 use Rattle.lent.proofs.RecordLaws.{literals_of-length, records_in-length}
 use Rattle.lent.proofs.Promises.{promises as lists}
-use Rattle.term.specs.declared.Added.{Added}
-use Rattle.term.specs.declared.Got.{Got}
+use Rattle.std.specs.Prelude.{Result}
+use Rattle.refusal.specs.declared.Refusal.{Refusal}
+use Rattle.term_add.specs.declared.Added.{Added}
 use Rattle.term.specs.Answers.{Answer, given, refused, seen_added, seen_got}
-use Rattle.term.specs.Calls.{get_term}
+use Rattle.term.specs.Calls.{get_term, fine, get_faults, unless}
 use Rattle.term.proofs.CallLaws.{get-given}
 use Rattle.term.proofs.Promises.{promises}
 use Rattle.lent_terms.specs.Lists.{LentAdded}
@@ -29,7 +30,7 @@ use Rattle.lent_terms.specs.Promises.{seen_lent, OnLists, RefusalKeeps, Reads}
 
 -- what is seen of the lists after a call is what was wanted
 pub lent_seen :
-    (ts ts' : List Term) (ns ns' : List (List ℕ)) (n m : ℕ) (wanted : Answer ℕ × Store) (r : Added) →
+    (ts ts' : List Term) (ns ns' : List (List ℕ)) (n m : ℕ) (wanted : Answer ℕ × Store) (r : Result Added Refusal) →
     LentAdded ts ns n m wanted r ts' ns' →
     seen_lent r ts' ns' n m ≡ wanted
 unfolding lent_store
@@ -85,9 +86,13 @@ rest-stays model ts ts' ns ns' n m r a =
           (entries_in-length s.names (min 128 (length ns))),
     )
 
+no-fault : (s : Store) (i : ℕ) → well_formed s ≡ true → i < s.terms → fine ≡ get_faults s i
+unfolding get_faults unless
+no-fault s i w h = rw (w, lt-ltb i s.terms h) refl
+
 -- what get gives is the lent record
 pub got-record :
-    (ts : List Term) (ns : List (List ℕ)) (n m i : ℕ) (r : Got) →
+    (ts : List Term) (ns : List (List ℕ)) (n m i : ℕ) (r : Result Term Refusal) →
     Shaped ts ns →
     well_formed (lent_store ts ns n m) ≡ true →
     i < n →
@@ -98,12 +103,12 @@ got-record ts ns n m i r shaped w h e =
     let s : Store = lent_store ts ns n m in
     let within : n ≤ length (literals_of (take 1024 ts)) = (promises.facts s w).literals_long in
     e
-    ∙ sym (get-given s i w h)
+    ∙ sym (get-given s i (no-fault s i w h))
     ∙ ap (λ (t : Term). (given tt, t))
     (lists.same_record ts ns n m i shaped (omega (arith, literals_of-length (take 1024 ts))))
 
 pub added-determined :
-    (ts ts' ts'' : List Term) (ns ns' ns'' : List (List ℕ)) (n m : ℕ) (wanted : Answer ℕ × Store) (r r' : Added) →
+    (ts ts' ts'' : List Term) (ns ns' ns'' : List (List ℕ)) (n m : ℕ) (wanted : Answer ℕ × Store) (r r' : Result Added Refusal) →
     LentAdded ts ns n m wanted r ts' ns' → LentAdded ts ns n m wanted r' ts'' ns'' →
     (r ≡ r') × ((ts' ≡ ts'') × (ns' ≡ ns''))
 added-determined ts ts' ts'' ns ns' ns'' n m wanted r r' a b = (

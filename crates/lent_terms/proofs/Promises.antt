@@ -1,7 +1,7 @@
 -- The promises of the crate `lent_terms` hold. Assumes nothing.
 use Rattle.term_rules.specs.Lent.{Store}
 use Rattle.term_rules.specs.Nodes.{literal, variable, application}
-use Rattle.term.specs.Answers.{seen_found, seen_count, seen_got, seen_order, seen_sort}
+use Rattle.term.specs.Answers.{seen, seen_got, seen_sort}
 use Rattle.term.specs.Calls.{
   add_literal,
   add_variable,
@@ -37,18 +37,18 @@ promises = record {
       refusal-keeps (λ (s : Store). add_application s name ks) (λ s. (flat.application_added s name ks).unchanged);
   rest_stays = rest-stays;
   literal_found = λ z.
-      read (λ s. find_literal s z) seen_found (λ s a. Finds s (literal z) (asks_literal s) a)
+      read (λ s. find_literal s z) seen (λ s a. Finds s (literal z) (asks_literal s) a)
       (λ s. flat.literal_found s z);
   variable_found = λ name.
-      read (λ s. find_variable s name) seen_found (λ s a. Finds s (variable name) (asks_variable s name) a)
+      read (λ s. find_variable s name) seen (λ s a. Finds s (variable name) (asks_variable s name) a)
       (λ s. flat.variable_found s name);
   application_found = λ name ks.
-      read (λ s. find_application s name ks) seen_found
+      read (λ s. find_application s name ks) seen
       (λ s a. Finds s (application name ks) (asks_application s name ks) a)
       (λ s. flat.application_found s name ks);
-  sized = read size_of seen_count Sizes (λ s. (flat.size_refused s, flat.size_given s));
+  sized = read size_of seen Sizes (λ s. (flat.size_refused s, flat.size_given s));
   compared = λ i j.
-      read (λ s. compare_terms s i j) seen_order (λ s a. Compares s i j a)
+      read (λ s. compare_terms s i j) seen (λ s a. Compares s i j a)
       (λ s. (flat.compare_refused s i j, flat.compare_given s i j));
   sorted = λ l after.
       read (λ s. sort_terms s l) (λ v. seen_sort v after) (λ s x. Sorting s l x)

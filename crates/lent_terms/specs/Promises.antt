@@ -1,26 +1,25 @@
 -- What the store's calls on lent lists promise beside their contracts: all that `term` promises, of the store that the
 -- lists are (`lent/specs/Promises.antt` says which that is). Assumes nothing: a record, with one field for each theorem.
-use Rattle.std.specs.Prelude.{ℕ, ◌<◌, ◌≡◌, true, List, ℤ, get_or, drop}
+use Rattle.std.specs.Prelude.{ℕ, ◌<◌, ◌≡◌, true, List, ℤ, get_or, drop, Result}
+use Rattle.refusal.specs.declared.Refusal.{Refusal}
 use Rattle.term_rules.specs.declared.Term.{Term}
 use Rattle.term_rules.specs.Lent.{Store}
 use Rattle.term_rules.specs.WellFormed.{well_formed}
 use Rattle.term_rules.specs.Nodes.{Node, literal, variable, application}
 use Rattle.lent.specs.Records.{no_term, lent_store}
 use Rattle.lent.specs.Promises.{Shaped}
-use Rattle.order.specs.declared.Ordering.{Ordering}
+use Rattle.std.specs.declared.cmp.Ordering.{Ordering}
 use Rattle.term_order.specs.TreeOrder.{compare_at}
-use Rattle.term.specs.declared.Added.{Added}
-use Rattle.term.specs.declared.Got.{Got}
+use Rattle.term_add.specs.declared.Added.{Added}
 use Rattle.term.specs.Answers.{
   Answer,
   given,
   refused,
+  seen,
   seen_added,
-  seen_found,
-  seen_count,
   seen_got,
-  seen_order,
   seen_sort,
+  zero_record,
 }
 use Rattle.term.specs.Calls.{
   add_literal,
@@ -30,7 +29,6 @@ use Rattle.term.specs.Calls.{
   find_variable,
   find_application,
   size_of,
-  zero_record,
   get_term,
   compare_terms,
   sort_terms,
@@ -41,17 +39,17 @@ use Rattle.term.specs.Promises.{Sorts}
 use Rattle.lent_terms.specs.Lists.{LentAdded}
 
 -- What a call that adds has told, and the store that the lent lists are then.
-abbrev pub seen_lent : Added → List Term → List (List ℕ) → ℕ → ℕ → Answer ℕ × Store
+abbrev pub seen_lent : Result Added Refusal → List Term → List (List ℕ) → ℕ → ℕ → Answer ℕ × Store
 seen_lent r ts ns n m =
     seen_added r (lent_store ts ns n m).records (lent_store ts ns n m).literals (lent_store ts ns n m).names n m
 
 -- What the contract allows of a call that adds `model` on lent lists, before and after it.
 abbrev pub OnLists :
     (Store → Answer ℕ × Store) →
-    (List Term → List (List ℕ) → ℕ → ℕ → Added → List Term → List (List ℕ) → Type 0) →
+    (List Term → List (List ℕ) → ℕ → ℕ → Result Added Refusal → List Term → List (List ℕ) → Type 0) →
     Type 0
 OnLists model P =
-    (ts ts' : List Term) (ns ns' : List (List ℕ)) (n m : ℕ) (r : Added) →
+    (ts ts' : List Term) (ns ns' : List (List ℕ)) (n m : ℕ) (r : Result Added Refusal) →
     LentAdded ts ns n m (model (lent_store ts ns n m)) r ts' ns' →
     P ts ns n m r ts' ns'
 
@@ -118,22 +116,22 @@ pub record Promises : Type 1 where
       OnLists model (λ ts ns n m r ts' ns'. (drop 1024 ts' ≡ drop 1024 ts) × (drop 128 ns' ≡ drop 128 ns))
   -- "Lookup has its kind's order with 15 for 13": what is found is the term, and Absent comes exactly when no number has
   -- it.
-  pub literal_found : (z : ℤ) → Reads (λ s. find_literal s z) seen_found (λ s a. Finds s (literal z) (asks_literal s) a)
+  pub literal_found : (z : ℤ) → Reads (λ s. find_literal s z) seen (λ s a. Finds s (literal z) (asks_literal s) a)
   pub variable_found :
       (name : List ℕ) →
-      Reads (λ s. find_variable s name) seen_found (λ s a. Finds s (variable name) (asks_variable s name) a)
+      Reads (λ s. find_variable s name) seen (λ s a. Finds s (variable name) (asks_variable s name) a)
   pub application_found :
       (name ks : List ℕ) →
-      Reads (λ s. find_application s name ks) seen_found
+      Reads (λ s. find_application s name ks) seen
       (λ s a. Finds s (application name ks) (asks_application s name ks) a)
   -- The other calls that read, each refusal exactly when, and what they tell else.
-  pub sized : Reads size_of seen_count Sizes
-  pub compared : (i j : ℕ) → Reads (λ s. compare_terms s i j) seen_order (λ s a. Compares s i j a)
+  pub sized : Reads size_of seen Sizes
+  pub compared : (i j : ℕ) → Reads (λ s. compare_terms s i j) seen (λ s a. Compares s i j a)
   pub sorted : (l after : List ℕ) → Reads (λ s. sort_terms s l) (λ v. seen_sort v after) (λ s x. Sorting s l x)
   pub get_refused : (i : ℕ) → Reads (λ s. get_term s i) seen_got (λ s x. Gets s i x)
   -- What get gives is the lent record itself.
   pub got :
-      (ts : List Term) (ns : List (List ℕ)) (n m i : ℕ) (r : Got) →
+      (ts : List Term) (ns : List (List ℕ)) (n m i : ℕ) (r : Result Term Refusal) →
       Shaped ts ns →
       well_formed (lent_store ts ns n m) ≡ true →
       i < n →
@@ -141,6 +139,6 @@ pub record Promises : Type 1 where
       seen_got r ≡ (given tt, get_or ts i no_term)
   -- Any two results that a contract allows coincide: the answer, the records and the entries.
   pub add_determined :
-      (ts ts' ts'' : List Term) (ns ns' ns'' : List (List ℕ)) (n m : ℕ) (wanted : Answer ℕ × Store) (r r' : Added) →
+      (ts ts' ts'' : List Term) (ns ns' ns'' : List (List ℕ)) (n m : ℕ) (wanted : Answer ℕ × Store) (r r' : Result Added Refusal) →
       LentAdded ts ns n m wanted r ts' ns' → LentAdded ts ns n m wanted r' ts'' ns'' →
       (r ≡ r') × ((ts' ≡ ts'') × (ns' ≡ ns''))

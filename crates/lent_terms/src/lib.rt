@@ -4,7 +4,8 @@
 #![tactic(auto)]
 
 ghost use Rattle.std.specs.Prelude.{◌≡◌};
-ghost use Rattle.term.specs.Answers.{seen_found, seen_count, seen_got, seen_order, seen_sort};
+ghost use Rattle.term_rules.specs.Lent.{store};
+ghost use Rattle.term.specs.Answers.{seen, seen_added, seen_got, seen_sort};
 ghost use Rattle.term.specs.Calls.{
   add_literal,
   add_variable,
@@ -18,75 +19,22 @@ ghost use Rattle.term.specs.Calls.{
   sort_terms,
 };
 ghost use Rattle.lent.specs.Records.{lent_store};
-ghost use Rattle.lent.specs.Copies.{Whole, store_in};
-ghost use Rattle.lent_terms.specs.Lists.{LentAdded, AddedIn};
+ghost use Rattle.lent_terms.specs.Lists.{LentAdded};
 
 use lent::Flat;
 use lent_entries::Name;
-use term::{Added, Compared, Counted, Got, Looked, Verdict};
+use refusal::Refusal;
+use std::cmp::Ordering;
+use term::Added;
+use term_add::store_mut::StoreMut;
 use term_rules::Term;
 
-// A call's own copy of the records after it, and what it answers.
-#[derive(Clone, Copy)]
-pub struct Adding {
-    pub flat: Flat,
-    pub added: Added,
-}
-
-fn size_in(f: Flat, ns: &[Name], terms: usize, symbols: usize) -> Counted
-    requires { Whole f }
-    ensures { seen_count result ≡ size_of (store_in f ns.now terms symbols) }
-{
-    let records = f.records;
-    let literals = f.literals;
-    let room = f.room;
-    let e = room * term_layout::WIDTH;
-    let mut names = [0u8; name::TABLE];
-    let k = lent_entries::load_names(ns, &mut names);
-    let b = k * name::WIDTH;
-    term::size(
-        &records[..e],
-        &literals[..room],
-        &names[..b],
-        terms,
-        symbols,
-    )
-}
-
 // How many terms there are.
-pub fn size(ts: &[Term], ns: &[Name], terms: usize, symbols: usize) -> Counted
-    ensures { seen_count result ≡ size_of (lent_store ts.now ns.now terms symbols) }
+pub fn size(ts: &[Term], ns: &[Name], terms: usize, symbols: usize) -> Result<usize, Refusal>
+    ensures { seen result ≡ size_of (lent_store ts.now ns.now terms symbols) }
 {
-    let f = lent::load(ts);
-    size_in(f, ns, terms, symbols)
-}
-
-fn add_literal_in(f: Flat, ns: &[Name], terms: usize, symbols: usize, literal: i64) -> Adding
-    requires { Whole f }
-    ensures { AddedIn f ns.now terms symbols (add_literal (store_in f ns.now terms symbols) literal) result
-        ns.now }
-{
-    let mut records = f.records;
-    let mut literals = f.literals;
-    let room = f.room;
-    let e = room * term_layout::WIDTH;
-    let mut names = [0u8; name::TABLE];
-    let k = lent_entries::load_names(ns, &mut names);
-    let b = k * name::WIDTH;
-    let added = term::add_literal(
-        &mut records[..e],
-        &mut literals[..room],
-        &names[..b],
-        terms,
-        symbols,
-        literal,
-    );
-    let flat = Flat {
-        records,
-        literals,
-        room,
-    };
-    Adding { flat, added }
+    let c = lent::copy_of(ts, ns);
+    term::size(&c.lent(terms, symbols))
 }
 
 // Gives the literal's number, and adds it if it is not there: `lit` of src/termdag.rs.
@@ -96,44 +44,85 @@ pub fn add_literal(
     terms: usize,
     symbols: usize,
     literal: i64,
-) -> Added
+) -> Result<Added, Refusal>
     ensures { LentAdded ts.old ns.now terms symbols
         (add_literal (lent_store ts.old ns.now terms symbols) literal) result ts.new
         ns.now }
 {
-    let f = lent::load(ts);
-    let w = add_literal_in(f, ns, terms, symbols, literal);
-    lent::unload(ts, w.flat);
-    w.added
-}
-
-fn add_variable_in(f: Flat, ns: &mut [Name], terms: usize, symbols: usize, name: &[u8]) -> Adding
-    requires { Whole f }
-    ensures { AddedIn f ns.old terms symbols
-        (add_variable (store_in f ns.old terms symbols) name.now) result ns.new }
-{
-    let mut records = f.records;
-    let mut literals = f.literals;
-    let room = f.room;
-    let e = room * term_layout::WIDTH;
-    let mut names = [0u8; name::TABLE];
-    let k = lent_entries::load_names(ns, &mut names);
-    let b = k * name::WIDTH;
-    let added = term::add_variable(
-        &mut records[..e],
+    let c = lent::copy_of(ts, ns);
+    let mut records = c.flat.records;
+    let mut literals = c.flat.literals;
+    let room = c.flat.room;
+    let added = term::add_literal_flat(
+        &mut records[..c.numbers],
         &mut literals[..room],
-        &mut names[..b],
+        &c.names[..c.bytes],
         terms,
         symbols,
-        name,
+        literal,
     );
-    lent_entries::unload_names(ns, &names);
     let flat = Flat {
         records,
         literals,
         room,
     };
-    Adding { flat, added }
+    lent::unload(ts, flat);
+    added
+}
+
+// Adds a variable to a store that lies in flat slices.
+fn variable_added(
+    records: &mut [u64],
+    literals: &mut [i64],
+    names: &mut [u8],
+    terms: usize,
+    symbols: usize,
+    name: &[u8],
+) -> Result<Added, Refusal>
+    ensures { seen_added result records.new literals.new names.new terms symbols
+        ≡ add_variable (store records.old literals.old names.old terms symbols) name.now }
+{
+    let mut store = StoreMut {
+        records,
+        literals,
+        names,
+        terms,
+        symbols,
+    };
+    let term = term::add_variable(&mut store, name)?;
+    Ok(Added {
+        term,
+        terms: store.terms,
+        symbols: store.symbols,
+    })
+}
+
+// The same of an application.
+fn application_added(
+    records: &mut [u64],
+    literals: &mut [i64],
+    names: &mut [u8],
+    terms: usize,
+    symbols: usize,
+    name: &[u8],
+    children: &[u64],
+) -> Result<Added, Refusal>
+    ensures { seen_added result records.new literals.new names.new terms symbols
+        ≡ add_application (store records.old literals.old names.old terms symbols) name.now children.now }
+{
+    let mut store = StoreMut {
+        records,
+        literals,
+        names,
+        terms,
+        symbols,
+    };
+    let term = term::add_application(&mut store, name, children)?;
+    Ok(Added {
+        term,
+        terms: store.terms,
+        symbols: store.symbols,
+    })
 }
 
 // Gives the variable's number, and adds it if it is not there: `var` of src/termdag.rs.
@@ -143,53 +132,32 @@ pub fn add_variable(
     terms: usize,
     symbols: usize,
     name: &[u8],
-) -> Added
+) -> Result<Added, Refusal>
     ensures { LentAdded ts.old ns.old terms symbols
         (add_variable (lent_store ts.old ns.old terms symbols) name.now) result
         ts.new ns.new }
 {
-    let f = lent::load(ts);
-    let w = add_variable_in(f, ns, terms, symbols, name);
-    lent::unload(ts, w.flat);
-    w.added
-}
-
-fn add_application_in(
-    f: Flat,
-    ns: &mut [Name],
-    terms: usize,
-    symbols: usize,
-    name: &[u8],
-    children: &[u64],
-) -> Adding
-    requires { Whole f }
-    ensures { AddedIn f ns.old terms symbols
-        (add_application (store_in f ns.old terms symbols) name.now children.now) result
-        ns.new }
-{
-    let mut records = f.records;
-    let mut literals = f.literals;
-    let room = f.room;
-    let e = room * term_layout::WIDTH;
-    let mut names = [0u8; name::TABLE];
-    let k = lent_entries::load_names(ns, &mut names);
-    let b = k * name::WIDTH;
-    let added = term::add_application(
-        &mut records[..e],
+    let c = lent::copy_of(ts, ns);
+    let mut records = c.flat.records;
+    let mut literals = c.flat.literals;
+    let mut names = c.names;
+    let room = c.flat.room;
+    let added = variable_added(
+        &mut records[..c.numbers],
         &mut literals[..room],
-        &mut names[..b],
+        &mut names[..c.bytes],
         terms,
         symbols,
         name,
-        children,
     );
-    lent_entries::unload_names(ns, &names);
     let flat = Flat {
         records,
         literals,
         room,
     };
-    Adding { flat, added }
+    lent::unload(ts, flat);
+    lent_entries::unload_names(ns, &names);
+    added
 }
 
 // Gives the application's number, and adds it if it is not there: `app` of src/termdag.rs.
@@ -200,106 +168,64 @@ pub fn add_application(
     symbols: usize,
     name: &[u8],
     children: &[u64],
-) -> Added
+) -> Result<Added, Refusal>
     ensures { LentAdded ts.old ns.old terms symbols
         (add_application (lent_store ts.old ns.old terms symbols) name.now
         children.now) result
         ts.new ns.new }
 {
-    let f = lent::load(ts);
-    let w = add_application_in(f, ns, terms, symbols, name, children);
-    lent::unload(ts, w.flat);
-    w.added
-}
-
-fn find_literal_in(f: Flat, ns: &[Name], terms: usize, symbols: usize, literal: i64) -> Looked
-    requires { Whole f }
-    ensures { seen_found result ≡ find_literal (store_in f ns.now terms symbols) literal }
-{
-    let records = f.records;
-    let literals = f.literals;
-    let room = f.room;
-    let e = room * term_layout::WIDTH;
-    let mut names = [0u8; name::TABLE];
-    let k = lent_entries::load_names(ns, &mut names);
-    let b = k * name::WIDTH;
-    term::find_literal(
-        &records[..e],
-        &literals[..room],
-        &names[..b],
-        terms,
-        symbols,
-        literal,
-    )
-}
-
-// The number of the literal.
-pub fn find_literal(ts: &[Term], ns: &[Name], terms: usize, symbols: usize, literal: i64) -> Looked
-    ensures { seen_found result
-        ≡ find_literal (lent_store ts.now ns.now terms symbols) literal }
-{
-    let f = lent::load(ts);
-    find_literal_in(f, ns, terms, symbols, literal)
-}
-
-fn find_variable_in(f: Flat, ns: &[Name], terms: usize, symbols: usize, name: &[u8]) -> Looked
-    requires { Whole f }
-    ensures { seen_found result ≡ find_variable (store_in f ns.now terms symbols) name.now }
-{
-    let records = f.records;
-    let literals = f.literals;
-    let room = f.room;
-    let e = room * term_layout::WIDTH;
-    let mut names = [0u8; name::TABLE];
-    let k = lent_entries::load_names(ns, &mut names);
-    let b = k * name::WIDTH;
-    term::find_variable(
-        &records[..e],
-        &literals[..room],
-        &names[..b],
-        terms,
-        symbols,
-        name,
-    )
-}
-
-// The number of the variable.
-pub fn find_variable(ts: &[Term], ns: &[Name], terms: usize, symbols: usize, name: &[u8]) -> Looked
-    ensures { seen_found result
-        ≡ find_variable (lent_store ts.now ns.now terms symbols) name.now }
-{
-    let f = lent::load(ts);
-    find_variable_in(f, ns, terms, symbols, name)
-}
-
-fn find_application_in(
-    f: Flat,
-    ns: &[Name],
-    terms: usize,
-    symbols: usize,
-    name: &[u8],
-    children: &[u64],
-) -> Looked
-    requires { Whole f }
-    ensures { seen_found result ≡ find_application (store_in f ns.now terms symbols) name.now
-        children.now }
-{
-    let records = f.records;
-    let literals = f.literals;
-    let room = f.room;
-    let e = room * term_layout::WIDTH;
-    let mut names = [0u8; name::TABLE];
-    let k = lent_entries::load_names(ns, &mut names);
-    let b = k * name::WIDTH;
-    term::find_application(
-        &records[..e],
-        &literals[..room],
-        &names[..b],
+    let c = lent::copy_of(ts, ns);
+    let mut records = c.flat.records;
+    let mut literals = c.flat.literals;
+    let mut names = c.names;
+    let room = c.flat.room;
+    let added = application_added(
+        &mut records[..c.numbers],
+        &mut literals[..room],
+        &mut names[..c.bytes],
         terms,
         symbols,
         name,
         children,
-    )
+    );
+    let flat = Flat {
+        records,
+        literals,
+        room,
+    };
+    lent::unload(ts, flat);
+    lent_entries::unload_names(ns, &names);
+    added
+}
+
+// The number of the literal.
+pub fn find_literal(
+    ts: &[Term],
+    ns: &[Name],
+    terms: usize,
+    symbols: usize,
+    literal: i64,
+) -> Result<usize, Refusal>
+    ensures { seen result
+        ≡ find_literal (lent_store ts.now ns.now terms symbols) literal }
+{
+    let c = lent::copy_of(ts, ns);
+    term::find_literal(&c.lent(terms, symbols), literal)
+}
+
+// The number of the variable.
+pub fn find_variable(
+    ts: &[Term],
+    ns: &[Name],
+    terms: usize,
+    symbols: usize,
+    name: &[u8],
+) -> Result<usize, Refusal>
+    ensures { seen result
+        ≡ find_variable (lent_store ts.now ns.now terms symbols) name.now }
+{
+    let c = lent::copy_of(ts, ns);
+    term::find_variable(&c.lent(terms, symbols), name)
 }
 
 // The number of the application.
@@ -310,64 +236,27 @@ pub fn find_application(
     symbols: usize,
     name: &[u8],
     children: &[u64],
-) -> Looked
-    ensures { seen_found result
+) -> Result<usize, Refusal>
+    ensures { seen result
         ≡ find_application (lent_store ts.now ns.now terms symbols) name.now
         children.now }
 {
-    let f = lent::load(ts);
-    find_application_in(f, ns, terms, symbols, name, children)
-}
-
-fn get_in(f: Flat, ns: &[Name], terms: usize, symbols: usize, i: usize) -> Got
-    requires { Whole f }
-    ensures { seen_got result ≡ get_term (store_in f ns.now terms symbols) i }
-{
-    let records = f.records;
-    let literals = f.literals;
-    let room = f.room;
-    let e = room * term_layout::WIDTH;
-    let mut names = [0u8; name::TABLE];
-    let k = lent_entries::load_names(ns, &mut names);
-    let b = k * name::WIDTH;
-    term::get(
-        &records[..e],
-        &literals[..room],
-        &names[..b],
-        terms,
-        symbols,
-        i,
-    )
+    let c = lent::copy_of(ts, ns);
+    term::find_application(&c.lent(terms, symbols), name, children)
 }
 
 // Term `i`.
-pub fn get(ts: &[Term], ns: &[Name], terms: usize, symbols: usize, i: usize) -> Got
+pub fn get(
+    ts: &[Term],
+    ns: &[Name],
+    terms: usize,
+    symbols: usize,
+    i: usize,
+) -> Result<Term, Refusal>
     ensures { seen_got result ≡ get_term (lent_store ts.now ns.now terms symbols) i }
 {
-    let f = lent::load(ts);
-    get_in(f, ns, terms, symbols, i)
-}
-
-fn compare_in(f: Flat, ns: &[Name], terms: usize, symbols: usize, i: usize, j: usize) -> Compared
-    requires { Whole f }
-    ensures { seen_order result ≡ compare_terms (store_in f ns.now terms symbols) i j }
-{
-    let records = f.records;
-    let literals = f.literals;
-    let room = f.room;
-    let e = room * term_layout::WIDTH;
-    let mut names = [0u8; name::TABLE];
-    let k = lent_entries::load_names(ns, &mut names);
-    let b = k * name::WIDTH;
-    term::compare(
-        &records[..e],
-        &literals[..room],
-        &names[..b],
-        terms,
-        symbols,
-        i,
-        j,
-    )
+    let c = lent::copy_of(ts, ns);
+    term::get(&c.lent(terms, symbols), i)
 }
 
 // How term `i` stands to term `j` in the order of terms.
@@ -378,41 +267,25 @@ pub fn compare(
     symbols: usize,
     i: usize,
     j: usize,
-) -> Compared
-    ensures { seen_order result
+) -> Result<Ordering, Refusal>
+    ensures { seen result
         ≡ compare_terms (lent_store ts.now ns.now terms symbols) i j }
 {
-    let f = lent::load(ts);
-    compare_in(f, ns, terms, symbols, i, j)
-}
-
-fn sort_in(f: Flat, ns: &[Name], terms: usize, symbols: usize, list: &mut [u64]) -> Verdict
-    requires { Whole f }
-    ensures { seen_sort result list.new
-        ≡ sort_terms (store_in f ns.now terms symbols) list.old }
-{
-    let records = f.records;
-    let literals = f.literals;
-    let room = f.room;
-    let e = room * term_layout::WIDTH;
-    let mut names = [0u8; name::TABLE];
-    let k = lent_entries::load_names(ns, &mut names);
-    let b = k * name::WIDTH;
-    term::sort(
-        &records[..e],
-        &literals[..room],
-        &names[..b],
-        terms,
-        symbols,
-        list,
-    )
+    let c = lent::copy_of(ts, ns);
+    term::compare(&c.lent(terms, symbols), i, j)
 }
 
 // Sorts a list of terms of any length, and keeps repeats: `sort_terms_by_ast` of src/termdag.rs.
-pub fn sort(ts: &[Term], ns: &[Name], terms: usize, symbols: usize, list: &mut [u64]) -> Verdict
+pub fn sort(
+    ts: &[Term],
+    ns: &[Name],
+    terms: usize,
+    symbols: usize,
+    list: &mut [u64],
+) -> Result<(), Refusal>
     ensures { seen_sort result list.new
         ≡ sort_terms (lent_store ts.now ns.now terms symbols) list.old }
 {
-    let f = lent::load(ts);
-    sort_in(f, ns, terms, symbols, list)
+    let c = lent::copy_of(ts, ns);
+    term::sort(&c.lent(terms, symbols), list)
 }

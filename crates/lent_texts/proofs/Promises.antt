@@ -2,9 +2,10 @@
 use Prim.Native.Nat.{ℕ}
 use mathlib.Core.Path.{◌≡◌, ap, sym, ◌∙◌}
 use mathlib.Core.List.{List}
+use Rattle.std.specs.Prelude.{Result}
 use Rattle.term_rules.specs.Lent.{Store}
 use Rattle.text_rules.specs.LetText.{Naming}
-use Rattle.text_whole.specs.declared.Text.{Text}
+use Rattle.refusal.specs.declared.Refusal.{Refusal}
 use Rattle.text_whole.specs.declared.LetText.{LetText}
 use Rattle.text_whole.specs.Placed.{Answer, Told, told, answer_of}
 use Rattle.text.specs.Told.{plain_told}
@@ -19,7 +20,7 @@ same-told : {A : Type 0} (a b : A) (o p : List ℕ) → told a o ≡ told b p �
 same-told {A} a b o p e = (ap (λ (x : Told A). x.answer) e, ap (λ (x : Told A). x.out) e)
 
 plain-cases :
-    (s : Store) (t : ℕ) (out : List ℕ) (r : Text) (after : List ℕ) →
+    (s : Store) (t : ℕ) (out : List ℕ) (r : Result ℕ Refusal) (after : List ℕ) →
     told (answer_of r) after ≡ plain_told s t out →
     PlainCases s t out r after
 plain-cases s t out r after e =
@@ -33,7 +34,7 @@ plain-cases s t out r after e =
     }
 
 let-cases :
-    (s : Store) (nm : Naming) (t : ℕ) (out : List ℕ) (r : LetText) (after : List ℕ) →
+    (s : Store) (nm : Naming) (t : ℕ) (out : List ℕ) (r : Result LetText Refusal) (after : List ℕ) →
     told (let_answer_of r) after ≡ let_told s nm t out →
     LetCases s nm t out r after
 let-cases s nm t out r after e =

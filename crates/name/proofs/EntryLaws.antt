@@ -5,8 +5,11 @@ use mathlib.Core.Bool.{true, false}
 use mathlib.Core.List.{List, [], ◌∷◌, ◌++◌, append_assoc}
 use native.Mathlib.Nat.{add-zero, mul-div_left}
 use native.Mathlib.Omega.{arith}
-use lib.ListN.{length, get_or, take, drop, replicate, length-append, length-replicate, get_or-append}
+use lib.ListN.{length, get_or, set, take, drop, replicate, length-append, length-replicate}
 use lib.Seq.{get_or-append-add, get_or-take, get_or-drop, take-take, take-append_seam, drop-drop}
+use Rattle.std.specs.Prelude.{Some, None}
+use borrow.Rule.Slice.PartMut.{put_mid, post_of}
+use Rattle.std.proofs.lemmas.List.{drop-replicate}
 use Rattle.name.specs.Name.{same}
 use Rattle.name.specs.Entries.{
   entry_width,
@@ -21,24 +24,22 @@ use Rattle.name.specs.Entries.{
   find_from,
   find_name,
 }
-use Rattle.name.specs.declared.Found.TheVariants.{At, Missing}
 
 pub entry_length : (name : List ℕ) → length name ≤ 31 → length (entry name) ≡ entry_width
 unfolding entry
 entry_length name h = simp (length-append, length-replicate) (omega arith)
 
+-- an entry is made of 32 zeros, into which the length and the name are written
+pub entry-made : (name ys : List ℕ) → length name ≤ 31 → ys ≡ name
+    → put_mid 1 (length name + 1 - 1) (set (replicate 32 0) 0 (length name)) ys ≡ entry name
+unfolding entry
+entry-made name ys h e =
+    let k : length name + 1 - 1 ≡ length name = omega arith in
+    rw (e, k, post_of) (ap (λ (zs : List ℕ). length name ∷ (name ++ zs)) (drop-replicate (length name) 31 0))
+
 pub entry-length-get : (name : List ℕ) (j : ℕ) → j ≡ 0 → get_or (entry name) j 0 ≡ length name
 unfolding entry
 entry-length-get name j e = rw e
-
-pub entry-byte-get : (name : List ℕ) (j : ℕ) → (j ≡ 0 → ⊥) → j - 1 < length name
-    → get_or (entry name) j 0 ≡ get_or name (j - 1) 0
-unfolding entry
-entry-byte-get name zero n h = absurd (n refl)
-entry-byte-get name (suc j) n h =
-    let e : suc j - 1 ≡ j = omega arith in
-    let k : j < length name = omega arith in
-    rw e (get_or-append name (replicate (31 - length name) 0) 0 j k)
 
 pub entry-past-get : (name : List ℕ) (j : ℕ) → (j ≡ 0 → ⊥) → length name ≤ j - 1 → get_or (entry name) j 0 ≡ 0
 unfolding entry
@@ -103,7 +104,7 @@ pub entry_room-whole : (n : ℕ) → entry_room (entries_length n) ≡ n
 entry_room-whole n = mul-div_left n (omega arith)
 
 module _ (table name : List ℕ) where
-  pub find_from-here : (k n : ℕ) → k < n → same (name_at table k) name ≡ true → find_from table name k (n - k) ≡ At k
+  pub find_from-here : (k n : ℕ) → k < n → same (name_at table k) name ≡ true → find_from table name k (n - k) ≡ Some k
   unfolding find_from
   find_from-here k n h e = let m : n - k ≡ suc (n - k - 1) = omega arith in rw (m, find_from) (rw e)
 
@@ -117,7 +118,7 @@ module _ (table name : List ℕ) where
       let m : n - k ≡ suc (n - (k + 1)) = omega arith in
       sym (rw (m, find_from) (rw e))
 
-  pub find_from-end : (k n : ℕ) → n ≤ k → find_from table name k (n - k) ≡ Missing
+  pub find_from-end : (k n : ℕ) → n ≤ k → find_from table name k (n - k) ≡ None
   unfolding find_from
   find_from-end k n h = let m : n - k ≡ 0 = omega arith in rw m
 

@@ -4,8 +4,7 @@
 use Rattle.std.specs.Prelude.{ℕ, zero, suc, ◌+◌, ◌*◌, ◌-◌, ◌/◌, ◌≤◌, ◌<◌, true, false, List, ◌∷◌, ◌++◌, length, get_or, take, drop, replicate}
 use Rattle.std.proofs.Math.Seq.{paste}
 use Rattle.name.specs.Name.{same}
-use Rattle.name.specs.declared.Found.{Found}
-use Rattle.name.specs.declared.Found.TheVariants.{At, Missing}
+use Rattle.std.specs.Prelude.{Option, Some, None}
 
 -- the bytes of an entry: a name's length and at most 31 bytes
 abbrev pub entry_width : ℕ
@@ -65,13 +64,13 @@ unfoldable pub put_name : List ℕ → ℕ → List ℕ → List ℕ
 put_name table k name = put_entry table k (entry name)
 
 -- the first of n entries, from entry k on, that has the name
-unfoldable pub find_from : List ℕ → List ℕ → ℕ → ℕ → Found
-find_from table name k zero = Missing
+unfoldable pub find_from : List ℕ → List ℕ → ℕ → ℕ → Option ℕ
+find_from table name k zero = None
 find_from table name k (suc n) =
-    elim (same (name_at table k) name) [ true ↦ At k | false ↦ find_from table name (k + 1) n ]
+    elim (same (name_at table k) name) [ true ↦ Some k | false ↦ find_from table name (k + 1) n ]
 
 -- the first of the first n entries that has the name
-unfoldable pub find_name : List ℕ → ℕ → List ℕ → Found
+unfoldable pub find_name : List ℕ → ℕ → List ℕ → Option ℕ
 find_name table n name = find_from table name 0 n
 
 -- entry k stands in the table, with a name of at most 31 bytes

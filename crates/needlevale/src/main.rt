@@ -1,11 +1,10 @@
-// Document 01's program: a query and a table file on standard input, the answer on standard output.
-// The buffer has a place more than the 21,388 bytes that an input can have without being refused. What it holds has
-// the answer of the whole input: `same_reply` of program_rules/specs/Promises.antt. An input that cannot be read to its
-// end gets no answer, and an answer that cannot be written is lost: either is said on standard error, and the exit status
-// is 0 then too.
+// Document 01's program: a query and a table file on standard input, the answer on standard output. The buffer has a
+// place more than the 21,388 bytes that an input can have without being refused. What it holds has the answer of the
+// whole input: `same_reply` of program_rules/specs/Promises.antt. An input that cannot be read to its end gets no
+// answer, and an answer that cannot be written is lost: either is said on standard error, and the exit status is 0
+// then too.
 #![tactic(auto)]
 
-use program_rules::replies::Answered;
 use std::io::Read;
 
 // Whether a read says that the input has ended: `input::read_full` stops in the same way where a read fails.
@@ -32,14 +31,10 @@ fn main(rt: HostRuntime) {
         }
     }
     let mut out = [0u8; 16384];
-    let answered = program::respond(&input[..n], &mut out);
-    match answered {
-        Answered::Written(k) => {
-            if rt.write_all(&out[..k]).is_err() {
-                complain(&rt, "needlevale: standard output cannot be written\n");
-            }
+    // No refusal: the buffer has room for every output.
+    if let Ok(k) = program::respond(&input[..n], &mut out) {
+        if rt.write_all(&out[..k]).is_err() {
+            complain(&rt, "needlevale: standard output cannot be written\n");
         }
-        // None: the buffer has room for every output.
-        Answered::Refused(_) => {}
     }
 }

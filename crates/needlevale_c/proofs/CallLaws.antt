@@ -3,12 +3,12 @@ use mathlib.Core.Path.{◌≡◌, refl, sym, ap, subst, ◌∙◌}
 use mathlib.Core.List.{List}
 use Prim.Native.Nat.{ℕ}
 use lib.IntN.{ℤ, pos}
-use Rattle.order.specs.declared.Ordering.{Ordering}
+use Rattle.std.specs.declared.cmp.Ordering.{Ordering}
 use Rattle.order.specs.Sort.{SameCounts, Sorted}
 use Rattle.term_rules.specs.Lent.{Store, record_at}
 use Rattle.term_rules.specs.Nodes.{Node, literal, variable, application}
 use Rattle.term_order.specs.TreeOrder.{compare_at, at_most}
-use Rattle.term.specs.Answers.{Answer, given, refused}
+use Rattle.term.specs.Answers.{Answer, given, refused, zero_record}
 use Rattle.term.specs.Orders.{Telling}
 use Rattle.term.specs.Outcomes.{Finds, IsTerm, asks_literal, asks_variable, asks_application}
 use Rattle.term.specs.Calls.{
@@ -16,7 +16,6 @@ use Rattle.term.specs.Calls.{
   find_variable,
   find_application,
   size_of,
-  zero_record,
   get_term,
   compare_terms,
   sort_terms,

@@ -6,7 +6,7 @@ use lib.IntN.{ℤ, pos, negsuc, neg_ℤ, nat_abs}
 use Rattle.refusal.specs.declared.Refusal.{Refusal}
 use Rattle.refusal.specs.Numbers.{refusal_no}
 use Rattle.refusal.proofs.NumberLaws.{number-once}
-use Rattle.program_rules.proofs.replies.KnownLaws.{in_table}
+use Rattle.program_rules.proofs.Replies.KnownLaws.{in_table}
 use Rattle.c_told.specs.Below.{below_zero}
 
 sign : ℤ → ℕ

@@ -10,8 +10,7 @@ use lib.ListN.{length}
 use Rattle.refusal.specs.declared.Refusal.{Refusal}
 use Rattle.refusal.specs.declared.Refusal.TheVariants.{NoRoom}
 use Rattle.refusal.specs.Answer.{Answer, value, refusal, refuse}
-use Rattle.name.specs.declared.Found.{Found}
-use Rattle.name.specs.declared.Found.TheVariants.{At, Missing}
+use Rattle.std.specs.Prelude.{Option, Some, None}
 use Rattle.term_rules.specs.Lent.{Store}
 use Rattle.term_rules.specs.Nodes.{literal, node_at, same_node}
 use Rattle.term_rules.specs.Adding.{Adds, at, no_room, add, append, with_record, find_term, room_for}
@@ -19,7 +18,7 @@ use Rattle.term_rules.proofs.SearchLaws.{first-at}
 use Rattle.term.specs.Answers as terms
 use Rattle.term.specs.Calls.{Faults, fine, fault, literal_faults, adding, added, add_literal}
 use Rattle.program_rules.specs.Reply.{answer_to, in_room, put_in, replied}
-use Rattle.program_rules.proofs.replies.KnownLaws.{Known, answer-known, room-known}
+use Rattle.program_rules.proofs.Replies.KnownLaws.{Known, answer-known, room-known}
 use Rattle.c_told.specs.Below.{below_zero}
 use Rattle.needlevale_c.specs.Coded.{coded, Replies, coded_term, Adds as Wanted}
 use Rattle.needlevale_c.specs.Promises.{ReplyTold, AddTold, Counts}
@@ -61,21 +60,21 @@ module _ (s : Store) (v : ℤ) where
   missing-counts false = tt
 
   found-counts :
-      (f : Found) →
+      (f : Option ℕ) →
       find_term s (literal v) ≡ f →
       OnAdds
       (elim f [
-        | At i ↦ at i s
-        | Missing ↦ elim (room_for s (literal v)) [
+        | Some i ↦ at i s
+        | None ↦ elim (room_for s (literal v)) [
           | true ↦ at s.terms (append s (literal v))
           | false ↦ no_room
         ]
       ])
   unfolding OnAdds find_term
-  found-counts (At i) e =
+  found-counts (Some i) e =
       let found = first-at (λ (j : ℕ). same_node (node_at s j) (literal v)) s.terms 0 i e in
       inl (omega (arith, found.1), refl)
-  found-counts Missing e = missing-counts (room_for s (literal v))
+  found-counts None e = missing-counts (room_for s (literal v))
 
   add-counts : OnAdds (add s (literal v))
   unfolding add

@@ -9,8 +9,7 @@ use lib.IntN.{ℤ, pos, neg_ℤ}
 use Rattle.refusal.specs.declared.Refusal.{Refusal}
 use Rattle.refusal.specs.declared.Refusal.TheVariants.{Absent}
 use Rattle.refusal.specs.Numbers.{refusal_no}
-use Rattle.name.specs.declared.Found.{Found}
-use Rattle.name.specs.declared.Found.TheVariants.{At, Missing}
+use Rattle.std.specs.Prelude.{Option, Some, None}
 use Rattle.term_rules.specs.Lent.{Store}
 use Rattle.term_rules.specs.Nodes.{Node}
 use Rattle.term_rules.specs.Adding.{find_term}
@@ -96,10 +95,10 @@ tells told nothing (refused k) s v asked Good known h refuses good = record {
 }
 
 -- ---- the answers of the calls are known
-found-known : (f : Found) → Known (found f)
+found-known : (f : Option ℕ) → Known (found f)
 unfolding Known found
-found-known (At i) = tt
-found-known Missing = (Absent, refl)
+found-known (Some i) = tt
+found-known None = (Absent, refl)
 
 finding-known : (s : Store) (node : Node) (f : Faults) → Known (finding s node f)
 unfolding Known finding

@@ -17,7 +17,7 @@ use Rattle.answer_rules.specs.Answers.{After}
 use Rattle.answer_rules.specs.Best.{BestTerm, best_at}
 use Rattle.answer_rules.specs.Variants.{Kept, VariantsAfter, Lending, variants_at}
 use Rattle.variant_answers.specs.Kept.{lending}
-use Rattle.program_rules.proofs.replies.KnownLaws.{Known, best-known, variants-known}
+use Rattle.program_rules.proofs.Replies.KnownLaws.{Known, best-known, variants-known}
 use Rattle.extract.proofs.Promises.{promises as flat}
 use Rattle.c_told.specs.Below.{below_zero}
 use Rattle.c_told.specs.Texts.{coded_text, let_coded}

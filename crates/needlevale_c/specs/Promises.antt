@@ -6,6 +6,7 @@ use Rattle.std.specs.Prelude.{ℕ, ◌+◌, ◌<◌, ◌≡◌, List, ◌⊎◌,
 use Rattle.refusal.specs.declared.Refusal.{Refusal}
 use Rattle.term_rules.specs.Lent.{Store, record_at}
 use Rattle.term.specs.Answers as terms
+use Rattle.term.specs.Answers.{zero_record}
 use Rattle.term.specs.Calls.{
   add_literal,
   add_variable,
@@ -14,7 +15,6 @@ use Rattle.term.specs.Calls.{
   find_variable,
   find_application,
   size_of,
-  zero_record,
   get_term,
   compare_terms,
   sort_terms,

@@ -15,8 +15,6 @@ ghost use Rattle.needlevale_c.specs.Coded.{Replies, Adds};
 
 use c_told::files::Shape;
 use c_told::{codes, files};
-use program_rules::replies::Answered;
-use term::Added;
 
 pub mod texts; // texts.rt: both texts on an array of term structs
 pub mod choices; // choices.rt: best and variants on an array of term structs
@@ -36,10 +34,9 @@ pub extern "C" fn needlevale_version() -> u64
 pub extern "C" fn needlevale_answer(input: &[u8], output: &mut [u8]) -> i64
     ensures { Replies (replied input.now output.old) result output.new }
 {
-    let answered = program::answer(input, output);
-    match answered {
-        Answered::Written(n) => n as i64,
-        Answered::Refused(r) => codes::below_zero(r),
+    match program::answer(input, output) {
+        Ok(n) => n as i64,
+        Err(r) => codes::below_zero(r),
     }
 }
 
@@ -65,9 +62,8 @@ pub extern "C" fn needlevale_add_literal_flat(
         (add_literal (store records.old literals.old names.now terms symbols) value)
         result records.new literals.new }
 {
-    let added = term::add_literal(records, literals, names, terms, symbols, value);
-    match added {
-        Added::Term(i, _, _) => i as i64,
-        Added::Refused(r) => codes::below_zero(r),
+    match term::add_literal_flat(records, literals, names, terms, symbols, value) {
+        Ok(added) => added.term as i64,
+        Err(r) => codes::below_zero(r),
     }
 }

@@ -29,7 +29,7 @@ pub extern "C" fn needlevale_size(ts: &[Term], ns: &[Name], terms: usize, symbol
     ensures { result ≡ number_of (size_of (lent_store ts.now ns.now terms symbols)) }
 {
     let r = lent_terms::size(ts, ns, terms, symbols);
-    terms::told_count(r)
+    terms::told_number(r)
 }
 
 // Term `i`: its record, or zeros.
@@ -91,7 +91,7 @@ pub extern "C" fn needlevale_find_literal(
     ensures { result ≡ number_of (find_literal (lent_store ts.now ns.now terms symbols) literal) }
 {
     let r = lent_terms::find_literal(ts, ns, terms, symbols, literal);
-    terms::told_found(r)
+    terms::told_number(r)
 }
 
 // The number of the variable.
@@ -106,7 +106,7 @@ pub extern "C" fn needlevale_find_variable(
     ensures { result ≡ number_of (find_variable (lent_store ts.now ns.now terms symbols) name.now) }
 {
     let r = lent_terms::find_variable(ts, ns, terms, symbols, name);
-    terms::told_found(r)
+    terms::told_number(r)
 }
 
 // The number of the application.
@@ -123,7 +123,7 @@ pub extern "C" fn needlevale_find_application(
         children.now) }
 {
     let r = lent_terms::find_application(ts, ns, terms, symbols, name, children);
-    terms::told_found(r)
+    terms::told_number(r)
 }
 
 // Gives the literal's number, and adds it if it is not there.

@@ -1,10 +1,11 @@
 // The edge of each class, in one walk over the rows (src/extract.rs: save_best_parent_edge of bellman_ford).
-ghost use Rattle.std.specs.Prelude.{◌≡◌, map, ◌<◌, length, replicate};
+ghost use Rattle.std.specs.Prelude.{◌≡◌, map, ◌<◌, length};
 ghost use Rattle.choice_rules.specs.Rows.{all_of};
 ghost use Rattle.choice_rules.specs.Edges.{below, is_edge, edges_of};
-ghost use Rattle.price_passes.specs.Flat.{top, child_of, row_of, rows_of, ChildrenIn, FlatOk};
+ghost use Rattle.price_passes.specs.Flat.{top, child_of, row_of, flat_of, ChildrenIn, FlatIn};
 ghost use Rattle.price.specs.Marks.{marked};
 
+use price_passes::flat::Rows;
 use price_passes::{children, rows};
 
 // Whether every child's rank is strictly below b (src/extract.rs: compute_topo_rnk_hyperedge, compared).
@@ -12,15 +13,7 @@ fn all_below(ranks: &[u64], b: u64, kids: &[u64]) -> bool
     requires { ChildrenIn (length ranks.now) kids.now }
     ensures { result ≡ all_of (below b ranks.now) (map child_of kids.now) }
 {
-    let mut i = 0;
-    while i < kids.len() {
-        let rank = children::rank(ranks, kids[i]);
-        if rank >= b {
-            return false;
-        }
-        i += 1;
-    }
-    true
+    kids.iter().all(|child| children::rank(ranks, *child) < b)
 }
 
 // Whether a row can be the edge of its class.
@@ -68,41 +61,21 @@ fn mark(
     }
 }
 
-// No class has an edge.
-fn clear(edges: &mut [u16], none: u16)
-    ensures { edges.new ≡ replicate (length edges.old) none }
-{
-    let mut c = 0;
-    while c < edges.len() {
-        edges[c] = none;
-        c += 1;
-    }
-}
-
 // The edges of all classes; the number of rows where a class has none.
-pub fn fill(
-    edges: &mut [u16],
-    costs: &[u64],
-    ranks: &[u64],
-    outputs: &[u64],
-    heads: &[u64],
-    starts: &[usize],
-    children: &[u64],
-)
+pub fn fill(edges: &mut [u16], costs: &[u64], ranks: &[u64], rows: &Rows)
     requires edges_len { length edges.old ≡ length ranks.now }
     requires costs_len { length costs.now ≡ length ranks.now }
-    requires flat_ok { FlatOk (length ranks.now) outputs.now heads.now starts.now children.now }
+    requires flat_ok { FlatIn (length ranks.now) rows.now }
     ensures { edges.new ≡ edges_of top costs.now ranks.now
-        (rows_of outputs.now heads.now starts.now children.now) }
+        (flat_of rows.now) }
 {
-    let none = outputs.len() as u16;
-    clear(edges, none);
-    let mut i = 0;
-    while i < outputs.len() {
-        let output = outputs[i] as usize;
-        let head = heads[i];
-        let a = starts[i];
-        let e = starts[i + 1];
+    let none = rows.outputs.len() as u16;
+    edges.fill(none);
+    for i in 0..rows.outputs.len() {
+        let output = rows.outputs[i] as usize;
+        let head = rows.heads[i];
+        let a = rows.starts[i];
+        let e = rows.starts[i + 1];
         mark(
             edges,
             none,
@@ -111,8 +84,7 @@ pub fn fill(
             ranks,
             output,
             head,
-            &children[a..e],
+            &rows.children[a..e],
         );
-        i += 1;
     }
 }

@@ -4,8 +4,8 @@ use mathlib.Core.List.{List}
 use Prim.Native.Nat.{ℕ, suc, ◌+◌, ◌≤◌, ◌<◌}
 use native.Mathlib.Omega.{arith}
 use native.Mathlib.Numerals.{add-one}
-use native.Mathlib.Decide.{ℕ_discrete}
-use lib.ListN.{length, get_or, set}
+use native.Mathlib.Decide.{ℕ_discrete, dec_lt}
+use lib.ListN.{length, get_or, set, length-set}
 use lib.Seq.{get_or-set_same, get_or-set_other}
 use Rattle.price_marks.specs.Links.{Meets, here, there, Chains, Joined}
 
@@ -79,3 +79,18 @@ joins-no-chain child p first next h = record { literal = λ k. (refl, refl); cla
 pub joins-its-chain : (child p : ℕ) (first next : List ℕ) → child < 512
     → Joined child p first next (set first child (p + 1)) (set next p (get_or first child 0))
 joins-its-chain child p first next h = record { literal = λ k. absurd (omega arith); class = λ k. (refl, refl) }
+
+-- there are as many places as before
+pub joined-sizes : (child p : ℕ) (first₀ next₀ first next : List ℕ) → Joined child p first₀ next₀ first next
+    → (length first ≡ length first₀) × (length next ≡ length next₀)
+joined-sizes child p first₀ next₀ first next j = go (dec_lt child 512)
+  where
+    go : Dec (child < 512) → (length first ≡ length first₀) × (length next ≡ length next₀)
+    go (yes h) =
+        let q = j.class h in (
+          ap (λ (x : List ℕ). length x) q.0 ∙ length-set first₀ child (p + 1),
+          ap (λ (x : List ℕ). length x) q.1 ∙ length-set next₀ p (get_or first₀ child 0),
+        )
+    go (no h) =
+        let q = j.literal (omega arith) in
+        (ap (λ (x : List ℕ). length x) q.0, ap (λ (x : List ℕ). length x) q.1)

@@ -67,15 +67,6 @@ module _ (next owner : List ℕ) (h : ℕ) (marks₀ blocks₀ : List ℕ) where
       let e : g ≡ g - 1 + 1 = omega arith in
       down_step (g - 1) marks blocks ok (omega (arith, v.low)) (subst (λ (k : ℕ). DownTo k marks blocks) e v)
 
-  -- the row that is marked next
-  pub down-asks : (g : ℕ) (marks blocks : List ℕ) → LinksOk next owner h → 0 < g → DownTo g marks blocks
-      → (get_or owner (g - 1) 0 < length marks)
-      × ((get_or owner (g - 1) 0 / 32 < length blocks) × (get_or next (g - 1) 0 < g))
-  down-asks g marks blocks ok z v = (
-    omega (arith, v.room.marks_room, ok.owner_low (g - 1)),
-    (omega (arith, v.room.blocks_room, ok.owner_low (g - 1)), omega (arith, ok.next_low (g - 1))),
-  )
-
   pub down_ends : (g : ℕ) (marks blocks : List ℕ) → g ≤ 0 → DownTo g marks blocks
       → MarkedFrom next owner h marks₀ blocks₀ marks blocks
   down_ends g marks blocks z v = record {

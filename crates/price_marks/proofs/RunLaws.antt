@@ -8,9 +8,11 @@ use lib.ListN.{length, replicate, get_or-replicate, length-replicate}
 use Rattle.choice_rules.specs.Rows.{Row}
 use Rattle.choice_rules.specs.Run.{State, run}
 use Rattle.choice_rules.proofs.ListLaws.{replicate-get}
-use Rattle.price_passes.specs.Flat.{top, rows_of, FlatOk, Fresh, state_of, ran_to}
+use Rattle.price_passes.specs.declared.flat.Rows.{Rows}
+use Rattle.price_passes.specs.Flat.{top, flat_of, FlatIn, Fresh, state_of, ran_to}
 use Rattle.price_passes.proofs.FlatLaws.{rows-length}
 use Rattle.price_passes.proofs.RepeatLaws.{Repeated, repeat-begins, repeat-asks, repeat-goes-on, repeat-ends}
+use Rattle.price_marks.specs.declared.users.Users.{Users}
 use Rattle.price_marks.specs.Marks.{Off, Room, Covered}
 use Rattle.price_marks.specs.Links.{PartsOk, LinkRoom, NoLinks, Index}
 use Rattle.price_marks.specs.Passes.{Ready, Passed}
@@ -27,38 +29,38 @@ pub going-begins : (rows : List Row) (costs ranks marks blocks : List ℕ) → F
 going-begins rows costs ranks marks blocks z v room =
     record { repeated = repeat-begins rows costs ranks z; covered = v; room = room }
 
-module _ (n : ℕ) (outputs heads starts children first next owner : List ℕ)
-    (ok : Ready n outputs heads starts children first next owner) where
+module _ (n : ℕ) (r : Rows) (us : Users)
+    (ok : Ready n r us) where
   abbrev flat : List Row
-  flat = rows_of outputs heads starts children
+  flat = flat_of r
 
   module _ (s : State) (p : ℕ) (marks blocks : List ℕ) (v : Going flat n s p marks blocks) where
     -- what the next pass asks
-    pub going-asks : (s.last + length outputs < top)
+    pub going-asks : (s.last + length r.outputs.now < top)
         × ((length s.costs ≡ length s.ranks)
-        × (Ready (length s.ranks) outputs heads starts children first next owner
+        × (Ready (length s.ranks) r us
         × (Room marks blocks × Covered top flat s (Off marks blocks))))
     going-asks =
-        let q = repeat-asks n outputs heads starts children ok.flat s p v.repeated in
+        let q = repeat-asks n r ok.flat s p v.repeated in
         (q.0, (q.1.0, (rw v.repeated.ranks_length ok, (v.room, v.covered))))
 
     module _ (t : State) (marks' blocks' : List ℕ) (e : Passed flat s t marks' blocks') where
       pub going-goes-on : length t.costs ≡ length s.costs → length t.ranks ≡ length s.ranks
           → (t.last ≡ s.last → ⊥) → Going flat n t (p + 1) marks' blocks'
       going-goes-on lc lr d = record {
-        repeated = repeat-goes-on n outputs heads starts children ok.flat s t p v.repeated e.passed lc lr d;
+        repeated = repeat-goes-on n r ok.flat s t p v.repeated e.passed lc lr d;
         covered = e.covered;
         room = e.room;
       }
 
       pub going-ends : t.last ≡ s.last → ran_to t.costs t.ranks t.last (p + 1) ≡ run top flat n
-      going-ends d = repeat-ends n outputs heads starts children ok.flat s t p v.repeated e.passed d
+      going-ends d = repeat-ends n r ok.flat s t p v.repeated e.passed d
 
 -- the index asks for nothing but rows
-module _ (n : ℕ) (outputs heads starts children : List ℕ) (ok : FlatOk n outputs heads starts children)
-    (few : length children ≤ 8192) where
-  pub link-asks : PartsOk (length outputs) starts children
-      × (LinkRoom children (replicate 512 0) (replicate 8192 0) (replicate 8192 0)
+module _ (n : ℕ) (r : Rows) (ok : FlatIn n r)
+    (few : length r.children.now ≤ 8192) where
+  pub link-asks : PartsOk (length r.outputs.now) r.starts.now r.children.now
+      × (LinkRoom r.children.now (replicate 512 0) (replicate 8192 0) (replicate 8192 0)
       × NoLinks (replicate 512 0) (replicate 8192 0) (replicate 8192 0))
   link-asks = (
     record {
@@ -82,10 +84,10 @@ module _ (n : ℕ) (outputs heads starts children : List ℕ) (ok : FlatOk n out
     ),
   )
 
-  pub links-ready : (first next owner : List ℕ) → Index starts children first next owner (length outputs)
-      → length first ≡ 512 → length next ≡ 8192 → length owner ≡ 8192
-      → Ready n outputs heads starts children first next owner
-  links-ready first next owner v lf ln lo = record {
+  pub links-ready : (us : Users) → Index r.starts.now r.children.now us.first us.next us.owner (length r.outputs.now)
+      → length us.first ≡ 512 → length us.next ≡ 8192 → length us.owner ≡ 8192
+      → Ready n r us
+  links-ready us v lf ln lo = record {
     flat = ok;
     index = v;
     first_room = omega (arith, ok.few_classes);
@@ -94,10 +96,10 @@ module _ (n : ℕ) (outputs heads starts children : List ℕ) (ok : FlatOk n out
   }
 
   -- no row is off where every mark is set
-  pub all-marked : (s : State) → Covered top (rows_of outputs heads starts children) s
+  pub all-marked : (s : State) → Covered top (flat_of r) s
       (Off (replicate 1024 1) (replicate 32 1))
   all-marked s i h o =
-      let l : i < 1024 = omega (arith, ok.few_rows, rows-length outputs heads starts children) in
+      let l : i < 1024 = omega (arith, ok.few_rows, rows-length r.outputs.now r.heads.now r.starts.now r.children.now) in
       let b = get_or-replicate {A = ℕ} 32 (i / 32) 1 0 (omega arith) in
       let m = get_or-replicate {A = ℕ} 1024 i 1 0 l in
       absurd (⊎_elim (λ x. omega arith) (λ x. omega arith) o)

@@ -11,9 +11,11 @@ use Rattle.choice_rules.specs.Rows.{Child, Row, row_at}
 use Rattle.choice_rules.specs.Run.{State, relax}
 use Rattle.choice_rules.proofs.ListLaws.{Each}
 use Rattle.choice_rules.proofs.RankLaws.{Other}
-use Rattle.price_passes.specs.Flat.{top, child_of, row_of, part_of, rows_of, ChildrenIn}
+use Rattle.price_passes.specs.declared.flat.Rows.{Rows}
+use Rattle.price_passes.specs.Flat.{top, child_of, row_of, part_of, flat_of, ChildrenIn}
 use Rattle.price_passes.proofs.ChildLaws.{child-when-class, child-when-literal}
 use Rattle.price_passes.proofs.FlatLaws.{rows-length, rows_get, part_in}
+use Rattle.price_marks.specs.declared.users.Users.{Users}
 use Rattle.price_marks.specs.Marks.{Off, Room, Covered}
 use Rattle.price_marks.specs.Links.{Meets, PartsOk, LinksOk, MarkedFrom}
 use Rattle.price_marks.specs.Passes.{Ready, Turned}
@@ -39,12 +41,12 @@ clear_kept marks blocks i j o = ⊎_elim (λ x. inr (inl x)) (λ x. go x (ℕ_di
     go x (yes e) = inl e
     go x (no d) = inr (inr (sym (get_or-set_other marks i j 0 0 d) ∙ x))
 
-module _ (n : ℕ) (outputs heads starts children first next owner : List ℕ)
-    (ok : Ready n outputs heads starts children first next owner) where
+module _ (n : ℕ) (r : Rows) (us : Users)
+    (ok : Ready n r us) where
   abbrev flat : List Row
-  flat = rows_of outputs heads starts children
+  flat = flat_of r
 
-  pub parts-ok : PartsOk (length outputs) starts children
+  pub parts-ok : PartsOk (length r.outputs.now) r.starts.now r.children.now
   parts-ok = record {
     few_rows = ok.flat.few_rows;
     starts_length = ok.flat.starts_length;
@@ -54,57 +56,57 @@ module _ (n : ℕ) (outputs heads starts children first next owner : List ℕ)
 
   -- a row that is off after marking has not the class for a child
   free_of : (c : ℕ) (marks₀ blocks₀ marks blocks : List ℕ)
-      → MarkedFrom next owner (get_or first c 0) marks₀ blocks₀ marks blocks → (j : ℕ) → j < length outputs
-      → Off marks blocks j → Each (Other c) (map child_of (part_of starts children j))
-  free_of c marks₀ blocks₀ marks blocks v j h o = each-other c (part_of starts children j) (λ k l x e. at k l x e)
+      → MarkedFrom us.next us.owner (get_or us.first c 0) marks₀ blocks₀ marks blocks → (j : ℕ) → j < length r.outputs.now
+      → Off marks blocks j → Each (Other c) (map child_of (part_of r.starts.now r.children.now j))
+  free_of c marks₀ blocks₀ marks blocks v j h o = each-other c (part_of r.starts.now r.children.now j) (λ k l x e. at k l x e)
     where
       a : ℕ
-      a = get_or starts j 0
+      a = get_or r.starts.now j 0
 
-      at : (k : ℕ) → k < length (part_of starts children j) → get_or (part_of starts children j) k 0 < 512
-          → get_or (part_of starts children j) k 0 ≢ c
+      at : (k : ℕ) → k < length (part_of r.starts.now r.children.now j) → get_or (part_of r.starts.now r.children.now j) k 0 < 512
+          → get_or (part_of r.starts.now r.children.now j) k 0 ≢ c
       at k l x e =
-          let l' : k < min (get_or starts (j + 1) 0 - a) (length children - a) = simp (length-take, length-drop) at l in
-          let l'' : k < get_or starts (j + 1) 0 - a = omega arith in
-          let g : get_or (part_of starts children j) k 0 ≡ get_or children (a + k) 0
-          = get_or-take (get_or starts (j + 1) 0 - a) (drop a children) k 0 l'' ∙ get_or-drop a children k 0 in
+          let l' : k < min (get_or r.starts.now (j + 1) 0 - a) (length r.children.now - a) = simp (length-take, length-drop) at l in
+          let l'' : k < get_or r.starts.now (j + 1) 0 - a = omega arith in
+          let g : get_or (part_of r.starts.now r.children.now j) k 0 ≡ get_or r.children.now (a + k) 0
+          = get_or-take (get_or r.starts.now (j + 1) 0 - a) (drop a r.children.now) k 0 l'' ∙ get_or-drop a r.children.now k 0 in
           let u = ok.index.chains.met (a + k)
-          (omega (arith, starts-mono (length outputs) starts children parts-ok 0 j (omega arith) (omega arith)))
+          (omega (arith, starts-mono (length r.outputs.now) r.starts.now r.children.now parts-ok 0 j (omega arith) (omega arith)))
           (omega (
             arith,
-            starts-mono (length outputs) starts children parts-ok (j + 1) (length outputs) (omega arith)
+            starts-mono (length r.outputs.now) r.starts.now r.children.now parts-ok (j + 1) (length r.outputs.now) (omega arith)
                 (omega arith),
           ))
           (omega arith) in
           v.on j (a + k) o
-          (subst (λ (z : ℕ). Meets next (a + k) (get_or first z 0)) (sym g ∙ e) u)
+          (subst (λ (z : ℕ). Meets us.next (a + k) (get_or us.first z 0)) (sym g ∙ e) u)
           (ok.index.owners.owned j (a + k) h (omega arith) (omega arith))
 
-  module _ (s : State) (i : ℕ) (h : i < length outputs) (lc : length s.costs ≡ n) (lr : length s.ranks ≡ n) where
+  module _ (s : State) (i : ℕ) (h : i < length r.outputs.now) (lc : length s.costs ≡ n) (lr : length s.ranks ≡ n) where
     -- what relaxing row i asks
     pub turn-asks : s.last < top
-        → (s.last < top) × ((length s.costs ≡ length s.ranks) × ((get_or outputs i 0 < length s.ranks)
-        × ChildrenIn (length s.ranks) (part_of starts children i)))
+        → (s.last < top) × ((length s.costs ≡ length s.ranks) × ((get_or r.outputs.now i 0 < length s.ranks)
+        × ChildrenIn (length s.ranks) (part_of r.starts.now r.children.now i)))
     turn-asks l = (
       l,
       (
         omega arith,
         (
           omega (arith, ok.flat.outputs_in i h),
-          rw lr (part_in n (get_or starts (i + 1) 0 - get_or starts i 0) (get_or starts i 0) children
+          rw lr (part_in n (get_or r.starts.now (i + 1) 0 - get_or r.starts.now i 0) (get_or r.starts.now i 0) r.children.now
               ok.flat.children_in),
         ),
       ),
     )
 
     -- and what marking after it
-    pub mark-asks : LinksOk next owner (get_or first (get_or outputs i 0) 0)
+    pub mark-asks : LinksOk us.next us.owner (get_or us.first (get_or r.outputs.now i 0) 0)
     mark-asks =
-        let e : length outputs - 1 + 1 ≡ length outputs = omega arith in
-        let last : get_or starts (length outputs) 0 ≤ length children
-        = rw e at (ok.flat.starts_in (length outputs - 1) (omega arith)) in
+        let e : length r.outputs.now - 1 + 1 ≡ length r.outputs.now = omega arith in
+        let last : get_or r.starts.now (length r.outputs.now) 0 ≤ length r.children.now
+        = rw e at (ok.flat.starts_in (length r.outputs.now - 1) (omega arith)) in
         record {
-          low = omega (arith, ok.index.chains.first_low (get_or outputs i 0), ok.next_room);
+          low = omega (arith, ok.index.chains.first_low (get_or r.outputs.now i 0), ok.next_room);
           rooms = ok.owner_room;
           next_low = ok.index.chains.next_low;
           owner_low = ok.index.owners.owner_low;
@@ -113,13 +115,13 @@ module _ (n : ℕ) (outputs heads starts children first next owner : List ℕ)
     abbrev row : Row
     row = row_at flat i
 
-    output-is : row.output ≡ get_or outputs i 0
-    output-is = ap (λ (r : Row). r.output) (rows_get outputs heads starts children i h)
+    output-is : row.output ≡ get_or r.outputs.now i 0
+    output-is = ap (λ (q : Row). q.output) (rows_get r.outputs.now r.heads.now r.starts.now r.children.now i h)
 
     module _ (marks blocks : List ℕ) (room : Room marks blocks) (v : Covered top flat s (Off marks blocks)) (t : State)
-        (e : t ≡ relax top s (row_of (get_or outputs i 0) (get_or heads i 0) (part_of starts children i))) where
+        (e : t ≡ relax top s (row_of (get_or r.outputs.now i 0) (get_or r.heads.now i 0) (part_of r.starts.now r.children.now i))) where
       relaxed-is : t ≡ relax top s row
-      relaxed-is = e ∙ ap (λ (r : Row). relax top s r) (sym (rows_get outputs heads starts children i h))
+      relaxed-is = e ∙ ap (λ (q : Row). relax top s q) (sym (rows_get r.outputs.now r.heads.now r.starts.now r.children.now i h))
 
       covers : (off : ℕ → Type 0) → ((j : ℕ) → off j → (j ≡ i) ⊎ Off marks blocks j)
           → (t.last ≢ s.last → (j : ℕ) → j < length flat → off j
@@ -141,22 +143,19 @@ module _ (n : ℕ) (outputs heads starts children first next owner : List ℕ)
 
       -- a cost was stored
       pub turn-marks : (marks' blocks' : List ℕ)
-          → MarkedFrom next owner (get_or first (get_or outputs i 0) 0) (set marks i 0) blocks marks' blocks'
-          → length marks' ≡ length (set marks i 0) → length blocks' ≡ length blocks → Turned flat i s t marks' blocks'
-      turn-marks marks' blocks' m lm lb = record {
+          → MarkedFrom us.next us.owner (get_or us.first (get_or r.outputs.now i 0) 0) (set marks i 0) blocks marks' blocks'
+          → Room marks' blocks' → Turned flat i s t marks' blocks'
+      turn-marks marks' blocks' m room' = record {
         relaxed = relaxed-is;
         covered = covers (Off marks' blocks') (λ j o. clear_kept marks blocks i j (m.kept j o)) (λ d. free);
-        room = record {
-          marks_room = lm ∙ length-set marks i 0 ∙ room.marks_room;
-          blocks_room = lb ∙ room.blocks_room;
-        };
+        room = room';
       }
         where
           free : (j : ℕ) → j < length flat → Off marks' blocks' j
               → Each (Other row.output) (row_at flat j).children
           free j l o =
-              let l' : j < length outputs = omega (arith, rows-length outputs heads starts children) in
-              let f = free_of (get_or outputs i 0) (set marks i 0) blocks marks' blocks' m j l' o in
+              let l' : j < length r.outputs.now = omega (arith, rows-length r.outputs.now r.heads.now r.starts.now r.children.now) in
+              let f = free_of (get_or r.outputs.now i 0) (set marks i 0) blocks marks' blocks' m j l' o in
               subst (λ (ks : List Child). Each (Other row.output) ks)
-              (sym (ap (λ (r : Row). r.children) (rows_get outputs heads starts children j l')))
-              (subst (λ (d : ℕ). Each (Other d) (map child_of (part_of starts children j))) (sym output-is) f)
+              (sym (ap (λ (q : Row). q.children) (rows_get r.outputs.now r.heads.now r.starts.now r.children.now j l')))
+              (subst (λ (d : ℕ). Each (Other d) (map child_of (part_of r.starts.now r.children.now j))) (sym output-is) f)

@@ -7,8 +7,10 @@ use lib.ListN.{length, drop, drop_of_length-le}
 use Rattle.choice_rules.specs.Rows.{Row, row_at}
 use Rattle.choice_rules.specs.Run.{State, pass}
 use Rattle.choice_rules.proofs.RelaxLaws.{relax-last}
-use Rattle.price_passes.specs.Flat.{top, rows_of}
+use Rattle.price_passes.specs.declared.flat.Rows.{Rows}
+use Rattle.price_passes.specs.Flat.{top, flat_of}
 use Rattle.price_passes.proofs.PassLaws.{rows_drop}
+use Rattle.price_marks.specs.declared.users.Users.{Users}
 use Rattle.price_marks.specs.Marks.{Off, Room, Covered, Next}
 use Rattle.price_marks.specs.Passes.{Ready, Turned, Passed}
 use Rattle.price_marks.proofs.SkipLaws.{pass-leaves-out}
@@ -38,9 +40,9 @@ module _ (rows : List Row) (s₀ : State) where
 
   module _ (s : State) (marks blocks : List ℕ) (i : ℕ) (v : Walked s marks blocks i) where
     -- rows that are off are left out
-    pub walk-skips : (blocks' : List ℕ) (r : ℕ) → Next marks blocks blocks' i r → length blocks' ≡ length blocks
-        → Walked s marks blocks' r
-    walk-skips blocks' r k l = record {
+    pub walk-skips : (marks' blocks' : List ℕ) (r : ℕ) → Next marks blocks blocks' i r → marks' ≡ marks
+        → length blocks' ≡ length blocks → Walked s marks' blocks' r
+    walk-skips marks' blocks' r k e l = rw e (record {
       at = k.top;
       costs_length = v.costs_length;
       ranks_length = v.ranks_length;
@@ -48,7 +50,7 @@ module _ (rows : List Row) (s₀ : State) where
       rest = out ∙ v.rest;
       covered = seen;
       room = record { marks_room = v.room.marks_room; blocks_room = l ∙ v.room.blocks_room };
-    }
+    })
       where
         seen : Covered top rows s (Off marks blocks')
         seen = λ j h o. v.covered j h (k.kept j o)
@@ -84,14 +86,14 @@ module _ (rows : List Row) (s₀ : State) where
     }
 
 -- what relaxing row i asks
-pub walk-asks : (outputs heads starts children first next owner marks blocks : List ℕ) (s₀ s : State) (i : ℕ)
-    → Walked (rows_of outputs heads starts children) s₀ s marks blocks i → i < length outputs
-    → s₀.last + length outputs < top → length s₀.costs ≡ length s₀.ranks
-    → Ready (length s₀.ranks) outputs heads starts children first next owner
-    → (s.last < top) × ((length s.costs ≡ length s.ranks) × ((i < length outputs)
-    × (Ready (length s.ranks) outputs heads starts children first next owner
-    × (Room marks blocks × Covered top (rows_of outputs heads starts children) s (Off marks blocks)))))
-walk-asks outputs heads starts children first next owner marks blocks s₀ s i v h l e ok = (
+pub walk-asks : (r : Rows) (us : Users) (marks blocks : List ℕ) (s₀ s : State) (i : ℕ)
+    → Walked (flat_of r) s₀ s marks blocks i → i < length r.outputs.now
+    → s₀.last + length r.outputs.now < top → length s₀.costs ≡ length s₀.ranks
+    → Ready (length s₀.ranks) r us
+    → (s.last < top) × ((length s.costs ≡ length s.ranks) × ((i < length r.outputs.now)
+    × (Ready (length s.ranks) r us
+    × (Room marks blocks × Covered top (flat_of r) s (Off marks blocks)))))
+walk-asks r us marks blocks s₀ s i v h l e ok = (
   omega (arith, v.low),
   (
     omega (arith, v.costs_length, v.ranks_length),

@@ -2,6 +2,7 @@
 // A row whose children's costs and ranks have not changed since it was last looked at cannot improve its class.
 #![tactic(auto)]
 
+pub mod users; // users.rt: who uses which class
 pub mod links; // links.rt: of each class the children that are it, as chains
 pub mod marks; // marks.rt: marks of rows and of blocks of rows
 pub mod rows; // rows.rt: the relaxation of one marked row

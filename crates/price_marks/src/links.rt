@@ -1,68 +1,56 @@
-// Of each class the children that are it, as chains through `first` and `next`, and of each child its row.
+// Of each class the children that are it, as chains, and of each child its row.
 ghost use Rattle.std.specs.Prelude.{◌≡◌, ◌<◌, ◌≤◌, length};
 ghost use Rattle.price_passes.specs.Flat.{ChildIn};
 ghost use Rattle.price_marks.specs.Links.{Joined, LinkRoom, RowLinked, PartsOk, NoLinks, Index};
+ghost use Rattle.price_marks.specs.Passes.{SameSizes};
+
+use super::users::Users;
+use price_passes::flat::Rows;
 
 // The child at place p goes in front of the chain of its class; a literal has none.
-fn link(first: &mut [u16], next: &mut [u16], child: u64, p: usize)
+fn link(users: &mut Users, child: u64, p: usize)
     requires p_bound { p < 8192 }
-    requires p_in_bounds { p < length next.old }
-    requires child_in { ChildIn (length first.old) child }
-    ensures { Joined child p first.old next.old first.new next.new }
+    requires p_in_bounds { p < length users.old.next }
+    requires child_in { ChildIn (length users.old.first) child }
+    ensures joined { Joined child p users.old.first users.old.next users.new.first users.new.next }
+    ensures owner_kept { users.new.owner ≡ users.old.owner }
 {
     if child >= 512 {
         return;
     }
     let c = child as usize;
-    next[p] = first[c];
-    first[c] = (p + 1) as u16;
+    users.next[p] = users.first[c];
+    users.first[c] = (p + 1) as u16;
 }
 
 // The children of row i, from place a to place e.
-fn link_row(
-    first: &mut [u16],
-    next: &mut [u16],
-    owner: &mut [u16],
-    children: &[u64],
-    i: usize,
-    a: usize,
-    e: usize,
-)
+fn link_row(users: &mut Users, children: &[u64], i: usize, a: usize, e: usize)
     requires i_bound { i < 1024 }
     requires a_le_e { a ≤ e }
     requires e_in_bounds { e ≤ length children.now }
-    requires link_room { LinkRoom children.now first.old next.old owner.old }
-    ensures { RowLinked children.now i a e first.old next.old
-        owner.old first.new next.new owner.new }
+    requires link_room { LinkRoom children.now users.old.first users.old.next users.old.owner }
+    ensures linked { RowLinked children.now i a e users.old.first users.old.next
+        users.old.owner users.new.first users.new.next users.new.owner }
+    ensures sizes { SameSizes users.old users.new }
 {
-    let mut p = a;
-    while p < e {
-        owner[p] = i as u16;
-        link(first, next, children[p], p);
-        p += 1;
+    for p in a..e {
+        users.owner[p] = i as u16;
+        link(users, children[p], p);
     }
 }
 
 // The children of all rows.
-pub fn link_all(
-    first: &mut [u16],
-    next: &mut [u16],
-    owner: &mut [u16],
-    starts: &[usize],
-    children: &[u64],
-    rows: usize,
-)
-    requires parts_ok { PartsOk rows starts.now children.now }
-    requires link_room { LinkRoom children.now first.old next.old owner.old }
-    requires no_links { NoLinks first.old next.old owner.old }
-    ensures { Index starts.now children.now first.new next.new
-        owner.new rows }
+pub fn link_all(users: &mut Users, rows: &Rows)
+    requires parts_ok { PartsOk (length rows.now.outputs.now) rows.now.starts.now rows.now.children.now }
+    requires link_room { LinkRoom rows.now.children.now users.old.first users.old.next users.old.owner }
+    requires no_links { NoLinks users.old.first users.old.next users.old.owner }
+    ensures index { Index rows.now.starts.now rows.now.children.now users.new.first users.new.next
+        users.new.owner (length rows.now.outputs.now) }
+    ensures sizes { SameSizes users.old users.new }
 {
-    let mut i = 0;
-    while i < rows {
-        let a = starts[i];
-        let e = starts[i + 1];
-        link_row(first, next, owner, children, i, a, e);
-        i += 1;
+    for i in 0..rows.outputs.len() {
+        let a = rows.starts[i];
+        let e = rows.starts[i + 1];
+        link_row(users, rows.children, i, a, e);
     }
 }

@@ -5,12 +5,13 @@ use Prim.Native.Nat.{ℕ, suc, ◌+◌, ◌*◌, ◌<◌, ◌≤◌}
 use native.Mathlib.Omega.{arith}
 use native.Mathlib.Numerals.{add-one}
 use lib.ListN.{length, get_or, replicate}
-use Rattle.choice_rules.specs.Rows.{Row}
+use Rattle.choice_rules.specs.Rows.{Row, Within}
 use Rattle.choice_rules.specs.Run.{State, pass, passes, blank, run}
 use Rattle.choice_rules.proofs.PassLaws.{pass-last, pass-still}
 use Rattle.choice_rules.proofs.BoundLaws.{Busy}
 use Rattle.choice_rules.proofs.RunLaws.{busy-more, busy-blank, run_unique}
-use Rattle.price_passes.specs.Flat.{top, rows_of, FlatOk, Fresh, state_of, ran_to}
+use Rattle.price_passes.specs.declared.flat.Rows.{Rows}
+use Rattle.price_passes.specs.Flat.{top, flat_of, FlatIn, Fresh, state_of, ran_to}
 use Rattle.price_passes.proofs.FlatLaws.{rows-length, rows-within}
 
 zeros : (l : List ℕ) → ((c : ℕ) → get_or l c 0 ≡ 0) → l ≡ replicate (length l) 0
@@ -42,17 +43,20 @@ repeat-begins rows costs ranks z = record {
   busy = λ q l. absurd (omega arith);
 }
 
-module _ (n : ℕ) (outputs heads starts children : List ℕ) (ok : FlatOk n outputs heads starts children) where
+module _ (n : ℕ) (r : Rows) (ok : FlatIn n r) where
   abbrev flat : List Row
-  flat = rows_of outputs heads starts children
+  flat = flat_of r
+
+  within : Within n flat
+  within = rows-within r.outputs.now r.heads.now r.starts.now r.children.now n ok
 
   pub repeat-few : (s : State) (p : ℕ) → Repeated flat n s p → p ≤ n
-  repeat-few s p v = busy-blank top n flat (rows-within outputs heads starts children n ok) p v.busy
+  repeat-few s p v = busy-blank top n flat within p v.busy
 
   -- what the next pass asks
   pub repeat-asks : (s : State) (p : ℕ) → Repeated flat n s p
-      → (s.last + length outputs < top)
-      × ((length s.costs ≡ length s.ranks) × FlatOk (length s.ranks) outputs heads starts children)
+      → (s.last + length r.outputs.now < top)
+      × ((length s.costs ≡ length s.ranks) × FlatIn (length s.ranks) r)
   repeat-asks s p v = (
     omega (arith, v.low, repeat-few s p v, ok.few_classes, ok.few_rows),
     (omega (arith, v.costs_length, v.ranks_length), rw v.ranks_length ok),
@@ -71,7 +75,7 @@ module _ (n : ℕ) (outputs heads starts children : List ℕ) (ok : FlatOk n out
         arith,
         v.low,
         (pass-last top flat s).1,
-        rows-length outputs heads starts children,
+        rows-length r.outputs.now r.heads.now r.starts.now r.children.now,
         ok.few_rows,
         ap (λ (u : State). u.last) e,
       );
@@ -84,7 +88,7 @@ module _ (n : ℕ) (outputs heads starts children : List ℕ) (ok : FlatOk n out
     pub repeat-ends : t.last ≡ s.last → ran_to t.costs t.ranks t.last (p + 1) ≡ run top flat n
     repeat-ends d =
         let k = (pass-still top flat s (omega (arith, ap (λ (u : State). u.last) e))).1 in
-        run_unique top n flat (rows-within outputs heads starts children n ok)
+        run_unique top n flat within
         (ran_to t.costs t.ranks t.last (p + 1))
         (record {
           before = p;

@@ -2,6 +2,7 @@
 use Rattle.std.specs.Prelude.{◌≡◌, cond, List, map, ℕ, ◌+◌, ◌-◌, ◌^◌, ◌<◌, ◌≤◌, length, get_or, take, drop, ltb}
 use Rattle.choice_rules.specs.Rows.{Child, literal, class, Row, tabulate}
 use Rattle.choice_rules.specs.Run.{State, Run}
+use Rattle.price_passes.specs.declared.flat.Rows.{Rows}
 
 -- The number at which costs saturate.
 abbrev pub top : ℕ
@@ -42,6 +43,13 @@ pub record FlatOk (n : ℕ) (outputs heads starts children : List ℕ) : Type 0 
   pub starts_rise : (i : ℕ) → i < length outputs → get_or starts i 0 ≤ get_or starts (i + 1) 0
   pub starts_in : (i : ℕ) → i < length outputs → get_or starts (i + 1) 0 ≤ length children
   pub children_in : ChildrenIn n children
+
+-- The rows of the struct by which flat lists are read, and when they are rows over n classes.
+abbrev pub flat_of : Rows → List Row
+flat_of r = rows_of r.outputs.now r.heads.now r.starts.now r.children.now
+
+abbrev pub FlatIn : ℕ → Rows → Type 0
+FlatIn n r = FlatOk n r.outputs.now r.heads.now r.starts.now r.children.now
 
 -- The lists of costs and ranks, and the last rank, as a state.
 abbrev pub state_of : List ℕ → List ℕ → ℕ → State

@@ -1,19 +1,10 @@
 // One child: whether it has a cost, its cost, its rank.
-ghost use Rattle.std.specs.Prelude.{◌≡◌, ◌+◌, ◌-◌, ◌^◌, min, length};
+ghost use Rattle.std.specs.Prelude.{◌≡◌, length};
 ghost use Rattle.choice_rules.specs.Run.{priced, child_cost};
 ghost use Rattle.choice_rules.specs.Edges.{child_rank};
 ghost use Rattle.price_passes.specs.Flat.{child_of, ChildIn};
 
-pub const TOP: u64 = 18446744073709551615;
-
 pub const CLASSES: u64 = 512;
-
-// src/extract.rs: combine of u64 costs.
-pub fn sat_add(a: u64, b: u64) -> u64
-    ensures { result ≡ min (2 ^ 64 - 1) (a + b) }
-{
-    if a > TOP - b { TOP } else { a + b }
-}
 
 // Whether a child has a cost: a literal has.
 pub fn has_cost(ranks: &[u64], child: u64) -> bool

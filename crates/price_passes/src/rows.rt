@@ -11,27 +11,17 @@ pub fn has_cost(ranks: &[u64], kids: &[u64]) -> bool
     requires { ChildrenIn (length ranks.now) kids.now }
     ensures { result ≡ all_of (priced ranks.now) (map child_of kids.now) }
 {
-    let mut i = 0;
-    while i < kids.len() {
-        if !children::has_cost(ranks, kids[i]) {
-            return false;
-        }
-        i += 1;
-    }
-    true
+    kids.iter().all(|child| children::has_cost(ranks, *child))
 }
 
-// src/extract.rs: compute_cost_hyperedge, of a row whose children have a cost.
+// src/extract.rs: compute_cost_hyperedge, and combine of u64 costs, of a row whose children have a cost.
 pub fn cost(costs: &[u64], head: u64, kids: &[u64]) -> u64
     requires { ChildrenIn (length costs.now) kids.now }
     ensures { result ≡ min top (head + sum_of (child_cost costs.now) (map child_of kids.now)) }
 {
     let mut sum = head;
-    let mut i = 0;
-    while i < kids.len() {
-        let add = children::cost(costs, kids[i]);
-        sum = children::sat_add(sum, add);
-        i += 1;
+    for child in kids {
+        sum = sum.saturating_add(children::cost(costs, *child));
     }
     sum
 }

@@ -1,4 +1,5 @@
 -- The query's fault, or the call that it makes. Assumes nothing.
+use Rattle.std.specs.Prelude.{Result, Err}
 use mathlib.Core.Path.{◌≡◌, refl, sym, ap, ◌∙◌}
 use mathlib.Core.Bool.{true, false}
 use mathlib.Core.List.{List}
@@ -15,8 +16,6 @@ use Rattle.program_rules.specs.Query.{asked, query_at}
 use Rattle.program_rules.proofs.queries.QueryLaws.{query-long}
 use Rattle.program_rules.specs.Reply.{best_call, variants_call, call_of, answer_to, in_room, put_in, replied}
 use Rattle.program_rules.specs.Seen.{seen}
-use Rattle.program_rules.specs.declared.replies.Answered.{Answered}
-use Rattle.program_rules.specs.declared.replies.Answered.TheVariants.{Refused}
 use Rattle.program.proofs.CallLaws.{refusal-stays}
 
 module _ (input out : List ℕ) where
@@ -24,7 +23,7 @@ module _ (input out : List ℕ) where
   unfolding replied
   by_answer a e = ap (λ (x : Answer (List ℕ)). put_in (in_room (length out) x) out) e
 
-  pub query-refused : (r : Refusal) → fault r ≡ query_at input → seen (Refused r) out ≡ replied input out
+  pub query-refused : (r : Refusal) → fault r ≡ query_at input → seen (Err r) out ≡ replied input out
   unfolding answer_to
   query-refused r e =
       sym (by_answer (refusal (refusal_no r)) (rw (sym e, answer_to) refl) ∙ refusal-stays (refusal_no r) out)
@@ -42,7 +41,7 @@ module _ (input out : List ℕ) where
   pub query-replied :
       (m s v n : ℕ) →
       got (asked m s v n) 24 ≡ query_at input →
-      (r : Answered) (after file : List ℕ) →
+      (r : Result ℕ Refusal) (after file : List ℕ) →
       file ≡ drop 3 input →
       seen r after ≡ put_in (in_room (length out) (call_of (asked m s v n) file)) out →
       seen r after ≡ replied input out
@@ -54,7 +53,7 @@ module _ (input out : List ℕ) where
       (rw (sym e, answer_to) (ap (call_of (asked m s v n)) (sym f))))
 
 -- The call by its mode.
-module _ (m s v n : ℕ) (file out : List ℕ) (r : Answered) (after : List ℕ) where
+module _ (m s v n : ℕ) (file out : List ℕ) (r : Result ℕ Refusal) (after : List ℕ) where
   pub best-by-mode :
       eqb m 1 ≡ false →
       seen r after ≡ put_in (in_room (length out) (best_call (eqb m 2) file s v)) out →

@@ -1,4 +1,5 @@
 -- What the calls answer, as the program tells it. Assumes nothing.
+use Rattle.std.specs.Prelude.{Result, Err}
 use mathlib.Core.Path.{◌≡◌, refl, sym, ap, subst, ◌∙◌}
 use mathlib.Core.Bool.{Bool, true}
 use mathlib.Core.List.{List}
@@ -14,8 +15,6 @@ use Rattle.answer_rules.specs.Answers.{Answer, value, refusal, After, found, ref
 use Rattle.answer_rules.specs.Best.{BestTerm, best_term, best_at}
 use Rattle.program_rules.specs.Reply.{empty_store, best_reply, best_answer, best_told, best_call, in_room, put_in}
 use Rattle.program_rules.specs.Seen.{seen}
-use Rattle.program_rules.specs.declared.replies.Answered.{Answered}
-use Rattle.program_rules.specs.declared.replies.Answered.TheVariants.{Refused}
 use Rattle.extract.proofs.WayLaws.{value-returned}
 
 -- the store that the program starts with
@@ -36,14 +35,14 @@ module _ (plain : Bool) (file : List ℕ) (sort v : ℕ) (out : List ℕ) where
   pub best-refused :
       (r : Refusal) (s : Store) →
       refused r s ≡ best_at file sort v start →
-      seen (Refused r) out ≡ put_in (in_room (length out) (best_call plain file sort v)) out
+      seen (Err r) out ≡ put_in (in_room (length out) (best_call plain file sort v)) out
   unfolding best_told best_answer
   best-refused r s e =
       sym (ap (λ (x : Answer (List ℕ)). put_in (in_room (length out) x) out) (told-by (refused r s) e)
       ∙ refusal-stays (refusal_no r) out)
 
   pub best-found :
-      (w i p : ℕ) (s : Store) (r : Answered) (after : List ℕ) →
+      (w i p : ℕ) (s : Store) (r : Result ℕ Refusal) (after : List ℕ) →
       found (best_term w i p) s ≡ best_at file sort v start →
       seen r after ≡ put_in (in_room (length out) (value (best_reply plain s (best_term w i p)))) out →
       seen r after ≡ put_in (in_room (length out) (best_call plain file sort v)) out

@@ -1,5 +1,6 @@
 -- What the promises of the program rest on: the answer in a buffer, by what answers the input and whether it has room.
 -- Assumes nothing.
+use Rattle.std.specs.Prelude.{Result, Ok, Err}
 use Prim.Native.Nat.{ℕ, ◌<◌, ◌≤◌}
 use mathlib.Core.Path.{◌≡◌, refl, sym, ap, subst, ◌∙◌}
 use mathlib.Core.Bool.{Bool, true, false}
@@ -16,11 +17,9 @@ use Rattle.refusal.proofs.NumberLaws.{number-once}
 use Rattle.program_rules.specs.Lines.{refused_line}
 use Rattle.program_rules.specs.Reply.{answer_to, in_room, written, reply, Replied, put_in}
 use Rattle.program_rules.specs.Seen.{answer_of, seen}
-use Rattle.program_rules.specs.declared.replies.Answered.{Answered}
-use Rattle.program_rules.specs.declared.replies.Answered.TheVariants.{Written, Refused}
 use Rattle.program_rules.proofs.headlines.LineLaws.{digits-few, refused-length}
-use Rattle.program_rules.proofs.replies.RoomLaws.{in-room, not-in-room}
-use Rattle.program_rules.proofs.replies.KnownLaws.{in_table, Known, answer-known, room-known}
+use Rattle.program_rules.proofs.Replies.RoomLaws.{in-room, not-in-room}
+use Rattle.program_rules.proofs.Replies.KnownLaws.{in_table, Known, answer-known, room-known}
 use Rattle.program.specs.Promises.{Stands, Refuses}
 
 -- An answer in a buffer.
@@ -103,14 +102,14 @@ not-value n k e =
     let z : ◌≡◌ {A = ℕ} 1 0 = ap is_text e in
     omega (arith, z)
 
-same_answer : (r q : Answered) → answer_of r ≡ answer_of q → r ≡ q
+same_answer : (r q : Result ℕ Refusal) → answer_of r ≡ answer_of q → r ≡ q
 unfolding number_in
-same_answer (Written n) (Written m) e = ap (λ (a : Answer ℕ). Written (number_in a)) e
-same_answer (Written n) (Refused y) e = absurd (not-value n (refusal_no y) e)
-same_answer (Refused x) (Written m) e = absurd (not-value m (refusal_no x) (sym e))
-same_answer (Refused x) (Refused y) e = ap Refused (number-once x y (ap number_in e))
+same_answer (Ok n) (Ok m) e = ap (λ (a : Answer ℕ). Ok (number_in a)) e
+same_answer (Ok n) (Err y) e = absurd (not-value n (refusal_no y) e)
+same_answer (Err x) (Ok m) e = absurd (not-value m (refusal_no x) (sym e))
+same_answer (Err x) (Err y) e = ap Err (number-once x y (ap number_in e))
 
-pub one_seen : (a b : List ℕ) (r q : Answered) → seen r a ≡ seen q b → (r ≡ q) × (a ≡ b)
+pub one_seen : (a b : List ℕ) (r q : Result ℕ Refusal) → seen r a ≡ seen q b → (r ≡ q) × (a ≡ b)
 one_seen a b r q e = (
   same_answer r q (ap (λ (x : Replied). x.answer) e),
   ap (λ (x : Replied). x.out) e,

@@ -2,7 +2,7 @@
 use mathlib.Core.Path.{refl, sym, ◌∙◌}
 use Rattle.refusal.specs.Answer.{value}
 use Rattle.program_rules.specs.Reply.{answer_to, reply, replied, responded}
-use Rattle.program_rules.proofs.replies.KnownLaws.{answer-known, known-refusal}
+use Rattle.program_rules.proofs.Replies.KnownLaws.{answer-known, known-refusal}
 use Rattle.program.specs.Promises.{Promises}
 use Rattle.program.proofs.PromiseLaws.{
   text-stands,

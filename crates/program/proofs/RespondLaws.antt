@@ -1,4 +1,5 @@
 -- What the program leaves in its buffer. Assumes nothing.
+use Rattle.std.specs.Prelude.{Result, Ok, Err}
 use mathlib.Core.Path.{◌≡◌, refl, sym, ap, subst, ◌∙◌}
 use mathlib.Core.Bool.{Bool, true, false}
 use mathlib.Core.List.{List, [], ◌++◌, append_assoc}
@@ -17,11 +18,9 @@ use Rattle.answer_rules.specs.Answers.{Answer, value, refusal}
 use Rattle.program_rules.specs.Lines.{refused_line}
 use Rattle.program_rules.specs.Step.{Step}
 use Rattle.program_rules.proofs.headlines.StepLaws.{step-whole}
-use Rattle.program_rules.proofs.replies.RoomLaws.{fits, no_room}
+use Rattle.program_rules.proofs.Replies.RoomLaws.{fits, no_room}
 use Rattle.program_rules.specs.Reply.{answer_to, in_room, put_in, replied, written, reply, responded, Replied}
 use Rattle.program_rules.specs.Seen.{seen}
-use Rattle.program_rules.specs.declared.replies.Answered.{Answered}
-use Rattle.program_rules.specs.declared.replies.Answered.TheVariants.{Written, Refused}
 
 is_value : Answer ℕ → ℕ
 is_value (value n) = 1
@@ -44,7 +43,7 @@ module _ (p : List ℕ) where
     pub stays : after ≡ p
 
   pub when-written :
-      (a : Answer (List ℕ)) (n : ℕ) (after : List ℕ) → seen (Written n) after ≡ put_in a p → IsWritten a n after
+      (a : Answer (List ℕ)) (n : ℕ) (after : List ℕ) → seen (Ok n) after ≡ put_in a p → IsWritten a n after
   unfolding put_in is_value value_in
   when-written (value text) n after e = record {
     text = text;
@@ -59,7 +58,7 @@ module _ (p : List ℕ) where
 
   pub when-refused :
       (a : Answer (List ℕ)) (r : Refusal) (after : List ℕ) →
-      seen (Refused r) after ≡ put_in a p →
+      seen (Err r) after ≡ put_in a p →
       IsRefused a (refusal_no r) after
   unfolding put_in is_value value_in
   when-refused (value text) r after e =
@@ -111,7 +110,7 @@ module _ (input out : List ℕ) (room : ℕ) (er : room ≡ 16384) (l : room ≤
   -- the text stands at the front of the whole buffer
   pub wrote-text :
       (n : ℕ) (after : List ℕ) →
-      seen (Written n) after ≡ replied input (take room out) →
+      seen (Ok n) after ≡ replied input (take room out) →
       Wrote (reply input) n out (after ++ drop room out)
   unfolding replied written
   wrote-text n after e =
@@ -131,7 +130,7 @@ module _ (input out : List ℕ) (room : ℕ) (er : room ≡ 16384) (l : room ≤
   -- the refusal's line stands there
   pub wrote-line :
       (r : Refusal) (after : List ℕ) →
-      seen (Refused r) after ≡ replied input (take room out) →
+      seen (Err r) after ≡ replied input (take room out) →
       (z : ℕ) (o₂ : List ℕ) →
       Step (refused_line (refusal_no r)) 0 z (after ++ drop room out) o₂ →
       Wrote (reply input) z out o₂
@@ -162,7 +161,7 @@ pub responds :
     (input before after : List ℕ) (r : ℕ) →
     Wrote (reply input) r before after →
     length after ≡ length before →
-    seen (Written r) after ≡ responded input before
+    seen (Ok r) after ≡ responded input before
 unfolding responded
 responds input before after r w e =
     fits (reply input) before after r
@@ -174,7 +173,7 @@ pub responds-piece :
     piece ≡ reply input →
     Step piece 0 r before after →
     length after ≡ length before →
-    seen (Written r) after ≡ responded input before
+    seen (Ok r) after ≡ responded input before
 responds-piece input before after piece r e s same =
     let q = step-whole before (reply input) after r (subst (λ (x : List ℕ). Step x 0 r before after) e s) in
     responds input before after r (record { long = q.0; bytes = q.1 }) same
@@ -184,20 +183,20 @@ pub responds_not :
     (input before : List ℕ) (n : ℕ) →
     n ≡ length (reply input) →
     length before < n →
-    seen (Refused NoRoom) before ≡ responded input before
+    seen (Err NoRoom) before ≡ responded input before
 unfolding responded
 responds_not input before n e l = no_room (reply input) before (subst (λ (x : ℕ). length before < x) e l)
 
 -- What is told to be written is part of the buffer.
 pub response-inside :
-    (input before after : List ℕ) (r : Answered) (k : ℕ) →
+    (input before after : List ℕ) (r : Result ℕ Refusal) (k : ℕ) →
     seen r after ≡ responded input before →
-    r ≡ Written k →
+    r ≡ Ok k →
     k ≤ length after
 unfolding responded
 response-inside input before after r k e is =
     let w = when-written before (in_room (length before) (value (reply input))) k after
-    (subst (λ (x : Answered). seen x after ≡ put_in (in_room (length before) (value (reply input))) before) is e) in
+    (subst (λ (x : Result ℕ Refusal). seen x after ≡ put_in (in_room (length before) (value (reply input))) before) is e) in
     let long : length after ≡ length w.text + length (drop (length w.text) before) =
     ap length w.bytes ∙ length-append w.text (drop (length w.text) before) in
     omega (arith, long, w.long)

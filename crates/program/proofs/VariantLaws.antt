@@ -1,4 +1,5 @@
 -- What variants answer, as the program tells it. Assumes nothing.
+use Rattle.std.specs.Prelude.{Result, Err}
 use mathlib.Core.Path.{◌≡◌, sym, ap, subst, ◌∙◌}
 use mathlib.Core.Bool.{true}
 use mathlib.Core.List.{List}
@@ -25,8 +26,6 @@ use Rattle.program_rules.specs.Reply.{
   put_in,
 }
 use Rattle.program_rules.specs.Seen.{seen}
-use Rattle.program_rules.specs.declared.replies.Answered.{Answered}
-use Rattle.program_rules.specs.declared.replies.Answered.TheVariants.{Refused}
 use Rattle.program.proofs.CallLaws.{start, refusal-stays}
 
 -- the store and the lists that the program starts with
@@ -49,7 +48,7 @@ module _ (file : List ℕ) (sort v n : ℕ) (out : List ℕ) where
   pub variants-refused :
       (r : Refusal) (s : Store) (paid found : List ℕ) →
       refused_as r s paid found ≡ variants_at file sort v n lendings →
-      seen (Refused r) out ≡ put_in (in_room (length out) (variants_call file sort v n)) out
+      seen (Err r) out ≡ put_in (in_room (length out) (variants_call file sort v n)) out
   unfolding variants_told variants_answer
   variants-refused r s paid found e =
       sym
@@ -57,7 +56,7 @@ module _ (file : List ℕ) (sort v n : ℕ) (out : List ℕ) where
       ∙ refusal-stays (refusal_no r) out)
 
   pub variants_kept :
-      (k p : ℕ) (s : Store) (paid found : List ℕ) (r : Answered) (after : List ℕ) →
+      (k p : ℕ) (s : Store) (paid found : List ℕ) (r : Result ℕ Refusal) (after : List ℕ) →
       kept_as k p s paid found ≡ variants_at file sort v n lendings →
       seen r after ≡ put_in (in_room (length out) (value (variants_text s paid found k p))) out →
       seen r after ≡ put_in (in_room (length out) (variants_call file sort v n)) out

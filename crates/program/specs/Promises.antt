@@ -1,6 +1,7 @@
 -- What the program's function promises, beside its contracts: document 01, 'The program' and 'Refusal numbers'.
 -- `replied` and `responded` are the definitions that `answer` and `respond` equal, `answer_to` is what answers an input and
 -- `reply` what the program writes. Assumes nothing: a record, with one field for each theorem.
+use Rattle.std.specs.Prelude.{Result}
 use Rattle.std.specs.Prelude.{ℕ, ◌<◌, ◌≤◌, ◌≡◌, List, ◌++◌, length, drop}
 use Rattle.refusal.specs.declared.Refusal.{Refusal}
 use Rattle.refusal.specs.declared.Refusal.TheVariants.{NoRoom}
@@ -9,7 +10,6 @@ use Rattle.refusal.specs.Answer.{value, refusal}
 use Rattle.program_rules.specs.Lines.{refused_line}
 use Rattle.program_rules.specs.Reply.{answer_to, reply, Replied, replied, responded}
 use Rattle.program_rules.specs.Seen.{seen}
-use Rattle.program_rules.specs.declared.replies.Answered.{Answered}
 
 -- The text stands at the start of the buffer, its length is told, and what is past it stays.
 pub record Stands (text out : List ℕ) (r : Replied) : Type 0 where
@@ -54,12 +54,12 @@ pub record Promises : Type 0 where
       (input out : List ℕ) → length out < length (reply input) → Refuses (refusal_no NoRoom) out (responded input out)
   -- "any two results allowed by a statement coincide": of `answer`, and of `respond`.
   pub one_answer :
-      (input out a b : List ℕ) (r q : Answered) →
+      (input out a b : List ℕ) (r q : Result ℕ Refusal) →
       seen r a ≡ replied input out →
       seen q b ≡ replied input out →
       (r ≡ q) × (a ≡ b)
   pub one_response :
-      (input out a b : List ℕ) (r q : Answered) →
+      (input out a b : List ℕ) (r q : Result ℕ Refusal) →
       seen r a ≡ responded input out →
       seen q b ≡ responded input out →
       (r ≡ q) × (a ≡ b)

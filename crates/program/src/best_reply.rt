@@ -1,5 +1,6 @@
 // The text of an answer of best in a lent buffer: the line, the term's text, a newline.
 ghost use Rattle.std.specs.Prelude.{◌≡◌, true, ◌<◌, length};
+ghost use Rattle.term_layout.specs.Sound.{store_of};
 ghost use Rattle.term_rules.specs.Lent.{store};
 ghost use Rattle.term_rules.specs.WellFormed.{well_formed};
 ghost use Rattle.text_whole.specs.Placed.{answer_of, told};
@@ -10,50 +11,29 @@ ghost use Rattle.program_rules.specs.Seen.{seen};
 ghost use Rattle.program.specs.BestReply.Text.{best_placed};
 
 use program_rules::headlines;
-use program_rules::replies::Answered;
 use refusal::Refusal;
-use text_whole::{LetText, Text};
+use term_layout::store::Store;
+use text_whole::Naming;
 
 // Writes the text of term `term`: plain, or with lets, no prefix, hint `t`, start 0, no zero flag.
-fn put_text(
-    plain: bool,
-    out: &mut [u8],
-    records: &[u64],
-    literals: &[i64],
-    names: &[u8],
-    terms: usize,
-    symbols: usize,
-    term: usize,
-) -> Text
-    requires symbols_value { well_formed (store records.now literals.now names.now terms symbols) ≡ true }
-    requires term_lt_terms { term < terms }
+fn put_text(plain: bool, out: &mut [u8], store: &Store, term: usize) -> Result<usize, Refusal>
+    requires term_lt_terms { term < store.now.terms }
     ensures { told (answer_of result) out.new
         ≡ best_placed plain
-        (store records.now literals.now names.now terms symbols) term
+        (store_of store.now) term
         out.old }
 {
     if plain {
-        return text_whole::plain_of(out, records, literals, names, terms, symbols, term);
+        return text_whole::plain_of(out, store, term);
     }
-    let none = [0u8; 1];
-    let hint = [116u8; 1];
-    let text = text_whole::let_of(
-        out,
-        records,
-        literals,
-        names,
-        terms,
-        symbols,
-        term,
-        &none[..0],
-        &hint,
-        0,
-        false,
-    );
-    match text {
-        LetText::Written(n, _) => Text::Written(n),
-        LetText::Refused(r) => Text::Refused(r),
-    }
+    let naming = Naming {
+        prefix: b"",
+        hint: b"t",
+        start: 0,
+        bare: false,
+    };
+    let text = text_whole::let_of(out, store, term, &naming)?;
+    Ok(text.length)
 }
 
 // Writes the line `best C N P`, the text of the term and a newline, if they fit. The text goes to its place first,
@@ -61,45 +41,28 @@ fn put_text(
 pub fn put(
     plain: bool,
     out: &mut [u8],
-    records: &[u64],
-    literals: &[i64],
-    names: &[u8],
-    terms: usize,
-    symbols: usize,
+    store: &Store,
     cost: u64,
     term: usize,
     passes: u64,
-) -> Answered
-    requires symbols_value { well_formed (store records.now literals.now names.now terms symbols) ≡ true }
-    requires term_lt_terms { term < terms }
+) -> Result<usize, Refusal>
+    requires term_lt_terms { term < store.now.terms }
     ensures { seen result out.new
         ≡ put_in
         (in_room (length out.old)
         (value
         (best_reply plain
-        (store records.now literals.now names.now terms symbols)
+        (store_of store.now)
         (best_term cost term passes)))) out.old }
 {
-    let h = headlines::best_length(cost, terms as u64, passes) as usize;
+    let h = headlines::best_length(cost, store.terms as u64, passes) as usize;
     if out.len() <= h {
-        return Answered::Refused(Refusal::NoRoom);
+        return Err(Refusal::NoRoom);
     }
     let e = out.len() - 1;
-    let text = put_text(
-        plain,
-        &mut out[h..e],
-        records,
-        literals,
-        names,
-        terms,
-        symbols,
-        term,
-    );
-    let Text::Written(n) = text else {
-        return Answered::Refused(Refusal::NoRoom);
-    };
+    let n = put_text(plain, &mut out[h..e], store, term)?;
     let z = h + n;
-    out[z] = 10;
-    headlines::put_best(out, cost, terms as u64, passes);
-    Answered::Written(z + 1)
+    out[z] = b'\n';
+    headlines::put_best(out, cost, store.terms as u64, passes);
+    Ok(z + 1)
 }

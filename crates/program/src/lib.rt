@@ -7,45 +7,47 @@ ghost use Rattle.program_rules.specs.Query.{asked};
 ghost use Rattle.program_rules.specs.Reply.{best_call, variants_call, call_of, reply, replied, responded, in_room, put_in};
 ghost use Rattle.program_rules.specs.Seen.{seen};
 
-use best_root::BestAnswer;
-use program_rules::queries::Asked;
-use program_rules::replies::Answered;
 use program_rules::{headlines, queries};
 use refusal::Refusal;
-use variants_root::VariantsAnswer;
+use term_add::store_mut::StoreMut;
 
 mod variant_lines; // variant_lines.rt: the answers of variants, one after the other: their length, and their bytes
 mod best_reply; // best_reply.rt: the text of an answer of best in a lent buffer: the line, the term's text, a newline
 mod variants_reply; // variants_reply.rt: the text of an answer of variants in a lent buffer: its length first, then its bytes
 
 // Best of a file into a store that starts empty, and its text.
-fn best_of(plain: bool, file: &[u8], sort: u64, value: u64, out: &mut [u8]) -> Answered
+fn best_of(
+    plain: bool,
+    file: &[u8],
+    sort: u64,
+    value: u64,
+    out: &mut [u8],
+) -> Result<usize, Refusal>
     ensures { seen result out.new
         ≡ put_in (in_room (length out.old) (best_call plain file.now sort value)) out.old }
 {
     let mut records = [0u64; term_layout::RECORDS];
     let mut literals = [0i64; 1024];
     let mut names = [0u8; name::TABLE];
-    let best = extract::best(
-        file,
-        sort,
-        value,
-        &mut records,
-        &mut literals,
-        &mut names,
-        0,
-        0,
-    );
-    match best {
-        BestAnswer::Refused(r) => Answered::Refused(r),
-        BestAnswer::Found(cost, term, passes, terms, symbols) => best_reply::put(
-            plain, out, &records, &literals, &names, terms, symbols, cost, term, passes,
-        ),
-    }
+    let mut store = StoreMut {
+        records: &mut records,
+        literals: &mut literals,
+        names: &mut names,
+        terms: 0,
+        symbols: 0,
+    };
+    let best = extract::best(file, sort, value, &mut store)?;
+    best_reply::put(plain, out, &store.read(), best.cost, best.term, best.passes)
 }
 
 // Variants of a file into a store and lists that start empty, and their texts.
-fn variants_of(file: &[u8], sort: u64, value: u64, most: u64, out: &mut [u8]) -> Answered
+fn variants_of(
+    file: &[u8],
+    sort: u64,
+    value: u64,
+    most: u64,
+    out: &mut [u8],
+) -> Result<usize, Refusal>
     ensures { seen result out.new
         ≡ put_in (in_room (length out.old) (variants_call file.now sort value most))
         out.old }
@@ -55,29 +57,34 @@ fn variants_of(file: &[u8], sort: u64, value: u64, most: u64, out: &mut [u8]) ->
     let mut names = [0u8; name::TABLE];
     let mut paid = [0u64; 256];
     let mut found = [0u64; 256];
-    let variants = extract::variants(
+    let mut store = StoreMut {
+        records: &mut records,
+        literals: &mut literals,
+        names: &mut names,
+        terms: 0,
+        symbols: 0,
+    };
+    let kept = extract::variants(
         file,
         sort,
         value,
         most as usize,
-        &mut records,
-        &mut literals,
-        &mut names,
-        0,
-        0,
+        &mut store,
         &mut paid,
         &mut found,
-    );
-    match variants {
-        VariantsAnswer::Refused(r) => Answered::Refused(r),
-        VariantsAnswer::Kept(count, passes, terms, symbols) => variants_reply::put(
-            out, &records, &literals, &names, terms, symbols, &paid, &found, count, passes,
-        ),
-    }
+    )?;
+    variants_reply::put(out, &store.read(), &paid, &found, kept.count, kept.passes)
 }
 
 // The call that the mode asks for.
-fn by_mode(file: &[u8], mode: u64, sort: u64, value: u64, most: u64, out: &mut [u8]) -> Answered
+fn by_mode(
+    file: &[u8],
+    mode: u64,
+    sort: u64,
+    value: u64,
+    most: u64,
+    out: &mut [u8],
+) -> Result<usize, Refusal>
     ensures { seen result out.new
         ≡ put_in
         (in_room (length out.old) (call_of (asked mode sort value most) file.now))
@@ -91,14 +98,18 @@ fn by_mode(file: &[u8], mode: u64, sort: u64, value: u64, most: u64, out: &mut [
 }
 
 // The answer to an input: a query, then a table file. The text stands at the start of `out`, or nothing changes.
-pub fn answer(input: &[u8], out: &mut [u8]) -> Answered
+pub fn answer(input: &[u8], out: &mut [u8]) -> Result<usize, Refusal>
     ensures { seen result out.new ≡ replied input.now out.old }
 {
-    let query = queries::ask(input);
-    match query {
-        Asked::Refused(r) => Answered::Refused(r),
-        Asked::Query(mode, sort, value, most) => by_mode(&input[3..], mode, sort, value, most, out),
-    }
+    let query = queries::ask(input)?;
+    by_mode(
+        &input[3..],
+        query.mode,
+        query.sort,
+        query.value,
+        query.most,
+        out,
+    )
 }
 
 // What the program writes, at the start of a buffer of at least 16,384 bytes: the text, or `refused K`.
@@ -106,30 +117,24 @@ fn write(input: &[u8], out: &mut [u8]) -> usize
     requires { 16384 ≤ length out.old }
     ensures { Wrote (reply input.now) result out.old out.new }
 {
-    let answered = answer(input, &mut out[..16384]);
-    match answered {
-        Answered::Written(n) => n,
-        Answered::Refused(r) => {
-            let k = refusal::number(r) as u64;
-            headlines::put_refused(out, k)
-        }
+    match answer(input, &mut out[..16384]) {
+        Ok(n) => n,
+        Err(r) => headlines::put_refused(out, u64::from(refusal::number(r))),
     }
 }
 
 // What the program writes, at the start of `out`: NoRoom where that is longer, and then nothing changes. A buffer below
 // 16,384 bytes gets it from one of the call's own.
-pub fn respond(input: &[u8], out: &mut [u8]) -> Answered
+pub fn respond(input: &[u8], out: &mut [u8]) -> Result<usize, Refusal>
     ensures { seen result out.new ≡ responded input.now out.old }
 {
     if 16384 <= out.len() {
-        let n = write(input, out);
-        return Answered::Written(n);
+        return Ok(write(input, out));
     }
     let mut own = [0u8; 16384];
     let n = write(input, &mut own);
     if out.len() < n {
-        return Answered::Refused(Refusal::NoRoom);
+        return Err(Refusal::NoRoom);
     }
-    let k = headlines::put_word(out, 0, &own[..n]);
-    Answered::Written(k)
+    Ok(headlines::put_word(out, 0, &own[..n]))
 }

@@ -51,13 +51,11 @@ pub fn texts_length(
         costs.now terms.now k)) }
 {
     let mut acc = 0;
-    let mut j = 0;
-    while j < k {
+    for j in 0..k {
         let c = costs[j];
         let t = terms[j] as usize;
         let long = one_length(records, literals, names, places, wides, n, j + 1, c, t);
         acc = text_pieces::add(acc, long);
-        j += 1;
     }
     acc
 }
@@ -83,9 +81,8 @@ fn put_one(
         out.old out.new }
 {
     let a = headlines::put_variant(out, p, i as u64, c, n as u64);
-    let limit = 18446744073709551615;
     let e = a
-        + text_write::put(
+        + text_write::flat::put(
             &mut out[a..],
             records,
             literals,
@@ -96,13 +93,13 @@ fn put_one(
             n,
             0,
             false,
-            limit,
+            u64::MAX,
             0,
             0,
             0,
             t,
         );
-    out[e] = 10;
+    out[e] = b'\n';
     e + 1
 }
 
@@ -130,8 +127,7 @@ pub fn put_texts(
         costs.now terms.now k) p result out.old out.new }
 {
     let mut e = p;
-    let mut j = 0;
-    while j < k {
+    for j in 0..k {
         let c = costs[j];
         let t = terms[j] as usize;
         e = put_one(
@@ -147,7 +143,6 @@ pub fn put_texts(
             c,
             t,
         );
-        j += 1;
     }
     e
 }

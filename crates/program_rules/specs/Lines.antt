@@ -19,6 +19,14 @@ refused_word = 114 ∷ 101 ∷ 102 ∷ 117 ∷ 115 ∷ 101 ∷ 100 ∷ 32 ∷ []
 unfoldable pub number_text : ℕ → ℕ → List ℕ
 number_text x after = digits x ++ (after ∷ [])
 
+-- Numbers, a space after each; and a line of a word, such numbers, and a last number with a newline.
+unfoldable pub spaced : List ℕ → List ℕ
+spaced [] = []
+spaced (x ∷ xs) = number_text x 32 ++ spaced xs
+
+unfoldable pub line_text : List ℕ → List ℕ → ℕ → List ℕ
+line_text word numbers last = (word ++ spaced numbers) ++ number_text last 10
+
 -- "`best C N P`": the cost, the terms in the store after the call, the passes.
 unfoldable pub best_line : ℕ → ℕ → ℕ → List ℕ
 best_line c n p = ((best_word ++ number_text c 32) ++ number_text n 32) ++ number_text p 10

@@ -3,38 +3,32 @@ ghost use Rattle.std.specs.Prelude.{◌≡◌};
 ghost use Rattle.program_rules.specs.Query.{query_at};
 ghost use Rattle.program_rules.specs.Asked.{got_query};
 
-use bits::Field;
 use refusal::Refusal;
 
-// Mode, sort, value and n; or the first fault.
+// What is asked.
 #[derive(Clone, Copy)]
-pub enum Asked {
-    Refused(Refusal),
-    Query(u64, u64, u64, u64),
+pub struct Query {
+    pub mode: u64,
+    pub sort: u64,
+    pub value: u64,
+    pub most: u64,
 }
 
-// The query at the start of the input.
-pub fn ask(input: &[u8]) -> Asked
+// The query at the start of the input; or the first fault.
+pub fn ask(input: &[u8]) -> Result<Query, Refusal>
     ensures { got_query result ≡ query_at input.now }
 {
-    let first = bits::read(input, 0, 2);
-    let Field::Value(mode, _) = first else {
-        return Asked::Refused(Refusal::Short);
-    };
+    let (mode, _) = bits::read(input, 0, 2)?;
     if mode == 3 {
-        return Asked::Refused(Refusal::BadMode);
+        return Err(Refusal::BadMode);
     }
-    let second = bits::read(input, 2, 5);
-    let Field::Value(sort, _) = second else {
-        return Asked::Refused(Refusal::Short);
-    };
-    let third = bits::read(input, 7, 9);
-    let Field::Value(value, _) = third else {
-        return Asked::Refused(Refusal::Short);
-    };
-    let fourth = bits::read(input, 16, 8);
-    let Field::Value(most, _) = fourth else {
-        return Asked::Refused(Refusal::Short);
-    };
-    Asked::Query(mode, sort, value, most)
+    let (sort, _) = bits::read(input, 2, 5)?;
+    let (value, _) = bits::read(input, 7, 9)?;
+    let (most, _) = bits::read(input, 16, 8)?;
+    Ok(Query {
+        mode,
+        sort,
+        value,
+        most,
+    })
 }

@@ -2,98 +2,65 @@
 // them. Assumes nothing.
 #![tactic(auto)]
 
-use best_root::BestAnswer;
 use lent_calls::steps::Held;
 use lent_calls::{choices, steps};
 use lent_entries::Name;
 use std::io;
-use variants_root::VariantsAnswer;
 
-fn plain(rt: &impl Print, h: Held, ns: &[Name], t: usize) -> io::Result<()> {
-    let ts = h.ts;
+fn plain(rt: &impl Print, h: &Held, ns: &[Name], t: usize) -> io::Result<()> {
     let mut out = [0u8; 300];
-    let answer = steps::plain_text(ts, ns, h.terms, h.symbols, t, &mut out);
+    let answer = steps::plain_text(h, ns, t, &mut out);
     run_output::write_plain(rt, answer, &out)
 }
 
-fn bound(rt: &impl Print, h: Held, ns: &[Name], t: usize) -> io::Result<()> {
-    let ts = h.ts;
+fn bound(rt: &impl Print, h: &Held, ns: &[Name], t: usize) -> io::Result<()> {
     let mut out = [0u8; 300];
-    let answer = steps::let_text(ts, ns, h.terms, h.symbols, t, b"", b"t", 0, false, &mut out);
+    let answer = steps::let_text(h, ns, t, b"", b"t", 0, false, &mut out);
     run_output::write_let(rt, answer, &out)
 }
 
 // The best term of class `value` of sort 0, on an empty store, and its texts.
 fn best(rt: &impl Print, file: &[u8], value: u64) -> io::Result<()> {
-    let h = steps::empty();
-    let ts = h.ts;
-    let e = [0u8; name::WIDTH];
-    let mut ns = [e; 128];
-    let s = choices::best(file, 0, value, ts, &mut ns, 0, 0);
-    let ts = s.ts;
-    let answer = s.answer;
-    match answer {
-        BestAnswer::Found(cost, term, passes, terms, symbols) => {
-            let list = [cost, terms as u64, passes];
-            run_output::write_line(rt, b"best", &list)?;
-            let after = Held { ts, terms, symbols };
-            bound(rt, after, &ns, term)?;
-            plain(rt, after, &ns, term)
+    let mut h = steps::empty();
+    let mut ns = [[0u8; name::WIDTH]; 128];
+    match choices::best(&mut h, file, 0, value, &mut ns) {
+        Ok(best) => {
+            println!(rt; "best {} {} {}", best.cost, best.terms, best.passes)?;
+            bound(rt, &h, &ns, best.term)?;
+            plain(rt, &h, &ns, best.term)
         }
-        BestAnswer::Refused(refusal) => run_output::write_refusal(rt, refusal),
+        Err(refusal) => run_output::write_refusal(rt, refusal),
     }
 }
 
-fn variant(
-    rt: &impl Print,
-    h: Held,
-    ns: &[Name],
-    i: usize,
-    cost: u64,
-    term: u64,
-) -> io::Result<()> {
-    let list = [i as u64, cost, h.terms as u64];
-    run_output::write_line(rt, b"variant", &list)?;
-    plain(rt, h, ns, term as usize)
-}
-
+// The first `k` variants, each with its plain text.
 fn all_kept(
     rt: &impl Print,
-    h: Held,
+    h: &Held,
     ns: &[Name],
-    costs: [u64; 9],
-    found: [u64; 9],
+    costs: &[u64; 9],
+    found: &[u64; 9],
     k: usize,
 ) -> io::Result<()> {
-    let mut i: usize = 0;
-    while i < 9 {
-        if i < k {
-            variant(rt, h, ns, i + 1, costs[i], found[i])?;
-        }
-        i += 1;
+    for (i, (cost, term)) in costs.iter().zip(found).take(k).enumerate() {
+        println!(rt; "variant {} {cost} {}", i + 1, h.terms)?;
+        plain(rt, h, ns, *term as usize)?;
     }
     Ok(())
 }
 
 // At most 9 variants of class 0 of sort 0, on an empty store, and their plain texts.
 fn variants(rt: &impl Print, file: &[u8]) -> io::Result<()> {
-    let h = steps::empty();
-    let ts = h.ts;
-    let e = [0u8; name::WIDTH];
-    let mut ns = [e; 128];
+    let mut h = steps::empty();
+    let mut ns = [[0u8; name::WIDTH]; 128];
     let mut costs = [0u64; 9];
     let mut found = [0u64; 9];
-    let s = choices::variants(file, 0, 0, 9, ts, &mut ns, 0, 0, &mut costs, &mut found);
-    let ts = s.ts;
-    let answer = s.answer;
-    match answer {
-        VariantsAnswer::Kept(k, passes, terms, symbols) => {
-            let list = [k as u64, passes];
-            run_output::write_line(rt, b"variants", &list)?;
-            let after = Held { ts, terms, symbols };
-            all_kept(rt, after, &ns, costs, found, k)
+    match choices::variants(&mut h, file, 0, 0, 9, &mut ns, &mut costs, &mut found) {
+        Ok(kept) => {
+            println!(rt; "variants {} {}", kept.count, kept.passes)?;
+            all_kept(rt, &h, &ns, &costs, &found, kept.count)
         }
-        VariantsAnswer::Refused(refusal) => run_output::write_refusal(rt, refusal),
+        Err(refusal) => run_output::write_refusal(rt, refusal),
     }
 }
 

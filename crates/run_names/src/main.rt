@@ -5,27 +5,22 @@
 use std::io;
 
 fn digit(yes: bool) -> u8 {
-    if yes { 49 } else { 48 }
+    if yes { b'1' } else { b'0' }
 }
 
 fn one_byte_names(rt: &impl Print) -> io::Result<()> {
-    let mut line = [10u8; 257];
-    let mut b: usize = 0;
-    while b < 256 {
-        let name = [(b % 256) as u8];
-        line[b] = digit(name::is_valid(&name));
-        b += 1;
+    let mut line = [b'\n'; 257];
+    for b in 0..=255u8 {
+        line[usize::from(b)] = digit(name::is_valid(&[b]));
     }
     rt.write_all(&line)
 }
 
 fn names_by_length(rt: &impl Print) -> io::Result<()> {
-    let letters = [97u8; 33];
-    let mut line = [10u8; 35];
-    let mut n: usize = 0;
-    while n < 34 {
+    let letters = [b'a'; 33];
+    let mut line = [b'\n'; 35];
+    for n in 0..34 {
         line[n] = digit(name::is_valid(&letters[..n]));
-        n += 1;
     }
     rt.write_all(&line)
 }

@@ -5,65 +5,29 @@
 
 ghost use Rattle.std.specs.Prelude.{◌≡◌, ◌+◌, ◌≤◌, length, take};
 
-use file_reader::Outcome;
+use file_rules::Table;
 use std::fs::File;
 use std::io;
 
 // 0 where the file is accepted, else the number of its refusal.
 fn verdict(file: &[u8]) -> u8 {
-    let mut kinds = [0u64; 32];
-    let mut classes = [0u64; 32];
-    let mut literals = [0i64; 512];
-    let mut names = [0u8; name::TABLE];
-    let mut declared = [0u64; 128];
-    let mut costs = [0u64; 128];
-    let mut unextractable = [0u64; 128];
-    let mut hidden = [0u64; 128];
-    let mut outputs = [0u64; 128];
-    let mut arities = [0u64; 128];
-    let mut arguments = [0u64; 1024];
-    let mut functions = [0u64; 1024];
-    let mut subsumed = [0u64; 1024];
-    let mut cells = [0u64; 9216];
-    let outcome = file::read(
-        file,
-        &mut kinds,
-        &mut classes,
-        &mut literals,
-        &mut names,
-        &mut declared,
-        &mut costs,
-        &mut unextractable,
-        &mut hidden,
-        &mut outputs,
-        &mut arities,
-        &mut arguments,
-        &mut functions,
-        &mut subsumed,
-        &mut cells,
-    );
-    let Outcome::Refused(why) = outcome else {
-        return 0;
-    };
-    refusal::number(why)
+    let mut table = Table::empty();
+    match file::read(file, &mut table) {
+        Ok(_) => 0,
+        Err(why) => refusal::number(why),
+    }
 }
 
 // A digit; `?` for what is none.
 fn digit(n: u8) -> u8 {
-    if n < 10 { 48 + n } else { 63 }
-}
-
-fn wide(x: u8) -> usize
-    ensures { result ≤ 255 }
-{
-    x as usize
+    if n < 10 { b'0' + n } else { b'?' }
 }
 
 // The length that stands at place `p`.
 fn length_at(s: &[u8], p: usize) -> usize
     requires { p + 2 ≤ length s.now }
 {
-    wide(s[p]) * 256 + wide(s[p + 1])
+    usize::from(u16::from_be_bytes([s[p], s[p + 1]]))
 }
 
 // Writes the verdict of each file of `s` to the front of `out`; how many there are.
@@ -71,9 +35,8 @@ fn verdicts(s: &[u8], out: &mut [u8]) -> usize
     ensures upper_bound { result ≤ length out.new }
     ensures value { result ≡ length (take result out.new) }
 {
-    let mut p: usize = 0;
-    let mut k: usize = 0;
-    while k < out.len() {
+    let mut p = 0;
+    for k in 0..out.len() {
         if s.len() - p < 2 {
             return k;
         }
@@ -84,10 +47,9 @@ fn verdicts(s: &[u8], out: &mut [u8]) -> usize
         }
         let e = a + n;
         out[k] = digit(verdict(&s[a..e]));
-        k += 1;
         p = e;
     }
-    k
+    out.len()
 }
 
 fn main(rt: HostRuntime) -> io::Result<()> {

@@ -14,19 +14,14 @@ ghost use Rattle.std.specs.Prelude.{◌+◌, ◌≤◌, length};
 
 use std::fs::File;
 use std::io;
-use text_whole::{LetText, Text};
-
-fn wide(x: u8) -> usize
-    ensures { result ≤ 255 }
-{
-    x as usize
-}
+use term_layout::lent::Lent;
+use text_whole::Naming;
 
 // The number of two bytes at place `p`.
 fn pair(s: &[u8], p: usize) -> usize
     requires { p + 2 ≤ length s.now }
 {
-    wide(s[p]) * 256 + wide(s[p + 1])
+    usize::from(s[p]) * 256 + usize::from(s[p + 1])
 }
 
 // The number of `n` bytes at place `p`, or 0 where the bytes are not there.
@@ -43,10 +38,8 @@ fn number(s: &[u8], p: usize, n: usize) -> u64
 fn load_records(records: &mut [u64], s: &[u8], a: usize)
     requires { (a ≤ 500000) × (length records.old ≤ 20000) }
 {
-    let mut j = 0;
-    while j < records.len() {
-        records[j] = number(s, a + j * 2, 2);
-        j += 1;
+    for (j, x) in records.iter_mut().enumerate() {
+        *x = number(s, a + j * 2, 2);
     }
 }
 
@@ -54,114 +47,62 @@ fn load_records(records: &mut [u64], s: &[u8], a: usize)
 fn load_literals(literals: &mut [i64], s: &[u8], a: usize)
     requires { (a ≤ 500000) × (length literals.old ≤ 2000) }
 {
-    let mut j = 0;
-    while j < literals.len() {
-        literals[j] = file_rules::signed_of(number(s, a + j * 8, 8));
-        j += 1;
+    for (j, x) in literals.iter_mut().enumerate() {
+        *x = file_rules::signed_of(number(s, a + j * 8, 8));
     }
-}
-
-fn write_number(rt: &impl Print, x: u64) -> io::Result<()> {
-    if 20 < decimal::digits_length(x) {
-        return Ok(());
-    }
-    let mut digits = [0u8; 20];
-    let n = decimal::put_digits(&mut digits, x);
-    rt.write_all(&digits[..n])
 }
 
 fn write_refused(rt: &impl Print, why: refusal::Refusal) -> io::Result<()> {
-    rt.write_all(b"refused ")?;
-    write_number(rt, refusal::number(why) as u64)?;
-    rt.write_all(b"\n")
+    println!(rt; "refused {}", refusal::number(why))
 }
 
 // A length, and that much of `out` on the lines after it.
 fn write_text(rt: &impl Print, out: &[u8], n: usize) -> io::Result<()> {
-    write_number(rt, n as u64)?;
-    rt.write_all(b"\n")?;
+    println!(rt; "{n}")?;
     if n <= out.len() {
         rt.write_all(&out[..n])?;
     }
-    rt.write_all(b"\n")
+    println!(rt;)
 }
 
 // The call for plain text that `s` describes.
-fn run_plain(
-    rt: &impl Print,
-    s: &[u8],
-    records: &[u64],
-    literals: &[i64],
-    names: &[u8],
-    out: &mut [u8],
-) -> io::Result<()>
+fn run_plain(rt: &impl Print, s: &[u8], lent: &Lent, out: &mut [u8]) -> io::Result<()>
     requires { 22 ≤ length s.now }
 {
-    let terms = pair(s, 6);
-    let symbols = pair(s, 8);
-    let term = pair(s, 10);
-    match text::plain_text(records, literals, names, terms, symbols, term, out) {
-        Text::Written(n) => {
-            rt.write_all(b"plain ")?;
-            write_text(rt, out, n)
+    match text::plain_text(lent, pair(s, 10), out) {
+        Ok(length) => {
+            print!(rt; "plain ")?;
+            write_text(rt, out, length)
         }
-        Text::Refused(why) => write_refused(rt, why),
+        Err(why) => write_refused(rt, why),
     }
 }
 
 // The call for let text that `s` describes; prefix and hint stand in `stem`.
-fn run_let(
-    rt: &impl Print,
-    s: &[u8],
-    stem: &[u8],
-    records: &[u64],
-    literals: &[i64],
-    names: &[u8],
-    out: &mut [u8],
-) -> io::Result<()>
+fn run_let(rt: &impl Print, s: &[u8], stem: &[u8], lent: &Lent, out: &mut [u8]) -> io::Result<()>
     requires { 22 ≤ length s.now }
 {
-    let terms = pair(s, 6);
-    let symbols = pair(s, 8);
-    let term = pair(s, 10);
-    let start = number(s, 14, 8);
-    let cut = wide(s[2]);
+    let cut = usize::from(s[2]);
     if stem.len() < cut {
         return Ok(());
     }
-    match text::let_text(
-        records,
-        literals,
-        names,
-        terms,
-        symbols,
-        term,
-        &stem[..cut],
-        &stem[cut..],
-        start,
-        s[1] == 1,
-        out,
-    ) {
-        LetText::Written(n, next) => {
-            rt.write_all(b"let ")?;
-            write_number(rt, next)?;
-            rt.write_all(b" ")?;
-            write_text(rt, out, n)
+    let naming = Naming {
+        prefix: &stem[..cut],
+        hint: &stem[cut..],
+        start: number(s, 14, 8),
+        bare: s[1] == 1,
+    };
+    match text::let_text(lent, pair(s, 10), &naming, out) {
+        Ok(text) => {
+            print!(rt; "let {} ", text.next)?;
+            write_text(rt, out, text.length)
         }
-        LetText::Refused(why) => write_refused(rt, why),
+        Err(why) => write_refused(rt, why),
     }
 }
 
 // The call that `s` describes, on its store.
-fn run(
-    rt: &impl Print,
-    s: &[u8],
-    stem: &[u8],
-    records: &[u64],
-    literals: &[i64],
-    names: &[u8],
-    out: &mut [u8],
-) -> io::Result<()>
+fn run(rt: &impl Print, s: &[u8], stem: &[u8], lent: &Lent, out: &mut [u8]) -> io::Result<()>
     requires { 22 ≤ length s.now }
 {
     let room = pair(s, 12);
@@ -169,17 +110,14 @@ fn run(
         return Ok(());
     }
     if s[0] % 2 == 0 {
-        return run_plain(rt, s, records, literals, names, &mut out[..room]);
+        return run_plain(rt, s, lent, &mut out[..room]);
     }
-    run_let(rt, s, stem, records, literals, names, &mut out[..room])
+    run_let(rt, s, stem, lent, &mut out[..room])
 }
 
 // Whether a call brings its own store.
 fn has_store(s: &[u8]) -> bool {
-    if s.len() == 0 {
-        return false;
-    }
-    s[0] < 2
+    s.first().is_some_and(|b| *b < 2)
 }
 
 // Lays out the store of the call `held`, and makes the call that `s` describes on it.
@@ -190,8 +128,8 @@ fn lay(rt: &impl Print, held: &[u8], s: &[u8], out: &mut [u8]) -> io::Result<()>
     if s.len() < 22 {
         return Ok(());
     }
-    let q = 22 + wide(s[2]) + wide(s[3]);
-    let p = 22 + wide(held[2]) + wide(held[3]);
+    let q = 22 + usize::from(s[2]) + usize::from(s[3]);
+    let p = 22 + usize::from(held[2]) + usize::from(held[3]);
     let r = pair(held, 4);
     if s.len() < q {
         return Ok(());
@@ -209,15 +147,14 @@ fn lay(rt: &impl Print, held: &[u8], s: &[u8], out: &mut [u8]) -> io::Result<()>
     load_records(&mut records, held, p);
     let mut literals = [0i64; 1040];
     load_literals(&mut literals, held, a);
-    run(
-        rt,
-        s,
-        &s[22..q],
-        &records[..m],
-        &literals[..r],
-        &held[b..],
-        out,
-    )
+    let lent = Lent {
+        records: &records[..m],
+        literals: &literals[..r],
+        names: &held[b..],
+        terms: pair(s, 6),
+        symbols: pair(s, 8),
+    };
+    run(rt, s, &s[22..q], &lent, out)
 }
 
 // Makes the call that `call` describes on the store of the call from `b` to `c` of `s`.

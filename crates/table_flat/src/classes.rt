@@ -10,11 +10,9 @@ pub fn number_sorts(sorts: usize, classes: &[u64], bases: &mut [u64]) -> u64
     ensures bases { Bases sorts classes.now bases.new }
 {
     let mut total = 0;
-    let mut s = 0;
-    while s < sorts {
+    for s in 0..sorts {
         bases[s] = total;
         total += classes[s];
-        s += 1;
     }
     total
 }

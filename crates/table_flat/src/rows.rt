@@ -52,11 +52,8 @@ fn lay_outputs(
     ensures { Mapped (output_in bases.now arities.now outputs.now
         rowfunctions.now cells.now) order.now list.new }
 {
-    let mut k = 0;
-    while k < order.len() {
-        let r = order[k] as usize;
-        list[k] = output_of(bases, arities, outputs, rowfunctions, cells, r);
-        k += 1;
+    for (k, r) in order.iter().enumerate() {
+        list[k] = output_of(bases, arities, outputs, rowfunctions, cells, *r as usize);
     }
 }
 
@@ -79,11 +76,8 @@ fn lay_heads(order: &[u64], declared: &[u64], costs: &[u64], rowfunctions: &[u64
     ensures { Mapped (head_in declared.now costs.now rowfunctions.now)
         order.now list.new }
 {
-    let mut k = 0;
-    while k < order.len() {
-        let r = order[k] as usize;
-        list[k] = head_of(declared, costs, rowfunctions, r);
-        k += 1;
+    for (k, r) in order.iter().enumerate() {
+        list[k] = head_of(declared, costs, rowfunctions, *r as usize);
     }
 }
 
@@ -114,15 +108,10 @@ fn lay_cells(
     ensures { Filled list.new result (take at list.old
         ++ child_numbers kinds.now bases.now sorts.now cells.now) }
 {
-    let mut m = at;
-    let mut j = 0;
-    while j < sorts.len() {
-        let s = sorts[j] as usize;
-        list[m] = child_of(kinds, bases, s, cells[j]);
-        m += 1;
-        j += 1;
+    for (j, s) in sorts.iter().enumerate() {
+        list[at + j] = child_of(kinds, bases, *s as usize, cells[j]);
     }
-    m
+    at + sorts.len()
 }
 
 // Row `r`'s child numbers, from place `at` on; where they end.
@@ -173,9 +162,7 @@ fn lay_children(
         order.now) }
 {
     let mut m = 0;
-    let mut k = 0;
-    while k < order.len() {
-        let r = order[k] as usize;
+    for r in order {
         m = lay_row(
             kinds,
             bases,
@@ -183,11 +170,10 @@ fn lay_children(
             arguments,
             rowfunctions,
             cells,
-            r,
+            *r as usize,
             list,
             m,
         );
-        k += 1;
     }
     m
 }
@@ -201,13 +187,10 @@ fn lay_starts(order: &[u64], arities: &[u64], rowfunctions: &[u64], starts: &mut
 {
     starts[0] = 0;
     let mut at = 0;
-    let mut k = 0;
-    while k < order.len() {
-        let r = order[k] as usize;
-        let f = rowfunctions[r] as usize;
+    for (k, r) in order.iter().enumerate() {
+        let f = rowfunctions[*r as usize] as usize;
         at += arities[f] as usize;
-        k += 1;
-        starts[k] = at;
+        starts[k + 1] = at;
     }
 }
 

@@ -1,12 +1,13 @@
 -- Row j after row i was put, part by part: row i has what was put, any other row what it had. Assumes nothing.
-use mathlib.Core.Path.{◌≡◌, ap, sym, ◌∙◌}
-use mathlib.Core.List.{List}
+use mathlib.Core.Path.{◌≡◌, refl, ap, sym, ◌∙◌}
+use mathlib.Core.List.{List, [], ◌∷◌}
 use Prim.{Dec, yes, no}
-use Prim.Native.Nat.{ℕ, suc, ◌+◌, ◌*◌, ◌≤◌, ◌<◌}
+use Prim.Native.Nat.{ℕ, ◌+◌, ◌*◌, ◌≤◌, ◌<◌}
 use native.Mathlib.Decide.{dec_lt}
 use native.Mathlib.Omega.{arith}
 use lib.ListN.{length, get_or, set, take, drop}
 use lib.Seq.{paste, paste-zero, paste-suc, length-paste, take-length, get_or-drop}
+use Rattle.std.proofs.lemmas.List.Edits.{paste-paste}
 use Rattle.name.proofs.PasteLaws.{part-paste-before, part-paste, get_d-paste-before, get_d-paste, drop-paste-past}
 use Rattle.table_layout.specs.Rows.{
   width,
@@ -20,7 +21,7 @@ use Rattle.table_layout.specs.Rows.{
   put_row,
 }
 
--- The numbers of a row are written one by one.
+-- The numbers of a row are written one by one, and its children as one part.
 module _ (d : List ℕ) (at r f c : ℕ) (ks : List ℕ) (h : at + 4 ≤ length d) where
   abbrev s : List ℕ
   s = row_numbers r f c ks
@@ -39,19 +40,13 @@ module _ (d : List ℕ) (at r f c : ℕ) (ks : List ℕ) (h : at + 4 ≤ length 
       ap (λ (x : List ℕ). set x (at + 2) c) b ∙ paste-suc d at s 2 0 (omega arith) (omega arith) in
       ap (λ (x : List ℕ). set x (at + 3) (length ks)) e ∙ paste-suc d at s 3 0 (omega arith) (omega arith)
 
-  number-past-four : (j : ℕ) → get_or s (4 + j) 0 ≡ get_or ks j 0
-  number-past-four j = let e : 4 + j ≡ suc (suc (suc (suc j))) = omega arith in rw e
-
-  -- and its children, one more
-  pub paste-child :
-      (j : ℕ) →
-      j < length ks →
-      at + 4 + j < length d →
-      set (paste d at s (4 + j)) (at + 4 + j) (get_or ks j 0) ≡ paste d at s (4 + (j + 1))
-  paste-child j l k =
-      let e : at + 4 + j ≡ at + (4 + j) = omega arith in
-      let m : 4 + (j + 1) ≡ suc (4 + j) = omega arith in
-      rw (e, m, ← number-past-four j) (paste-suc d at s (4 + j) 0 (omega arith) (omega arith))
+  -- and its children
+  pub paste-row :
+      paste (set (set (set (set d at r) (at + 1) f) (at + 2) c) (at + 3) (length ks)) (at + 4) ks (length ks)
+      ≡ paste d at s (4 + length ks)
+  paste-row =
+      ap (λ (x : List ℕ). paste x (at + 4) ks (length ks)) paste-four
+      ∙ paste-paste d at (r ∷ f ∷ c ∷ length ks ∷ []) ks 4 (length ks) refl refl (omega arith)
 
 module _ (rows : List ℕ) (i r f c : ℕ) (ks : List ℕ) (h : HasRow rows i) (few : length ks ≤ 8) where
   abbrev new : List ℕ

@@ -22,19 +22,12 @@ pub const WIDTH: usize = 12;
 // The numbers of 1,024 rows, the most that a table has.
 pub const ROWS: usize = 12288;
 
-// A narrow number as a wide one.
-pub fn wide(x: u16) -> usize
-    ensures { result ≡ x }
-{
-    x as usize
-}
-
 // The number in the file of row `i`.
 pub fn file_row_of(rows: &[u16], i: usize) -> usize
     requires { HasRow rows.now i }
     ensures { result ≡ file_row_at rows.now i }
 {
-    wide(rows[i * WIDTH])
+    usize::from(rows[i * WIDTH])
 }
 
 // Its function.
@@ -42,7 +35,7 @@ pub fn function_of(rows: &[u16], i: usize) -> usize
     requires { HasRow rows.now i }
     ensures { result ≡ function_at rows.now i }
 {
-    wide(rows[i * WIDTH + 1])
+    usize::from(rows[i * WIDTH + 1])
 }
 
 // The class of its output.
@@ -50,7 +43,7 @@ pub fn output_of(rows: &[u16], i: usize) -> usize
     requires { HasRow rows.now i }
     ensures { result ≡ output_at rows.now i }
 {
-    wide(rows[i * WIDTH + 2])
+    usize::from(rows[i * WIDTH + 2])
 }
 
 // The count of its children.
@@ -58,7 +51,7 @@ pub fn count_of(rows: &[u16], i: usize) -> usize
     requires { HasRow rows.now i }
     ensures { result ≡ count_at rows.now i }
 {
-    wide(rows[i * WIDTH + 3])
+    usize::from(rows[i * WIDTH + 3])
 }
 
 // Its children: a number below 512 is a class, 512 + i the literal of index i.
@@ -68,7 +61,7 @@ pub fn children_of(rows: &[u16], i: usize) -> &[u16]
     ensures { result.now ≡ children_at rows.now i }
 {
     let a = i * WIDTH + 4;
-    let n = wide(rows[i * WIDTH + 3]);
+    let n = usize::from(rows[i * WIDTH + 3]);
     let e = a + n;
     &rows[a..e]
 }
@@ -85,9 +78,7 @@ pub fn put_row(rows: &mut [u16], i: usize, row: u16, function: u16, output: u16,
     rows[at + 1] = function;
     rows[at + 2] = output;
     rows[at + 3] = children.len() as u16;
-    let mut j = 0;
-    while j < children.len() {
-        rows[at + 4 + j] = children[j];
-        j += 1;
-    }
+    let a = at + 4;
+    let e = a + children.len();
+    rows[a..e].copy_from_slice(children);
 }

@@ -9,10 +9,8 @@ fn narrow(to: &mut [u16], from: &[u64])
     requires { (length from.now ≤ length to.old) × Narrow from.now }
     ensures { take (length from.now) to.new ≡ from.now }
 {
-    let mut j = 0;
-    while j < from.len() {
-        to[j] = from[j] as u16;
-        j += 1;
+    for (j, x) in from.iter().enumerate() {
+        to[j] = *x as u16;
     }
 }
 
@@ -57,9 +55,7 @@ pub fn fill(
     ensures { Packed order.now functions.now outputs.now starts.now
         children.now rows.new (length outputs.now) }
 {
-    let mut i = 0;
-    while i < outputs.len() {
+    for i in 0..outputs.len() {
         put_one(rows, order, functions, outputs, starts, children, i);
-        i += 1;
     }
 }

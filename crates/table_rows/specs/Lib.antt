@@ -5,3 +5,4 @@ pub mod Rooted
 pub mod Flattened
 pub mod Opening
 pub mod Loading
+pub mod Given

@@ -1,6 +1,7 @@
 -- A table file and a root: the first fault, a literal, or a class with its rows. Assumes nothing: definitions.
 use Prim.{Unit}
-use Rattle.std.specs.Prelude.{ℕ, ◌≡◌, List, [], ◌∷◌, map, ℤ, length, replicate}
+use Rattle.std.specs.Prelude.{ℕ, ◌≡◌, List, [], ◌∷◌, map, ℤ, length, replicate, Option, Some, None, Result, Ok, Err}
+use Rattle.std.specs.Prelude.{ok_or}
 use Rattle.refusal.specs.declared.Refusal.{Refusal}
 use Rattle.refusal.specs.declared.Refusal.TheVariants.{BadRoot}
 use Rattle.name.specs.Entries.{table_length, entry}
@@ -11,18 +12,9 @@ use Rattle.file_rules.specs.Reading.{OnGot}
 use Rattle.table_rows.specs.Rooted.{root_of}
 use Rattle.table_rows.specs.Flattened.{Flattened}
 use Rattle.table_rows.specs.declared.prepare.Root.{Root}
-use Rattle.table_rows.specs.declared.prepare.Root.TheVariants.{Bad as NoRoot, Class as RootClass, Literal as RootLiteral}
-use Rattle.table_rows.specs.declared.prepare.Opened.{Opened}
-use Rattle.table_rows.specs.declared.prepare.Opened.TheVariants.{Bad, Class as OpenedClass, Literal as OpenedLiteral}
+use Rattle.table_rows.specs.declared.prepare.Root.TheVariants.{Class as RootClass, Literal as RootLiteral}
 use Rattle.table_rows.specs.declared.Loaded.{Loaded}
-use Rattle.table_rows.specs.declared.Loaded.TheVariants.{Refused, Class, Literal}
-
--- The arrays before the file is read.
-pub record Blank (names arities row_functions cells : List ℕ) : Type 0 where
-  pub names_zero : names ≡ replicate table_length 0
-  pub arities_zero : arities ≡ replicate 128 0
-  pub row_functions_zero : row_functions ≡ replicate 1024 0
-  pub cells_zero : cells ≡ replicate 9216 0
+use Rattle.table_rows.specs.declared.Loaded.TheVariants.{Class, Literal}
 
 -- A fault, a literal or a class.
 pub data Asked : Type 0 where
@@ -30,16 +22,16 @@ pub data Asked : Type 0 where
   literal : ℕ → Asked
   class : ℕ → Asked
 
-abbrev pub asked_in : Loaded → Asked
-asked_in (Refused r) = fault r
-asked_in (Literal i) = literal i
-asked_in (Class c n m w) = class c
+abbrev pub asked_in : Result Loaded Refusal → Asked
+asked_in (Err r) = fault r
+asked_in (Ok (Literal i)) = literal i
+asked_in (Ok (Class c f)) = class c
 
 -- "BadRoot: asked sort not below S, or value out of its range"
-abbrev pub asked_of : Root → Asked
-asked_of NoRoot = fault BadRoot
-asked_of (RootLiteral i) = literal i
-asked_of (RootClass c) = class c
+abbrev pub asked_of : Option Root → Asked
+asked_of None = fault BadRoot
+asked_of (Some (RootLiteral i)) = literal i
+asked_of (Some (RootClass c)) = class c
 
 -- "Best and variants: file, 10": the file's faults come before the root's.
 unfoldable pub asked : Got Table → ℕ → ℕ → Asked
@@ -47,19 +39,18 @@ asked (refused r) s v = fault r
 asked (got t k) s v = asked_of (root_of t s v)
 
 -- What is answered for what was opened.
-abbrev pub loaded_of : Opened → Loaded
-loaded_of Bad = Refused BadRoot
-loaded_of (OpenedLiteral i) = Literal i
-loaded_of (OpenedClass c n m w) = Class c n m w
+abbrev pub loaded_of : Option Loaded → Result Loaded Refusal
+loaded_of o = ok_or o BadRoot
 
 -- P of the numbers of rows, children and classes, where the answer is a class.
-abbrev pub OnClass : Loaded → (ℕ → ℕ → ℕ → Type 0) → Type 0
-OnClass (Refused r) P = Unit {0}
-OnClass (Literal i) P = Unit {0}
-OnClass (Class c n m w) P = P n m w
+abbrev pub OnClass : Result Loaded Refusal → (ℕ → ℕ → ℕ → Type 0) → Type 0
+OnClass (Err r) P = Unit {0}
+OnClass (Ok (Literal i)) P = Unit {0}
+OnClass (Ok (Class c f)) P = P f.rows f.children f.classes
 
 -- What stands in the lent arrays and lists, where a table was read.
-pub record Standing (t : Table) (s : ℕ) (r : Loaded) (literals : List ℤ) (names arities row_functions cells : List ℕ)
+pub record Standing (t : Table) (s : ℕ) (r : Result Loaded Refusal) (literals : List ℤ)
+    (names arities row_functions cells : List ℕ)
     (order flat heads starts children : List ℕ) : Type 0 where
   pub literals_held : HoldsLiterals literals t.literals
   pub names_are : names ≡ pad table_length (blocks (λ (f : Function). entry f.name) t.functions)
@@ -68,7 +59,8 @@ pub record Standing (t : Table) (s : ℕ) (r : Loaded) (literals : List ℤ) (na
   pub cells_are : cells ≡ pad 9216 (blocks (λ (r : Row). pad 9 r.cells) t.rows)
   pub reached : OnClass r (λ n m w. Flattened t (s ∷ []) n m w order flat heads starts children)
 
-pub record Loads (g : Got Table) (s v : ℕ) (r : Loaded) (literals : List ℤ) (names arities row_functions cells : List ℕ)
+pub record Loads (g : Got Table) (s v : ℕ) (r : Result Loaded Refusal) (literals : List ℤ)
+    (names arities row_functions cells : List ℕ)
     (order flat heads starts children : List ℕ) : Type 0 where
   pub answer : asked_in r ≡ asked g s v
   pub filled :

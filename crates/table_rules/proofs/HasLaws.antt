@@ -7,8 +7,9 @@ use native.Mathlib.Omega.{arith}
 use native.Mathlib.Numerals.{add-one}
 use borrow.Author.Tests.{ltb-true, ltb-false, eqb-true, eqb-false, eq-eqb, ne_eqb}
 use lib.Dec.{eqb, ltb}
-use lib.ListN.{length, get_or, take, drop, set, length-take}
-use lib.Seq.{drop-cons, drop-length, take-suc-set, get_or-take}
+use lib.ListN.{length, get_or, take, drop, set}
+use lib.Seq.{drop-cons, take-suc-set}
+use Rattle.std.specs.List.{list_any}
 use Rattle.table_rules.specs.Order.{has, Apart, none, more}
 
 -- By the two values of a test.
@@ -83,23 +84,11 @@ has-place x (y ∷ l) h =
       r.2,
     ))
 
--- The search through the first n numbers.
-module _ (a : ℕ) (q : List ℕ) (i n : ℕ) (long : n ≤ length q) where
-  pub has_here : i < n → get_or q i 0 ≡ a → has a (drop i (take n q)) ≡ true
-  unfolding has
-  has_here h e =
-      let l : i < length (take n q) = rw length-take (omega arith) in
-      rw (drop-step (take n q) i l, get_or-take n q i 0 h, eq-eqb (get_or q i 0) a e)
-
-  pub has-further : i < n → (get_or q i 0 ≡ a → ⊥) → has a (drop (i + 1) (take n q)) ≡ has a (drop i (take n q))
-  unfolding has
-  has-further h e =
-      let l : i < length (take n q) = rw length-take (omega arith) in
-      rw (drop-step (take n q) i l, get_or-take n q i 0 h, ne_eqb (get_or q i 0) a e)
-
-  pub has_end : n ≤ i → i ≤ n → has a (drop i (take n q)) ≡ false
-  unfolding has
-  has_end h l = let e : i ≡ length (take n q) = rw length-take (omega arith) in rw (e, drop-length)
+-- What a slice's `contains` answers.
+pub has-any : (a : ℕ) (l : List ℕ) → list_any (λ y. eqb y a) l ≡ has a l
+unfolding has
+has-any a [] = refl
+has-any a (x ∷ l) = rw (has-any a l)
 
 pub apart-last : {n : ℕ} (a : ℕ) (q : List ℕ) → Apart n q → a < n → has a q ≡ false → Apart n (q ++ (a ∷ []))
 unfolding has

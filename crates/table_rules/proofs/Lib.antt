@@ -1,6 +1,5 @@
 -- The laws of the crate `table_rules`.
 pub mod HasLaws
-pub mod BarLaws
 pub mod PickedLaws
 pub mod QueueLaws
 pub mod ArrayLaws

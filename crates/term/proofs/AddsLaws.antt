@@ -1,17 +1,15 @@
 -- The calls that add a term and those that look one up keep their promises. Assumes nothing.
 use Prim.Native.Nat.{ℕ, ◌≤◌}
 use mathlib.Core.Path.{◌≡◌, refl, sym, subst}
-use mathlib.Core.Bool.{Bool, true, false}
+use mathlib.Core.Bool.{true, false}
 use mathlib.Core.List.{List}
 use mathlib.Core.Logic.{◌⊎◌, inl, inr}
-use native.Mathlib.Omega.{arith}
 use borrow.Author.Tests.{leb-true, le-leb}
 use lib.Dec.{leb}
 use lib.ListN.{length}
 use lib.IntN.{ℤ}
 use Rattle.name.specs.Name.{valid}
-use Rattle.name.specs.declared.Found.{Found}
-use Rattle.name.specs.declared.Found.TheVariants.{At, Missing}
+use Rattle.std.specs.Prelude.{Option, Some, None}
 use Rattle.refusal.specs.declared.Refusal.{Refusal}
 use Rattle.refusal.specs.declared.Refusal.TheVariants.{BadStore, BadName, BadSize, BadTerm, NoRoom, Absent}
 use Rattle.term_rules.specs.Lent.{Store}
@@ -26,18 +24,52 @@ use Rattle.term_rules.specs.Growing.{Fit, Takes}
 use Rattle.term_rules.specs.Growing.{Gives as Added}
 use Rattle.term_rules.proofs.Adding.AddingLaws.{add-gives}
 use Rattle.term.specs.Answers.{Answer, given, refused, refuse}
-use Rattle.term.specs.Calls.{Faults, fine, fault, unless, literal_faults, variable_faults, application_faults, added, adding, add_literal, add_variable, add_application, found, finding, find_literal, find_variable, find_application}
+use Rattle.term.specs.Calls.{
+  Faults,
+  fine,
+  fault,
+  literal_faults,
+  variable_faults,
+  application_faults,
+  added,
+  adding,
+  add_literal,
+  add_variable,
+  add_application,
+  found,
+  finding,
+  find_literal,
+  find_variable,
+  find_application,
+}
 use Rattle.term.specs.Orders.{Telling, never, must, Refuses}
-use Rattle.term.specs.Outcomes.{IsTerm, There, AllIn, Room, Gives, old, new, Adds, Finds, asks_literal, asks_variable, asks_application}
+use Rattle.term.specs.Outcomes.{
+  IsTerm,
+  There,
+  AllIn,
+  Room,
+  Gives,
+  old,
+  new,
+  Adds,
+  Finds,
+  asks_literal,
+  asks_variable,
+  asks_application,
+}
 use Rattle.term.proofs.DeterminedLaws.{given-same, given-refused}
+use Rattle.term.proofs.CallLaws.{literal-fits, variable-fits, application-fits}
 use Rattle.term.proofs.OrderLaws.{refuses-never, refuses-pass, refuses-fail, refuses-unless}
-use Rattle.term.proofs.AppendedLaws.{there-of-found, absent-of-missing, room-told, told-room, add-there, add-new, add-full, new-appended}
-
--- a test that has passed
-passed : (b : Bool) (r : Refusal) (f : Faults) → unless b r f ≡ fine → (b ≡ true) × (f ≡ fine)
-unfolding unless
-passed true r f e = (refl, e)
-passed false r f e = let z : ◌≡◌ {A = ℕ} 0 1 = cc in absurd (omega arith)
+use Rattle.term.proofs.AppendedLaws.{
+  there-of-found,
+  absent-of-missing,
+  room-told,
+  told-room,
+  add-there,
+  add-new,
+  add-full,
+  new-appended,
+}
 
 -- a call that adds
 module _ (s : Store) (node : Node) where
@@ -61,7 +93,7 @@ module _ (s : Store) (node : Node) where
       subst told (sym (add-full s node e r))
       (refuses-fail (refuse NoRoom) (There s node ⊎ Room s node) 13 never (full e r) refl)))
     where
-      full : find_term s node ≡ Missing → room_for s node ≡ false → There s node ⊎ Room s node → ⊥
+      full : find_term s node ≡ None → room_for s node ≡ false → There s node ⊎ Room s node → ⊥
       full e r (inl t) = absent-of-missing s node e t
       full e r (inr h) = no_both (room_for s node) (told-room s node h) r
 
@@ -93,7 +125,7 @@ module _ (s : Store) (node : Node) where
 
   adding-gives :
       (f : Faults) →
-      (f ≡ fine → (well_formed s ≡ true) × Fit s node) →
+      (fine ≡ f → (well_formed s ≡ true) × Fit s node) →
       (i : ℕ) →
       (adding s node f).0 ≡ given i →
       Gives s node i (adding s node f).1
@@ -113,7 +145,7 @@ module _ (s : Store) (node : Node) where
 
   adding-takes :
       (f : Faults) →
-      (f ≡ fine → (well_formed s ≡ true) × Fit s node) →
+      (fine ≡ f → (well_formed s ≡ true) × Fit s node) →
       (i : ℕ) →
       (adding s node f).0 ≡ given i →
       Takes s node i (adding s node f).1
@@ -123,7 +155,7 @@ module _ (s : Store) (node : Node) where
 
   adding-adds :
       (f : Faults) (asked : Telling → Telling) →
-      (f ≡ fine → (well_formed s ≡ true) × Fit s node) →
+      (fine ≡ f → (well_formed s ≡ true) × Fit s node) →
       Refuses (adding s node f).0 (asked (must (There s node ⊎ Room s node) 13 never)) →
       Adds s node asked (adding s node f)
   adding-adds f asked h refusals = record {
@@ -137,7 +169,7 @@ module _ (s : Store) (node : Node) where
   found-told : Refuses (found (find_term s node)) (must (There s node) 15 never)
   unfolding found
   found-told =
-      let told : Found → Type 0 = λ a. Refuses (found a) (must (There s node) 15 never) in
+      let told : Option ℕ → Type 0 = λ a. Refuses (found a) (must (There s node) 15 never) in
       found-cases (find_term s node)
       (λ i e.
       subst told (sym e)
@@ -146,10 +178,10 @@ module _ (s : Store) (node : Node) where
       subst told (sym e)
       (refuses-fail (refuse Absent) (There s node) 15 never (absent-of-missing s node e) refl))
 
-  found-is : (a : Found) → find_term s node ≡ a → (i : ℕ) → found a ≡ given i → IsTerm s node i
+  found-is : (a : Option ℕ) → find_term s node ≡ a → (i : ℕ) → found a ≡ given i → IsTerm s node i
   unfolding found
-  found-is (At j) e i d = subst (IsTerm s node) (given-same d) (there-of-found s node j e)
-  found-is Missing e i d = given-refused (sym d)
+  found-is (Some j) e i d = subst (IsTerm s node) (given-same d) (there-of-found s node j e)
+  found-is None e i d = given-refused (sym d)
 
   finding-is : (f : Faults) (i : ℕ) → finding s node f ≡ given i → IsTerm s node i
   unfolding finding
@@ -162,7 +194,8 @@ module _ (s : Store) {A : Type 0} (answer : Faults → Answer A) (refuses : (r :
   literal-asks : Refuses (answer (literal_faults s)) (asks_literal s rest)
   unfolding literal_faults
   literal-asks =
-      refuses-unless answer refuses (well_formed s) (well_formed s ≡ true) BadStore fine rest (λ e. e) (λ e. e) (λ e. end)
+      refuses-unless answer refuses (well_formed s) (well_formed s ≡ true) BadStore fine rest (λ e. e) (λ e. e)
+      (λ e. end)
 
   variable-asks : (n : List ℕ) → Refuses (answer (variable_faults s n)) (asks_variable s n rest)
   unfolding variable_faults
@@ -201,40 +234,18 @@ module _ (s : Store) where
   unfolding finding
   finding-told node = found-told s node
 
-  -- a node that passed its tests fits
-  literal-fits : (z : ℤ) → literal_faults s ≡ fine → (well_formed s ≡ true) × Fit s (literal z)
-  unfolding literal_faults
-  literal-fits z e = ((passed (well_formed s) BadStore fine e).0, tt)
-
-  variable-fits : (n : List ℕ) → variable_faults s n ≡ fine → (well_formed s ≡ true) × Fit s (variable n)
-  unfolding variable_faults
-  variable-fits n e =
-      let p = passed (well_formed s) BadStore (unless (valid n) BadName fine) e in
-      let q = passed (valid n) BadName fine p.1 in
-      (p.0, q.0)
-
-  application-fits :
-      (n ks : List ℕ) → application_faults s n ks ≡ fine → (well_formed s ≡ true) × Fit s (application n ks)
-  unfolding application_faults
-  application-fits n ks e =
-      let p = passed (well_formed s) BadStore _ e in
-      let q = passed (valid n) BadName _ p.1 in
-      let r = passed (leb (length ks) 8) BadSize _ q.1 in
-      let t = passed (all_below s.terms ks) BadTerm fine r.1 in
-      (p.0, (q.0, leb-true (length ks) 8 r.0, all_below-get s.terms ks t.0))
-
   pub literal-adds : (z : ℤ) → Adds s (literal z) (asks_literal s) (add_literal s z)
   unfolding add_literal
   literal-adds z =
       let node : Node = literal z in
-      adding-adds s node (literal_faults s) (asks_literal s) (literal-fits z)
+      adding-adds s node (literal_faults s) (asks_literal s) (literal-fits s z)
       (literal-asks s (λ f. (adding s node f).0) (adding-refuses node) _ (adding-told node))
 
   pub variable-adds : (n : List ℕ) → Adds s (variable n) (asks_variable s n) (add_variable s n)
   unfolding add_variable
   variable-adds n =
       let node : Node = variable n in
-      adding-adds s node (variable_faults s n) (asks_variable s n) (variable-fits n)
+      adding-adds s node (variable_faults s n) (asks_variable s n) (variable-fits s n)
       (variable-asks s (λ f. (adding s node f).0) (adding-refuses node) _ (adding-told node) n)
 
   pub application-adds :
@@ -242,7 +253,7 @@ module _ (s : Store) where
   unfolding add_application
   application-adds n ks =
       let node : Node = application n ks in
-      adding-adds s node (application_faults s n ks) (asks_application s n ks) (application-fits n ks)
+      adding-adds s node (application_faults s n ks) (asks_application s n ks) (application-fits s n ks)
       (application-asks s (λ f. (adding s node f).0) (adding-refuses node) _ (adding-told node) n ks)
 
   pub literal-finds : (z : ℤ) → Finds s (literal z) (asks_literal s) (find_literal s z)

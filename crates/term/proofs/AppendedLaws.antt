@@ -10,9 +10,9 @@ use borrow.Author.Tests.{ltb-true, lt-ltb}
 use lib.Dec.{ltb}
 use lib.ListN.{length, length-set}
 use lib.Seq.{paste, length-paste, drop-paste, take-set-le, drop-set-lt}
+use Rattle.std.specs.Prelude.{Some, None}
 use Rattle.name.specs.Name.{valid, same}
 use Rattle.name.specs.Entries.{entry_width, entries_length, entry_room, HasEntry, name_at, entry, put_name}
-use Rattle.name.specs.declared.Found.TheVariants.{At, Missing}
 use Rattle.name.proofs.EntryLaws.{entry_length}
 use Rattle.term_rules.specs.declared.Term.{Term}
 use Rattle.term_rules.specs.Lent.{Store, store, width, records_length, numbers, symbol_at, term_room, symbol_room}
@@ -58,13 +58,13 @@ use Rattle.term.specs.Outcomes.{
 -- the search for a term and for a name finds what is there, and nothing else
 module _ (s : Store) where
   module _ (node : Node) where
-    pub there-of-found : (i : ℕ) → find_term s node ≡ At i → IsTerm s node i
+    pub there-of-found : (i : ℕ) → find_term s node ≡ Some i → IsTerm s node i
     unfolding find_term
     there-of-found i e =
         let r = first-at (λ (j : ℕ). same_node (node_at s j) node) s.terms 0 i e in
         (omega (arith, r.1), same_node-tells.eq (node_at s i) node r.2)
 
-    pub absent-of-missing : find_term s node ≡ Missing → There s node → ⊥
+    pub absent-of-missing : find_term s node ≡ None → There s node → ⊥
     unfolding find_term
     absent-of-missing e t =
         tells-apart same_node same_node-tells (node_at s t.0) node
@@ -75,14 +75,14 @@ module _ (s : Store) where
         t.1.1
 
   module _ (n : List ℕ) where
-    knows-of-found : (k : ℕ) → find_symbol s n ≡ At k → Knows s n
+    knows-of-found : (k : ℕ) → find_symbol s n ≡ Some k → Knows s n
     knows-of-found k e =
         let r =
         first-at (λ (j : ℕ). same (name_at s.names j) n) s.symbols 0 k
         (sym (find_name-first s.names n s.symbols) ∙ e) in
         (k, (omega (arith, r.1), same-tells.eq (name_at s.names k) n r.2))
 
-    unknown-of-missing : find_symbol s n ≡ Missing → Knows s n → ⊥
+    unknown-of-missing : find_symbol s n ≡ None → Knows s n → ⊥
     unknown-of-missing e t =
         tells-apart same same-tells (name_at s.names t.0) n
         (first-missing (λ (j : ℕ). same (name_at s.names j) n) s.symbols 0
@@ -90,11 +90,11 @@ module _ (s : Store) where
         t.1.1
 
     -- what becomes of the name
-    room-known : (k : ℕ) → find_symbol s n ≡ At k → room_for_name s n ≡ true
+    room-known : (k : ℕ) → find_symbol s n ≡ Some k → room_for_name s n ≡ true
     unfolding room_for_name
     room-known k e = rw (e, room_for_name)
 
-    room-new : find_symbol s n ≡ Missing → room_for_name s n ≡ ltb s.symbols (symbol_room s)
+    room-new : find_symbol s n ≡ None → room_for_name s n ≡ ltb s.symbols (symbol_room s)
     unfolding room_for_name
     room-new e = rw (e, room_for_name)
 
@@ -109,18 +109,18 @@ module _ (s : Store) where
     room-name (inr l) =
         found-cases (find_symbol s n) room-known (λ e. room-new e ∙ lt-ltb s.symbols (symbol_room s) l)
 
-    with-known : (k : ℕ) → find_symbol s n ≡ At k → with_name s n ≡ s
+    with-known : (k : ℕ) → find_symbol s n ≡ Some k → with_name s n ≡ s
     unfolding with_name
     with-known k e = rw (e, with_name)
 
     abbrev named : Store
     named = store s.records s.literals (put_name s.names s.symbols n) s.terms (s.symbols + 1)
 
-    with-new : find_symbol s n ≡ Missing → with_name s n ≡ named
+    with-new : find_symbol s n ≡ None → with_name s n ≡ named
     unfolding with_name
     with-new e = rw (e, with_name)
 
-    symbol-new : find_symbol s n ≡ Missing → symbol_for s n ≡ s.symbols
+    symbol-new : find_symbol s n ≡ None → symbol_for s n ≡ s.symbols
     unfolding symbol_for
     symbol-new e = rw (e, symbol_for)
 
@@ -215,7 +215,7 @@ module _ (s : Store) (n : List ℕ) where
       (λ e. absurd (unknown-of-missing s n e t))
 
   module _ (formed : well_formed s ≡ true) (v : valid n ≡ true) (room : room_for_name s n ≡ true) where
-    symbol-fits : find_symbol s n ≡ Missing → HasEntry s.names s.symbols
+    symbol-fits : find_symbol s n ≡ None → HasEntry s.names s.symbols
     unfolding symbol_room
     symbol-fits e =
         let l : s.symbols < min 128 (entry_room (length s.names)) =
@@ -223,7 +223,7 @@ module _ (s : Store) (n : List ℕ) where
         omega arith
 
     put-within :
-        find_symbol s n ≡ Missing →
+        find_symbol s n ≡ None →
         OnlyWithin (entries_length s.symbols) (entries_length s.symbols + entry_width) s.names (put_name s.names s.symbols n)
     unfolding put_name
     put-within e =
@@ -294,11 +294,11 @@ module _ (s : Store) (formed : well_formed s ≡ true) where
 
 -- what adding answers
 module _ (s : Store) (node : Node) where
-  pub add-there : (i : ℕ) → find_term s node ≡ At i → add s node ≡ at i s
+  pub add-there : (i : ℕ) → find_term s node ≡ Some i → add s node ≡ at i s
   unfolding add
   add-there i e = rw (e, add)
 
-  module _ (e : find_term s node ≡ Missing) where
+  module _ (e : find_term s node ≡ None) where
     pub add-new : room_for s node ≡ true → add s node ≡ at s.terms (append s node)
     unfolding add
     add-new r = rw (e, r, add)

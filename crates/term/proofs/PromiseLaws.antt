@@ -6,8 +6,8 @@ use mathlib.Core.List.{List}
 use mathlib.Core.Logic.{◌↔◌}
 use borrow.Author.Tests.{ltb-true, lt-ltb}
 use lib.Dec.{ltb}
-use Rattle.order.specs.declared.Ordering.{Ordering}
-use Rattle.order.specs.declared.Ordering.TheVariants.{Same}
+use Rattle.std.specs.declared.cmp.Ordering.{Ordering}
+use Rattle.std.specs.declared.cmp.Ordering.TheVariants.{Equal}
 use Rattle.order.specs.Compare.{up_to}
 use Rattle.order.proofs.Sorting.SortLaws.{sorted-same, sorted-sorted}
 use Rattle.refusal.specs.declared.Refusal.{Refusal}
@@ -24,8 +24,24 @@ use Rattle.term_rules.proofs.Meaning.TreeLaws.{tree_at-means}
 use Rattle.term_order.specs.TreeOrder.{trees, compare_at, at_most}
 use Rattle.term_order.proofs.LawfulLaws.{trees-tells, self-same, at_most-linear}
 use Rattle.term_order.proofs.CodeLaws.{order_is, compare_same}
-use Rattle.term.specs.Answers.{Answer, given, refused, refuse}
-use Rattle.term.specs.Calls.{Faults, fine, fault, unless, sizing, size_of, get_faults, zero_record, getting, get_term, compare_faults, comparing, compare_terms, sort_faults, sorting, sort_terms}
+use Rattle.term.specs.Answers.{Answer, given, refused, refuse, zero_record}
+use Rattle.term.specs.Calls.{
+  Faults,
+  fine,
+  fault,
+  unless,
+  sizing,
+  size_of,
+  get_faults,
+  getting,
+  get_term,
+  compare_faults,
+  comparing,
+  compare_terms,
+  sort_faults,
+  sorting,
+  sort_terms,
+}
 use Rattle.term.specs.Orders.{never, must, Refuses}
 use Rattle.term.specs.Outcomes.{AllIn}
 use Rattle.term.specs.Promises.{Sorts}
@@ -167,7 +183,7 @@ module _ (s : Store) where
     sort-order a b h k = ap up_to (order_is s (sound-of-well_formed s w) a b h k)
 
     -- the same number is equal, and nothing else
-    pub order-numbers : (a b : ℕ) → a < s.terms → b < s.terms → (compare_at s a b ≡ Same) ↔ (a ≡ b)
+    pub order-numbers : (a b : ℕ) → a < s.terms → b < s.terms → (compare_at s a b ≡ Equal) ↔ (a ≡ b)
     unfolding compare_at
     order-numbers a b h k = (
       compare_same s (sound-of-well_formed s w) a b h k,

@@ -1,10 +1,9 @@
 -- What each call answers and leaves, from the lent store: document 01, 'Terms', with the refusals in its order.
 -- Assumes nothing: these are definitions.
-use Rattle.std.specs.Prelude.{ℕ, Bool, true, false, List, length, replicate, leb, ltb, ℤ, pos}
+use Rattle.std.specs.Prelude.{ℕ, Bool, true, false, List, length, leb, ltb, ℤ, Result, Ok, Err}
 use Rattle.name.specs.Name.{valid}
-use Rattle.name.specs.declared.Found.{Found}
-use Rattle.name.specs.declared.Found.TheVariants.{At, Missing}
-use Rattle.order.specs.declared.Ordering.{Ordering}
+use Rattle.std.specs.Prelude.{Option, Some, None}
+use Rattle.std.specs.declared.cmp.Ordering.{Ordering}
 use Rattle.refusal.specs.declared.Refusal.{Refusal}
 use Rattle.refusal.specs.declared.Refusal.TheVariants.{BadStore, BadName, BadSize, BadTerm, NoRoom, Absent}
 use Rattle.term_rules.specs.declared.Term.{Term}
@@ -14,7 +13,7 @@ use Rattle.term_rules.specs.Nodes.{Node, literal, variable, application}
 use Rattle.term_rules.specs.Adding.{find_term, Adds, at, no_room, add}
 use Rattle.order.specs.Sort.{sorted}
 use Rattle.term_order.specs.TreeOrder.{compare_at, at_most}
-use Rattle.term.specs.Answers.{Answer, given, refuse}
+use Rattle.term.specs.Answers.{Answer, given, refuse, zero_record}
 
 -- what may be wrong with a call, in order; nothing, if all tests pass
 pub data Faults : Type 0 where
@@ -26,6 +25,11 @@ unfoldable pub unless : Bool → Refusal → Faults → Faults
 unless true r f = f
 unless false r f = fault r
 
+-- what the tests of a call answer
+abbrev pub faults_of : {A : Type 0} → Result A Refusal → Faults
+faults_of (Ok a) = fine
+faults_of (Err r) = fault r
+
 -- "Literal: 17, 13."
 unfoldable pub literal_faults : Store → Faults
 literal_faults s = unless (well_formed s) BadStore fine
@@ -33,6 +37,10 @@ literal_faults s = unless (well_formed s) BadStore fine
 -- "Variable: 17, 4, 13."
 unfoldable pub variable_faults : Store → List ℕ → Faults
 variable_faults s name = unless (well_formed s) BadStore (unless (valid name) BadName fine)
+
+-- every number of the list is a term
+unfoldable pub terms_faults : ℕ → List ℕ → Faults
+terms_faults n ks = unless (all_below n ks) BadTerm fine
 
 -- "Application: 17, 4, 3, 14, 13."
 unfoldable pub application_faults : Store → List ℕ → List ℕ → Faults
@@ -59,9 +67,9 @@ unfoldable pub add_application : Store → List ℕ → List ℕ → Answer ℕ 
 add_application s name ks = adding s (application name ks) (application_faults s name ks)
 
 -- "Lookup has its kind's order with 15 for 13."
-unfoldable pub found : Found → Answer ℕ
-found (At i) = given i
-found Missing = refuse Absent
+unfoldable pub found : Option ℕ → Answer ℕ
+found (Some i) = given i
+found None = refuse Absent
 
 unfoldable pub finding : Store → Node → Faults → Answer ℕ
 finding s node fine = found (find_term s node)
@@ -87,10 +95,6 @@ size_of s = sizing s (unless (well_formed s) BadStore fine)
 -- "Get, compare and sort: 17, 14."
 unfoldable pub get_faults : Store → ℕ → Faults
 get_faults s i = unless (well_formed s) BadStore (unless (ltb i s.terms) BadTerm fine)
-
--- a refused get gives a record of zeros
-unfoldable pub zero_record : Term
-zero_record = record { kind = 0; symbol = 0; count = 0; literal = pos 0; children = replicate 8 0 }
 
 unfoldable pub getting : Store → ℕ → Faults → Answer Unit × Term
 getting s i fine = (given tt, record_at s i)

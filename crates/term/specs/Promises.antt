@@ -1,7 +1,7 @@
 -- What the term store promises: document 01, 'Terms'. Assumes nothing: a record, with one field for each theorem.
-use Rattle.std.specs.Prelude.{ℕ, ◌≤◌, ◌<◌, ◌≡◌, true, List, ◌↔◌, length, get_or, ℤ}
-use Rattle.order.specs.declared.Ordering.{Ordering}
-use Rattle.order.specs.declared.Ordering.TheVariants.{Less, Same}
+use Rattle.std.specs.Prelude.{ℕ, ◌≤◌, ◌<◌, ◌≡◌, true, List, ◌↔◌, length, get_or, ℤ, Result}
+use Rattle.std.specs.declared.cmp.Ordering.{Ordering}
+use Rattle.std.specs.declared.cmp.Ordering.TheVariants.{Less, Equal}
 use Rattle.order.specs.Compare.{flip, up_to}
 use Rattle.order.specs.Sort.{SameCounts, Sorted}
 use Rattle.term_rules.specs.Lent.{Store, record_at}
@@ -10,23 +10,10 @@ use Rattle.term_rules.specs.Nodes.{literal, variable, application, node_at, Tree
 use Rattle.term_rules.specs.Facts.{Sound}
 use Rattle.term_rules.specs.Trees.{tree_at}
 use Rattle.term_order.specs.TreeOrder.{trees, compare_at, at_most}
-use Rattle.term.specs.declared.Added.{Added}
-use Rattle.term.specs.declared.Looked.{Looked}
-use Rattle.term.specs.declared.Counted.{Counted}
-use Rattle.term.specs.declared.Got.{Got}
-use Rattle.term.specs.declared.Compared.{Compared}
-use Rattle.term.specs.declared.Verdict.{Verdict}
-use Rattle.term.specs.Answers.{
-  Answer,
-  given,
-  refused,
-  seen_added,
-  seen_found,
-  seen_count,
-  seen_got,
-  seen_order,
-  seen_sort,
-}
+use Rattle.refusal.specs.declared.Refusal.{Refusal}
+use Rattle.term_rules.specs.declared.Term.{Term}
+use Rattle.term_add.specs.declared.Added.{Added}
+use Rattle.term.specs.Answers.{Answer, given, refused, zero_record, seen, seen_added, seen_got, seen_sort}
 use Rattle.term.specs.Calls.{
   add_literal,
   add_variable,
@@ -35,7 +22,6 @@ use Rattle.term.specs.Calls.{
   find_variable,
   find_application,
   size_of,
-  zero_record,
   get_term,
   compare_terms,
   sort_terms,
@@ -127,14 +113,14 @@ pub record Promises : Type 0 where
   -- The order of terms is total: it turns round, is transitive, and calls the same only what is equal.
   pub order_flips : (t u : Tree) → trees u t ≡ flip (trees t u)
   pub order_trans : (t u v : Tree) → trees t u ≡ Less → trees u v ≡ Less → trees t v ≡ Less
-  pub order_same : (t u : Tree) → trees t u ≡ Same → t ≡ u
+  pub order_same : (t u : Tree) → trees t u ≡ Equal → t ≡ u
   -- "Equal means the same number", and the same number is equal.
   pub order_numbers :
       (s : Store) (a b : ℕ) →
       well_formed s ≡ true →
       a < s.terms →
       b < s.terms →
-      (compare_at s a b ≡ Same) ↔ (a ≡ b)
+      (compare_at s a b ≡ Equal) ↔ (a ≡ b)
   -- It goes by the trees that the numbers mean, however the store was filled.
   pub order_trees :
       (s : Store) (a b : ℕ) (t u : Tree) →
@@ -146,11 +132,12 @@ pub record Promises : Type 0 where
       compare_at s a b ≡ trees t u
   -- Each call's answer and the lists that it leaves are determined: what is seen the same is the same.
   pub add_determined :
-      (r r' : Added) (rs rs' : List ℕ) (ls ls' : List ℤ) (ns ns' : List ℕ) (n m : ℕ) →
+      (r r' : Result Added Refusal) (rs rs' : List ℕ) (ls ls' : List ℤ) (ns ns' : List ℕ) (n m : ℕ) →
       seen_added r rs ls ns n m ≡ seen_added r' rs' ls' ns' n m →
       (r ≡ r') × (rs ≡ rs') × (ls ≡ ls') × (ns ≡ ns')
-  pub find_determined : (r r' : Looked) → seen_found r ≡ seen_found r' → r ≡ r'
-  pub size_determined : (r r' : Counted) → seen_count r ≡ seen_count r' → r ≡ r'
-  pub get_determined : (r r' : Got) → seen_got r ≡ seen_got r' → r ≡ r'
-  pub compare_determined : (r r' : Compared) → seen_order r ≡ seen_order r' → r ≡ r'
-  pub sort_determined : (r r' : Verdict) (l m : List ℕ) → seen_sort r l ≡ seen_sort r' m → (r ≡ r') × (l ≡ m)
+  pub find_determined : (r r' : Result ℕ Refusal) → seen r ≡ seen r' → r ≡ r'
+  pub size_determined : (r r' : Result ℕ Refusal) → seen r ≡ seen r' → r ≡ r'
+  pub get_determined : (r r' : Result Term Refusal) → seen_got r ≡ seen_got r' → r ≡ r'
+  pub compare_determined : (r r' : Result Ordering Refusal) → seen r ≡ seen r' → r ≡ r'
+  pub sort_determined :
+      (r r' : Result Unit Refusal) (l m : List ℕ) → seen_sort r l ≡ seen_sort r' m → (r ≡ r') × (l ≡ m)

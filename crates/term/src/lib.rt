@@ -2,10 +2,18 @@
 // refusal leaves all that is lent as it was.
 #![tactic(auto)]
 
-ghost use Rattle.std.specs.Prelude.{◌≡◌};
+ghost use Rattle.std.specs.Prelude.{IfOk, IfErr, ◌≡◌, false};
+ghost use Rattle.refusal.specs.declared.Refusal.TheVariants.{BadStore};
+ghost use Rattle.term_layout.specs.Sound.{lent_of, store_of};
+ghost use Rattle.term_add.specs.Held.{held, SameLoans};
 ghost use Rattle.term_rules.specs.Lent.{store};
 ghost use Rattle.term_rules.specs.WellFormed.{well_formed};
 ghost use Rattle.term.specs.Calls.{
+  faults_of,
+  literal_faults,
+  variable_faults,
+  application_faults,
+  terms_faults,
   add_literal,
   add_variable,
   add_application,
@@ -13,343 +21,207 @@ ghost use Rattle.term.specs.Calls.{
   find_variable,
   find_application,
   size_of,
-  zero_record,
   get_term,
   compare_terms,
   sort_terms,
 };
-ghost use Rattle.term.specs.Answers.{refuse, seen_added, seen_found, seen_count, seen_got, seen_order, seen_sort};
+ghost use Rattle.term.specs.Answers.{seen, seen_added, seen_got, seen_sort};
 
-use name::Found;
-use order::Ordering;
 use refusal::Refusal;
+use std::cmp::Ordering;
+pub use term_add::Added;
+use term_add::store_mut::StoreMut;
+use term_layout::lent::Lent;
+use term_layout::store::Store;
 use term_rules::Term;
 
-// The term's number, and how many terms and symbols the store has now.
-#[derive(Clone, Copy)]
-pub enum Added {
-    Term(usize, usize, usize),
-    Refused(Refusal),
-}
-
-// The term's number.
-#[derive(Clone, Copy)]
-pub enum Looked {
-    Term(usize),
-    Refused(Refusal),
-}
-
-// How many terms there are.
-#[derive(Clone, Copy)]
-pub enum Counted {
-    Terms(usize),
-    Refused(Refusal),
-}
-
-// How the first term stands to the second.
-#[derive(Clone, Copy)]
-pub enum Compared {
-    Order(Ordering),
-    Refused(Refusal),
-}
-
-// Whether a call was done.
-#[derive(Clone, Copy)]
-pub enum Verdict {
-    Done,
-    Refused(Refusal),
-}
-
-// A record, all zero where the call was refused.
-#[derive(Clone, Copy)]
-pub struct Got {
-    pub verdict: Verdict,
-    pub term: Term,
-}
-
 // Whether what is lent is a well-formed store. Where it is not, every other call gives BadStore.
-pub fn is_well_formed(
-    records: &[u64],
-    literals: &[i64],
-    names: &[u8],
-    terms: usize,
-    symbols: usize,
-) -> bool
-    ensures { result ≡ well_formed (store records.now literals.now names.now terms symbols) }
+pub fn is_well_formed(lent: &Lent) -> bool
+    ensures { result ≡ well_formed (lent_of lent.now) }
 {
-    term_record::check(records, literals, names, terms, symbols)
+    term_record::check(lent)
+}
+
+// What each call asks first: a well-formed store. It comes back as one that is known to be.
+pub fn check_store<'a>(lent: &Lent<'a>) -> Result<Store<'a>, Refusal>
+    ensures faults { faults_of result
+        ≡ literal_faults (lent_of lent.now) }
+    ensures same { IfOk result (λ s. store_of s ≡ lent_of lent.now) }
+    ensures bad { IfErr result (λ why. (why ≡ BadStore) × (well_formed (lent_of lent.now) ≡ false)) }
+{
+    term_record::checked(lent).ok_or(Refusal::BadStore)
+}
+
+// What a call on a variable asks.
+fn check_variable<'a>(lent: &Lent<'a>, name: &[u8]) -> Result<Store<'a>, Refusal>
+    ensures faults { faults_of result
+        ≡ variable_faults (lent_of lent.now) name.now }
+    ensures same { IfOk result (λ s. store_of s ≡ lent_of lent.now) }
+{
+    let store = check_store(lent)?;
+    if !name::is_valid(name) {
+        return Err(Refusal::BadName);
+    }
+    Ok(store)
+}
+
+// Whether every number of the list is a term.
+fn check_terms(list: &[u64], terms: usize) -> Result<(), Refusal>
+    ensures { faults_of result ≡ terms_faults terms list.now }
+{
+    if !term_record::all_below(list, terms) {
+        return Err(Refusal::BadTerm);
+    }
+    Ok(())
+}
+
+// What a call on an application asks.
+fn check_application<'a>(
+    lent: &Lent<'a>,
+    name: &[u8],
+    children: &[u64],
+) -> Result<Store<'a>, Refusal>
+    ensures faults { faults_of result
+        ≡ application_faults (lent_of lent.now)
+        name.now children.now }
+    ensures same { IfOk result (λ s. store_of s ≡ lent_of lent.now) }
+{
+    let store = check_variable(lent, name)?;
+    if 8 < children.len() {
+        return Err(Refusal::BadSize);
+    }
+    check_terms(children, store.terms)?;
+    Ok(store)
 }
 
 // Gives the literal's number, and adds it if it is not there: `lit` of src/termdag.rs.
-pub fn add_literal(
-    records: &mut [u64],
-    literals: &mut [i64],
-    names: &[u8],
-    terms: usize,
-    symbols: usize,
-    literal: i64,
-) -> Added
-    ensures { seen_added result records.new literals.new names.now terms symbols
-        ≡ add_literal (store records.old literals.old names.now terms symbols) literal }
+pub fn add_literal(store: &mut StoreMut, literal: i64) -> Result<usize, Refusal>
+    ensures loans { SameLoans store.old store.new }
+    ensures added { (seen result, held store.new) ≡ add_literal (held store.old) literal }
 {
-    if !term_record::check(records, literals, names, terms, symbols) {
-        return Added::Refused(Refusal::BadStore);
-    }
-    let term_add::Added::Term(i, n, m) = term_add::intern_literal(
-        records, literals, names, terms, symbols, literal,
-    ) else {
-        return Added::Refused(Refusal::NoRoom);
-    };
-    Added::Term(i, n, m)
+    check_store(&store.lent())?;
+    store.intern_literal(literal).ok_or(Refusal::NoRoom)
 }
 
 // Gives the variable's number, and adds it if it is not there: `var` of src/termdag.rs.
-pub fn add_variable(
-    records: &mut [u64],
-    literals: &mut [i64],
-    names: &mut [u8],
-    terms: usize,
-    symbols: usize,
-    name: &[u8],
-) -> Added
-    ensures { seen_added result records.new literals.new names.new terms symbols
-        ≡ add_variable (store records.old literals.old names.old terms symbols)
-        name.now }
+pub fn add_variable(store: &mut StoreMut, name: &[u8]) -> Result<usize, Refusal>
+    ensures loans { SameLoans store.old store.new }
+    ensures added { (seen result, held store.new) ≡ add_variable (held store.old) name.now }
 {
-    if !term_record::check(records, literals, names, terms, symbols) {
-        return Added::Refused(Refusal::BadStore);
-    }
-    if !name::is_valid(name) {
-        return Added::Refused(Refusal::BadName);
-    }
-    let term_add::Added::Term(i, n, m) = term_add::intern_variable(
-        records, literals, names, terms, symbols, name,
-    ) else {
-        return Added::Refused(Refusal::NoRoom);
-    };
-    Added::Term(i, n, m)
+    check_variable(&store.lent(), name)?;
+    store.intern_variable(name).ok_or(Refusal::NoRoom)
 }
 
 // Gives the application's number, and adds it if it is not there: `app` of src/termdag.rs.
 pub fn add_application(
-    records: &mut [u64],
-    literals: &mut [i64],
-    names: &mut [u8],
-    terms: usize,
-    symbols: usize,
+    store: &mut StoreMut,
     name: &[u8],
     children: &[u64],
-) -> Added
-    ensures { seen_added result records.new literals.new names.new terms symbols
-        ≡ add_application (store records.old literals.old names.old terms symbols)
-        name.now children.now }
+) -> Result<usize, Refusal>
+    ensures loans { SameLoans store.old store.new }
+    ensures added { (seen result, held store.new)
+        ≡ add_application (held store.old) name.now children.now }
 {
-    if !term_record::check(records, literals, names, terms, symbols) {
-        return Added::Refused(Refusal::BadStore);
-    }
-    if !name::is_valid(name) {
-        return Added::Refused(Refusal::BadName);
-    }
-    if 8 < children.len() {
-        return Added::Refused(Refusal::BadSize);
-    }
-    if !term_record::all_below(children, terms) {
-        return Added::Refused(Refusal::BadTerm);
-    }
-    let term_add::Added::Term(i, n, m) = term_add::intern_application(
-        records, literals, names, terms, symbols, name, children,
-    ) else {
-        return Added::Refused(Refusal::NoRoom);
-    };
-    Added::Term(i, n, m)
+    check_application(&store.lent(), name, children)?;
+    store
+        .intern_application(name, children)
+        .ok_or(Refusal::NoRoom)
 }
 
-// Gives the literal's number: `lookup` of src/termdag.rs.
-pub fn find_literal(
-    records: &[u64],
-    literals: &[i64],
+// The same of a literal, for a caller that lends its names to be read alone.
+pub fn add_literal_flat(
+    records: &mut [u64],
+    literals: &mut [i64],
     names: &[u8],
     terms: usize,
     symbols: usize,
     literal: i64,
-) -> Looked
-    ensures { seen_found result
-        ≡ find_literal (store records.now literals.now names.now terms symbols) literal }
+) -> Result<Added, Refusal>
+    ensures { seen_added result records.new literals.new names.now terms symbols
+        ≡ add_literal (store records.old literals.old names.now terms symbols) literal }
 {
-    if !term_record::check(records, literals, names, terms, symbols) {
-        return Looked::Refused(Refusal::BadStore);
-    }
-    let Found::At(i) = term_add::find_literal(records, literals, names, terms, symbols, literal)
-    else {
-        return Looked::Refused(Refusal::Absent);
-    };
-    Looked::Term(i)
+    check_store(&Lent {
+        records,
+        literals,
+        names,
+        terms,
+        symbols,
+    })?;
+    term_add::intern_literal(records, literals, names, terms, symbols, literal).ok_or(
+        Refusal::NoRoom,
+    )
+}
+
+// Gives the literal's number: `lookup` of src/termdag.rs.
+pub fn find_literal(lent: &Lent, literal: i64) -> Result<usize, Refusal>
+    ensures { seen result
+        ≡ find_literal (lent_of lent.now) literal }
+{
+    let store = check_store(lent)?;
+    term_add::find_literal(&store, literal).ok_or(Refusal::Absent)
 }
 
 // Gives the variable's number: `lookup` of src/termdag.rs.
-pub fn find_variable(
-    records: &[u64],
-    literals: &[i64],
-    names: &[u8],
-    terms: usize,
-    symbols: usize,
-    name: &[u8],
-) -> Looked
-    ensures { seen_found result
-        ≡ find_variable (store records.now literals.now names.now terms symbols)
+pub fn find_variable(lent: &Lent, name: &[u8]) -> Result<usize, Refusal>
+    ensures { seen result
+        ≡ find_variable (lent_of lent.now)
         name.now }
 {
-    if !term_record::check(records, literals, names, terms, symbols) {
-        return Looked::Refused(Refusal::BadStore);
-    }
-    if !name::is_valid(name) {
-        return Looked::Refused(Refusal::BadName);
-    }
-    let Found::At(i) = term_add::find_variable(records, literals, names, terms, symbols, name)
-    else {
-        return Looked::Refused(Refusal::Absent);
-    };
-    Looked::Term(i)
+    let store = check_variable(lent, name)?;
+    term_add::find_variable(&store, name).ok_or(Refusal::Absent)
 }
 
 // Gives the application's number: `lookup` of src/termdag.rs.
-pub fn find_application(
-    records: &[u64],
-    literals: &[i64],
-    names: &[u8],
-    terms: usize,
-    symbols: usize,
-    name: &[u8],
-    children: &[u64],
-) -> Looked
-    ensures { seen_found result
-        ≡ find_application (store records.now literals.now names.now terms symbols)
+pub fn find_application(lent: &Lent, name: &[u8], children: &[u64]) -> Result<usize, Refusal>
+    ensures { seen result
+        ≡ find_application (lent_of lent.now)
         name.now children.now }
 {
-    if !term_record::check(records, literals, names, terms, symbols) {
-        return Looked::Refused(Refusal::BadStore);
-    }
-    if !name::is_valid(name) {
-        return Looked::Refused(Refusal::BadName);
-    }
-    if 8 < children.len() {
-        return Looked::Refused(Refusal::BadSize);
-    }
-    if !term_record::all_below(children, terms) {
-        return Looked::Refused(Refusal::BadTerm);
-    }
-    let Found::At(i) = term_add::find_application(
-        records, literals, names, terms, symbols, name, children,
-    ) else {
-        return Looked::Refused(Refusal::Absent);
-    };
-    Looked::Term(i)
+    let store = check_application(lent, name, children)?;
+    term_add::find_application(&store, name, children).ok_or(Refusal::Absent)
 }
 
 // How many terms the store has: `size` of src/termdag.rs.
-pub fn size(
-    records: &[u64],
-    literals: &[i64],
-    names: &[u8],
-    terms: usize,
-    symbols: usize,
-) -> Counted
-    ensures { seen_count result
-        ≡ size_of (store records.now literals.now names.now terms symbols) }
+pub fn size(lent: &Lent) -> Result<usize, Refusal>
+    ensures { seen result
+        ≡ size_of (lent_of lent.now) }
 {
-    if !term_record::check(records, literals, names, terms, symbols) {
-        return Counted::Refused(Refusal::BadStore);
-    }
-    Counted::Terms(terms)
-}
-
-// The answer of `get` where it is refused.
-fn no_term(refusal: Refusal) -> Got
-    ensures { seen_got result ≡ (refuse refusal, zero_record) }
-{
-    let term = Term {
-        kind: 0,
-        symbol: 0,
-        count: 0,
-        literal: 0,
-        children: [0u64; 8],
-    };
-    Got {
-        verdict: Verdict::Refused(refusal),
-        term,
-    }
+    let store = check_store(lent)?;
+    Ok(store.terms)
 }
 
 // Term `i`: `get` of src/termdag.rs.
-pub fn get(
-    records: &[u64],
-    literals: &[i64],
-    names: &[u8],
-    terms: usize,
-    symbols: usize,
-    i: usize,
-) -> Got
+pub fn get(lent: &Lent, i: usize) -> Result<Term, Refusal>
     ensures { seen_got result
-        ≡ get_term (store records.now literals.now names.now terms symbols) i }
+        ≡ get_term (lent_of lent.now) i }
 {
-    if !term_record::check(records, literals, names, terms, symbols) {
-        return no_term(Refusal::BadStore);
+    let store = check_store(lent)?;
+    if store.terms <= i {
+        return Err(Refusal::BadTerm);
     }
-    if terms <= i {
-        return no_term(Refusal::BadTerm);
-    }
-    let term = term_record::record_at(records, literals, i);
-    Got {
-        verdict: Verdict::Done,
-        term,
-    }
+    Ok(term_record::record_at(store.records, store.literals, i))
 }
 
 // How term `a` stands to term `b`: `ast_cmp` of src/termdag.rs.
-pub fn compare(
-    records: &[u64],
-    literals: &[i64],
-    names: &[u8],
-    terms: usize,
-    symbols: usize,
-    a: usize,
-    b: usize,
-) -> Compared
-    ensures { seen_order result
-        ≡ compare_terms (store records.now literals.now names.now terms symbols) a b }
+pub fn compare(lent: &Lent, a: usize, b: usize) -> Result<Ordering, Refusal>
+    ensures { seen result
+        ≡ compare_terms (lent_of lent.now) a b }
 {
-    if !term_record::check(records, literals, names, terms, symbols) {
-        return Compared::Refused(Refusal::BadStore);
+    let store = check_store(lent)?;
+    if store.terms <= a || store.terms <= b {
+        return Err(Refusal::BadTerm);
     }
-    if terms <= a {
-        return Compared::Refused(Refusal::BadTerm);
-    }
-    if terms <= b {
-        return Compared::Refused(Refusal::BadTerm);
-    }
-    let order = term_order::compare(records, literals, names, terms, symbols, a, b);
-    Compared::Order(order)
+    Ok(term_order::compare(&store, a, b))
 }
 
 // Sorts a list of terms of any length, and keeps repeats: `sort_terms_by_ast` of src/termdag.rs.
-pub fn sort(
-    records: &[u64],
-    literals: &[i64],
-    names: &[u8],
-    terms: usize,
-    symbols: usize,
-    list: &mut [u64],
-) -> Verdict
+pub fn sort(lent: &Lent, list: &mut [u64]) -> Result<(), Refusal>
     ensures { seen_sort result list.new
-        ≡ sort_terms (store records.now literals.now names.now terms symbols)
+        ≡ sort_terms (lent_of lent.now)
         list.old }
 {
-    if !term_record::check(records, literals, names, terms, symbols) {
-        return Verdict::Refused(Refusal::BadStore);
-    }
-    if !term_record::all_below(list, terms) {
-        return Verdict::Refused(Refusal::BadTerm);
-    }
-    term_order::sort::sort(records, literals, names, terms, symbols, list);
-    Verdict::Done
+    let store = check_store(lent)?;
+    check_terms(list, store.terms)?;
+    term_order::sort::sort(&store, list);
+    Ok(())
 }

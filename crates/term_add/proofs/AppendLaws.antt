@@ -8,9 +8,9 @@ use borrow.Author.Tests.{lt-ltb, le-ltb, ltb-true, leb-true}
 use lib.Dec.{leb}
 use lib.ListN.{length, set}
 use lib.IntN.{ℤ, pos}
+use Rattle.std.specs.Prelude.{Option, Some, None}
 use Rattle.name.specs.Name.{valid}
 use Rattle.name.specs.Entries.{entries_length, entry_room, find_name, put_name}
-use Rattle.name.specs.declared.Found.TheVariants.{At, Missing}
 use Rattle.term_rules.specs.Lent.{Store, store, records_length, record_room, put_record, term_room, symbol_room}
 use Rattle.term_rules.specs.Nodes.{Node, literal, variable, application, record_of}
 use Rattle.term_rules.specs.Adding.{
@@ -38,7 +38,6 @@ use Rattle.term_rules.proofs.StepLaws.{
 }
 use Rattle.term_add.specs.Interning.{room_in, name_room_in, Leaves, append_named, append_literal}
 use Rattle.term_add.specs.declared.Added.{Added}
-use Rattle.term_add.specs.declared.Added.TheVariants.{Term as term, NoRoom}
 
 pub room-refuses : (r l n : ℕ) → min 1024 (min (record_room r) l) ≤ n → false ≡ room_in r l n
 room-refuses r l n h = sym (le-ltb n (min 1024 (min (record_room r) l)) h)
@@ -64,7 +63,11 @@ unfolding valid
 valid-short name e =
     leb-true (length name) 31 (and_first (leb (length name) 31) _ (and_second (leb 1 (length name)) _ e))
 
-term-room : {P : Type 0} {i n m : ℕ} → term i n m ≡ NoRoom → P
+-- the answer of a call that gives the number i, with the counts n and m
+abbrev term : ℕ → ℕ → ℕ → Option Added
+term i n m = Some (record { term = i; terms = n; symbols = m })
+
+term-room : {P : Type 0} {i n m : ℕ} → term i n m ≡ None → P
 term-room e = let z : ◌≡◌ {A = ℕ} 0 1 = cc in absurd (omega arith)
 
 module _ (rs : List ℕ) (ls : List ℤ) (ns : List ℕ) (n m : ℕ) where
@@ -76,13 +79,13 @@ module _ (rs : List ℕ) (ls : List ℤ) (ns : List ℕ) (n m : ℕ) where
   leaves-term w i n' m' rs' ls' ns' e = record { answer = e; kept = λ d. term-room d }
 
   -- an answer without
-  leaves-no_room : (w : Adds) → no_room ≡ w → Leaves (store rs ls ns n m) w NoRoom rs ls ns
+  leaves-no_room : (w : Adds) → no_room ≡ w → Leaves (store rs ls ns n m) w None rs ls ns
   leaves-no_room w e = record { answer = e; kept = λ d. refl }
 
   module _ (z : ℤ) where
     pub literal-full :
         room_in (length rs) (length ls) n ≡ false →
-        Leaves (store rs ls ns n m) (append_literal (store rs ls ns n m) z) NoRoom rs ls ns
+        Leaves (store rs ls ns n m) (append_literal (store rs ls ns n m) z) None rs ls ns
     unfolding append_literal term_room
     literal-full e = leaves-no_room (append_literal (store rs ls ns n m) z) (rw (e, append_literal))
 
@@ -111,7 +114,7 @@ module _ (rs : List ℕ) (ls : List ℤ) (ns : List ℕ) (n m : ℕ) where
 
     pub named-full :
         room_in (length rs) (length ls) n ≡ false →
-        Leaves (store rs ls ns n m) (append_named (store rs ls ns n m) kind name ks) NoRoom rs ls ns
+        Leaves (store rs ls ns n m) (append_named (store rs ls ns n m) kind name ks) None rs ls ns
     unfolding append_named term_room
     named-full e = leaves-no_room (append_named (store rs ls ns n m) kind name ks) (rw (e, append_named))
 
@@ -126,9 +129,9 @@ module _ (rs : List ℕ) (ls : List ℤ) (ns : List ℕ) (n m : ℕ) where
       named-yes h = rw (e, h, append_named)
 
       pub named-name-full :
-          find_name ns m name ≡ Missing →
+          find_name ns m name ≡ None →
           name_room_in (length ns) m ≡ false →
-          Leaves (store rs ls ns n m) (append_named (store rs ls ns n m) kind name ks) NoRoom rs ls ns
+          Leaves (store rs ls ns n m) (append_named (store rs ls ns n m) kind name ks) None rs ls ns
       unfolding append_named term_room symbol_room
       named-name-full f h =
           let r : room_for_name (store rs ls ns n m) name ≡ false = room_for_name-new (store rs ls ns n m) name f ∙ h in
@@ -137,7 +140,7 @@ module _ (rs : List ℕ) (ls : List ℤ) (ns : List ℕ) (n m : ℕ) where
       module _ (rs' : List ℕ) (ls' : List ℤ) (q : ls' ≡ set ls n (pos 0)) where
         pub named_new :
             (ns' : List ℕ) →
-            find_name ns m name ≡ Missing →
+            find_name ns m name ≡ None →
             name_room_in (length ns) m ≡ true →
             ns' ≡ put_name ns m name →
             rs' ≡ put_record rs n (filled kind m (pos 0) ks) →
@@ -154,7 +157,7 @@ module _ (rs : List ℕ) (ls : List ℤ) (ns : List ℕ) (n m : ℕ) where
 
         pub named-old :
             (k : ℕ) →
-            find_name ns m name ≡ At k →
+            find_name ns m name ≡ Some k →
             rs' ≡ put_record rs n (filled kind k (pos 0) ks) →
             Leaves (store rs ls ns n m) (append_named (store rs ls ns n m) kind name ks) (term n (n + 1) m) rs' ls' ns
         named-old k f p =
@@ -168,31 +171,31 @@ module _ (rs : List ℕ) (ls : List ℤ) (ns : List ℕ) (n m : ℕ) where
   -- a term that is there
   pub add-there :
       (node : Node) (i : ℕ) →
-      find_term (store rs ls ns n m) node ≡ At i →
+      find_term (store rs ls ns n m) node ≡ Some i →
       Leaves (store rs ls ns n m) (add (store rs ls ns n m) node) (term i n m) rs ls ns
   unfolding add
   add-there node i e = leaves-term (add (store rs ls ns n m) node) i n m rs ls ns (rw (e, add))
 
 -- a term that is not
 module _ (s : Store) where
-  pub add-new-literal : (z : ℤ) → find_term s (literal z) ≡ Missing → append_literal s z ≡ add s (literal z)
+  pub add-new-literal : (z : ℤ) → find_term s (literal z) ≡ None → append_literal s z ≡ add s (literal z)
   unfolding add append room_for append_literal record_of
   add-new-literal z e = rw (e, add)
 
-  pub add-new-variable : (name : List ℕ) → find_term s (variable name) ≡ Missing
+  pub add-new-variable : (name : List ℕ) → find_term s (variable name) ≡ None
       → append_named s 1 name [] ≡ add s (variable name)
   unfolding add append room_for append_named record_of
   add-new-variable name e = rw (e, add)
 
   pub add-new-application :
-      (name ks : List ℕ) → find_term s (application name ks) ≡ Missing
+      (name ks : List ℕ) → find_term s (application name ks) ≡ None
       → append_named s 2 name ks ≡ add s (application name ks)
   unfolding add append room_for append_named record_of
   add-new-application name ks e = rw (e, add)
 
 -- the same wish
 pub leaves-as :
-    (s : Store) (v w : Adds) (r : Added) (rs : List ℕ) (ls : List ℤ) (ns : List ℕ) →
+    (s : Store) (v w : Adds) (r : Option Added) (rs : List ℕ) (ls : List ℤ) (ns : List ℕ) →
     v ≡ w →
     Leaves s v r rs ls ns →
     Leaves s w r rs ls ns

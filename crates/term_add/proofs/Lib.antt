@@ -1,3 +1,4 @@
 -- The laws of the crate `term_add`.
 pub mod MatchLaws
 pub mod AppendLaws
+pub mod HeldLaws

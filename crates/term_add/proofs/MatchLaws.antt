@@ -9,9 +9,9 @@ use lib.Dec.{eqb}
 use lib.ListN.{length, get_or, take}
 use lib.Seq.{length-take-le}
 use lib.IntN.{ℤ, pos}
+use Rattle.std.specs.Prelude.{Some, None}
 use Rattle.name.specs.Name.{same}
 use Rattle.name.specs.Entries.{Entries, name_at}
-use Rattle.name.specs.declared.Found.TheVariants.{At, Missing}
 use Rattle.term_rules.specs.declared.Term.{Term}
 use Rattle.term_rules.specs.Lent.{Store, kind_at, symbol_no, arity_at, kids_at, record_in, record_at, symbol_at}
 use Rattle.term_rules.specs.WellFormed.{same_int}
@@ -100,7 +100,7 @@ has-application m i t k ks f long =
 module _ (s : Store) (w : Sound s) where
   -- a symbol number is the name's exactly when it names it
   symbol-test :
-      (name : List ℕ) (k a : ℕ) → find_symbol s name ≡ At k → a < s.symbols → eqb a k ≡ same (symbol_at s a) name
+      (name : List ℕ) (k a : ℕ) → find_symbol s name ≡ Some k → a < s.symbols → eqb a k ≡ same (symbol_at s a) name
   symbol-test name k a e h =
       let r =
       first-at (λ (j : ℕ). same (name_at s.names j) name) s.symbols 0 k
@@ -110,7 +110,7 @@ module _ (s : Store) (w : Sound s) where
       (λ d. let q : a ≡ k = eqb-true a k d in rw q r.2)
       (λ d. eq-eqb a k (w.name_once a k h (omega (arith, r.1)) (same-tells.eq (symbol_at s a) name d ∙ sym n)))
 
-  no_symbol : (name : List ℕ) (a : ℕ) → find_symbol s name ≡ Missing → a < s.symbols → same (symbol_at s a) name ≡ false
+  no_symbol : (name : List ℕ) (a : ℕ) → find_symbol s name ≡ None → a < s.symbols → same (symbol_at s a) name ≡ false
   no_symbol name a e h =
       first-missing (λ (j : ℕ). same (name_at s.names j) name) s.symbols 0
       (sym (find_name-first s.names name s.symbols) ∙ e) a (omega arith) (omega arith)
@@ -126,7 +126,7 @@ module _ (s : Store) (w : Sound s) where
 
     module _ (name : List ℕ) where
       variable-match :
-          (k : ℕ) → find_symbol s name ≡ At k → SoundRecord s.symbols i t
+          (k : ℕ) → find_symbol s name ≡ Some k → SoundRecord s.symbols i t
           → has t 1 k (pos 0) [] ≡ same_node (node_of s t) (variable name)
       unfolding same_node
       variable-match k e (a_literal f) =
@@ -138,7 +138,7 @@ module _ (s : Store) (w : Sound s) where
       variable-match k e (an_application f) =
           has-kind t 1 k (pos 0) [] (λ d. omega (arith, f.kind)) ∙ sym (rw (node_of-application s t f.kind))
 
-      variable-none : find_symbol s name ≡ Missing → SoundRecord s.symbols i t
+      variable-none : find_symbol s name ≡ None → SoundRecord s.symbols i t
           → same_node (node_of s t) (variable name) ≡ false
       unfolding same_node
       variable-none e (a_literal f) = rw (node_of-literal s t f.kind)
@@ -148,7 +148,7 @@ module _ (s : Store) (w : Sound s) where
       module _ (ks : List ℕ) where
         application-match :
             (k : ℕ) →
-            find_symbol s name ≡ At k →
+            find_symbol s name ≡ Some k →
             SoundRecord s.symbols i t →
             has t 2 k (pos 0) ks ≡ same_node (node_of s t) (application name ks)
         unfolding same_node
@@ -163,7 +163,7 @@ module _ (s : Store) (w : Sound s) where
             ∙ sym (rw (node_of-application s t f.kind))
 
         application-none :
-            find_symbol s name ≡ Missing → SoundRecord s.symbols i t
+            find_symbol s name ≡ None → SoundRecord s.symbols i t
             → same_node (node_of s t) (application name ks) ≡ false
         unfolding same_node
         application-none e (a_literal f) = rw (node_of-literal s t f.kind)
@@ -236,7 +236,7 @@ module _ (s : Store) (w : Sound s) where
   module _ (name : List ℕ) where
     pub find_term-variable :
         (k : ℕ) →
-        find_symbol s name ≡ At k →
+        find_symbol s name ≡ Some k →
         first_from (has_at s.records s.literals 1 k (pos 0) []) 0 s.terms ≡ find_term s (variable name)
     unfolding find_term node_at
     find_term-variable k e =
@@ -246,7 +246,7 @@ module _ (s : Store) (w : Sound s) where
         let b : i < s.terms = omega arith in
         variable-match s w i (record_at s i) (record-long i b) name k e (w.term i b))
 
-    pub find_term-variable-none : find_symbol s name ≡ Missing → Missing ≡ find_term s (variable name)
+    pub find_term-variable-none : find_symbol s name ≡ None → None ≡ find_term s (variable name)
     unfolding find_term node_at
     find_term-variable-none e =
         sym
@@ -258,7 +258,7 @@ module _ (s : Store) (w : Sound s) where
     module _ (ks : List ℕ) where
       pub find_term-application :
           (k : ℕ) →
-          find_symbol s name ≡ At k →
+          find_symbol s name ≡ Some k →
           first_from (has_at s.records s.literals 2 k (pos 0) ks) 0 s.terms ≡ find_term s (application name ks)
       unfolding find_term node_at
       find_term-application k e =
@@ -268,7 +268,7 @@ module _ (s : Store) (w : Sound s) where
           let b : i < s.terms = omega arith in
           application-match s w i (record_at s i) (record-long i b) name ks k e (w.term i b))
 
-      pub find_term-application-none : find_symbol s name ≡ Missing → Missing ≡ find_term s (application name ks)
+      pub find_term-application-none : find_symbol s name ≡ None → None ≡ find_term s (application name ks)
       unfolding find_term node_at
       find_term-application-none e =
           sym

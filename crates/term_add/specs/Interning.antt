@@ -1,5 +1,5 @@
 -- What searching and adding answer, and what they leave. Assumes nothing: these are definitions.
-use Rattle.std.specs.Prelude.{ℕ, min, ◌≡◌, Bool, true, false, ◌&&◌, List, [], length, take, eqb, ltb, ℤ, pos}
+use Rattle.std.specs.Prelude.{ℕ, min, ◌≡◌, Bool, true, false, ◌&&◌, List, [], length, take, Option, Some, None, eqb, ltb, ℤ, pos}
 use Rattle.name.specs.Name.{same}
 use Rattle.name.specs.Entries.{entry_room}
 use Rattle.term_rules.specs.declared.Term.{Term}
@@ -8,7 +8,6 @@ use Rattle.term_rules.specs.WellFormed.{same_int}
 use Rattle.term_rules.specs.Adding.{Adds, at, no_room, with_name, with_record, symbol_for, room_for_name}
 use Rattle.term_record.specs.Flat.{filled}
 use Rattle.term_add.specs.declared.Added.{Added}
-use Rattle.term_add.specs.declared.Added.TheVariants.{Term as term, NoRoom}
 
 -- whether a record has this kind, symbol and literal, and these children
 unfoldable pub has : Term → ℕ → ℕ → ℤ → List ℕ → Bool
@@ -28,14 +27,14 @@ abbrev pub name_room_in : ℕ → ℕ → Bool
 name_room_in names symbols = ltb symbols (min 128 (entry_room names))
 
 -- the answer of a call, with the lists that it left
-abbrev pub seen_added : Added → List ℕ → List ℤ → List ℕ → Adds
-seen_added (term i n m) rs ls ns = at i (store rs ls ns n m)
-seen_added NoRoom rs ls ns = no_room
+abbrev pub seen_added : Option Added → List ℕ → List ℤ → List ℕ → Adds
+seen_added (Some a) rs ls ns = at a.term (store rs ls ns a.terms a.symbols)
+seen_added None rs ls ns = no_room
 
 -- the answer is the wanted one, and nothing is changed where there is no room
-pub record Leaves (s : Store) (wanted : Adds) (r : Added) (rs : List ℕ) (ls : List ℤ) (ns : List ℕ) : Type 0 where
+pub record Leaves (s : Store) (wanted : Adds) (r : Option Added) (rs : List ℕ) (ls : List ℤ) (ns : List ℕ) : Type 0 where
   pub answer : seen_added r rs ls ns ≡ wanted
-  pub kept : r ≡ NoRoom → store rs ls ns s.terms s.symbols ≡ s
+  pub kept : r ≡ None → store rs ls ns s.terms s.symbols ≡ s
 
 -- appending a record that has a name
 unfoldable pub append_named : Store → ℕ → List ℕ → List ℕ → Adds

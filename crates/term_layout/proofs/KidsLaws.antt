@@ -3,7 +3,7 @@ use Prim.Native.Nat.{ℕ, ◌≤◌}
 use mathlib.Core.Path.{◌≡◌}
 use mathlib.Core.List.{List}
 use native.Mathlib.Omega.{arith}
-use lib.ListN.{length, drop, length-take}
+use lib.ListN.{length, length-take}
 use Rattle.term_rules.specs.Lent.{HasRecord, arity_at, places_at, kids_at}
 use Rattle.term_rules.proofs.LayoutLaws.{children-length}
 

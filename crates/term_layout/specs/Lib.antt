@@ -1,2 +1,3 @@
 -- The definitions of the crate `term_layout`.
 pub mod Padded
+pub mod Sound

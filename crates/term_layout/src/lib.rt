@@ -2,7 +2,7 @@
 // this one knows where in a record a part stands, or how many numbers a record has.
 #![tactic(auto)]
 
-ghost use Rattle.std.specs.Prelude.{◌≡◌, ◌≤◌, length, get_or, set, drop, pos};
+ghost use Rattle.std.specs.Prelude.{◌≡◌, ◌≤◌, length, set, drop};
 ghost use Rattle.term_rules.specs.Lent.{
   records_length,
   record_room,
@@ -13,10 +13,12 @@ ghost use Rattle.term_rules.specs.Lent.{
   places_at,
   kids_at,
   InRecords,
-  numbers,
   put_record,
 };
 ghost use Rattle.term_layout.specs.Padded.{padded};
+
+pub mod lent; // lent.rt: a store as it is lent to be read, checked or not
+pub mod store; // store.rt: a lent store that is well formed, to be read
 
 // A record's numbers: kind, symbol, count of children, eight child places.
 pub const WIDTH: usize = 11;
@@ -68,9 +70,8 @@ pub fn places_of(records: &[u64], i: usize) -> &[u64]
     requires { HasRecord records.now i }
     ensures { result.now ≡ places_at records.now i }
 {
-    let a = i * WIDTH + 3;
-    let e = a + 8;
-    &records[a..e]
+    let at = i * WIDTH + 3;
+    &records[at..at + 8]
 }
 
 // Its children.
@@ -79,9 +80,8 @@ pub fn children_of(records: &[u64], i: usize) -> &[u64]
     requires i_bound { arity_at records.now i ≤ 8 }
     ensures { result.now ≡ kids_at records.now i }
 {
-    let a = i * WIDTH + 3;
-    let e = a + records[i * WIDTH + 2] as usize;
-    &records[a..e]
+    let at = i * WIDTH + 3;
+    &records[at..at + count_of(records, i) as usize]
 }
 
 // The child places past its children.
@@ -90,28 +90,8 @@ pub fn unused_of(records: &[u64], i: usize) -> &[u64]
     requires i_bound { arity_at records.now i ≤ 8 }
     ensures { result.now ≡ drop (arity_at records.now i) (places_at records.now i) }
 {
-    let a = i * WIDTH + 3 + records[i * WIDTH + 2] as usize;
-    let e = i * WIDTH + 3 + 8;
-    &records[a..e]
-}
-
-// Number `j` of a record.
-fn number_at(kind: u64, symbol: u64, count: u64, children: &[u64], j: usize) -> u64
-    ensures { result ≡ get_or (numbers (padded kind symbol count (pos 0) children.now)) j 0 }
-{
-    if j == 0 {
-        return kind;
-    }
-    if j == 1 {
-        return symbol;
-    }
-    if j == 2 {
-        return count;
-    }
-    if j - 3 < children.len() {
-        return children[j - 3];
-    }
-    0
+    let at = i * WIDTH + 3;
+    &records[at + count_of(records, i) as usize..at + 8]
 }
 
 // Puts a record at `i`, with zeros past its children.
@@ -132,10 +112,11 @@ pub fn put_record(
     ensures literals_after { literals.new ≡ set literals.old i literal }
 {
     literals[i] = literal;
+    let mut record = [0u64; WIDTH];
+    record[0] = kind;
+    record[1] = symbol;
+    record[2] = count;
+    record[3..3 + children.len()].copy_from_slice(children);
     let at = i * WIDTH;
-    let mut j = 0;
-    while j < WIDTH {
-        records[at + j] = number_at(kind, symbol, count, children, j);
-        j += 1;
-    }
+    records[at..at + WIDTH].copy_from_slice(&record);
 }

@@ -1,5 +1,6 @@
 -- The laws of the crate `term_many`.
 pub mod FromLaws
+mod LongLaws
 pub mod TurnLaws
 pub mod ManyLaws
 mod StepsLaws

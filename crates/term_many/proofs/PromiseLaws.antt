@@ -7,11 +7,12 @@ use mathlib.Core.Logic.{◌↔◌, inl}
 use native.Mathlib.Omega.{arith}
 use borrow.Author.Tests.{ltb-true, ltb-false}
 use lib.Dec.{ltb}
-use lib.IntN.{ℤ}
 use lib.ListN.{length, get_or, take, drop, get_or-append}
 use lib.Seq.{take_at, take-append-le, get_or_at}
+use Rattle.std.specs.Prelude.{Result, Ok, Err}
+use Rattle.refusal.specs.declared.Refusal.{Refusal}
 use Rattle.refusal.proofs.NumberLaws.{number-once}
-use Rattle.term_rules.specs.Lent.{Store, store}
+use Rattle.term_rules.specs.Lent.{Store}
 use Rattle.term_rules.specs.WellFormed.{well_formed}
 use Rattle.term_rules.specs.Nodes.{Node, literal, variable, application}
 use Rattle.term_rules.specs.Growing.{Grows, Takes}
@@ -22,8 +23,6 @@ use Rattle.term.proofs.Promises.{promises}
 use Rattle.term_one.specs.Wanted.{Wanted, add_count, node, asked_at, settled}
 use Rattle.term_one.specs.One.{single, add_one}
 use Rattle.term_many.specs.Many.{add_from, number_room, Left, left, add_many, seen_many}
-use Rattle.term_many.specs.declared.Many.{Many}
-use Rattle.term_many.specs.declared.Many.TheVariants.{Added, Refused}
 use Rattle.term_many.specs.Promises.{OneByOne, none, more, Stops, own, no_place, FirstFault, AllMade, Stands}
 use Rattle.term_many.proofs.FromLaws.{answer-cases, one-takes, Whole, from_end, from-whole, snoc-length}
 use Rattle.term_many.proofs.ManyLaws.{many-bad, many-from}
@@ -294,27 +293,15 @@ module _ (w : Wanted) (s : Store) (out : List ℕ) (a : Node) (one : add_count w
       ∙ ap (λ (n : ℕ). record { answer = refused n; lent = s; numbers = out }) j)
 
 pub seen-once :
-    (r q : Many) (rs rs' : List ℕ) (ls ls' : List ℤ) (ns ns' : List ℕ) (n m : ℕ) (out out' : List ℕ) →
-    seen_many r rs ls ns n m out ≡ seen_many q rs' ls' ns' n m out' →
-    (r ≡ q) × (rs ≡ rs') × (ls ≡ ls') × (ns ≡ ns') × (out ≡ out')
-seen-once (Added a b) (Added c d) rs rs' ls ls' ns ns' n m out out' e =
-    let t : store rs ls ns a b ≡ store rs' ls' ns' c d = ap (λ (x : Left). x.lent) e in
-    let p : a ≡ c = ap (λ (s : Store). s.terms) t in
-    let q : b ≡ d = ap (λ (s : Store). s.symbols) t in (
-      cc,
-      ap (λ (s : Store). s.records) t,
-      ap (λ (s : Store). s.literals) t,
-      ap (λ (s : Store). s.names) t,
-      ap (λ (x : Left). x.numbers) e,
-    )
-seen-once (Added a b) (Refused q) rs rs' ls ls' ns ns' n m out out' e = given-refused (ap (λ (x : Left). x.answer) e)
-seen-once (Refused r) (Added c d) rs rs' ls ls' ns ns' n m out out' e =
-    given-refused (sym (ap (λ (x : Left). x.answer) e))
-seen-once (Refused r) (Refused q) rs rs' ls ls' ns ns' n m out out' e =
-    let t : store rs ls ns n m ≡ store rs' ls' ns' n m = ap (λ (x : Left). x.lent) e in (
-      ap Refused (number-once r q (refused-same (ap (λ (x : Left). x.answer) e))),
-      ap (λ (s : Store). s.records) t,
-      ap (λ (s : Store). s.literals) t,
-      ap (λ (s : Store). s.names) t,
-      ap (λ (x : Left). x.numbers) e,
-    )
+    (r q : Result Unit Refusal) (t t' : Store) (out out' : List ℕ) →
+    seen_many r t out ≡ seen_many q t' out' →
+    (r ≡ q) × (t ≡ t') × (out ≡ out')
+seen-once (Ok a) (Ok b) t t' out out' e =
+    (refl, ap (λ (x : Left). x.lent) e, ap (λ (x : Left). x.numbers) e)
+seen-once (Ok a) (Err q) t t' out out' e = given-refused (ap (λ (x : Left). x.answer) e)
+seen-once (Err r) (Ok b) t t' out out' e = given-refused (sym (ap (λ (x : Left). x.answer) e))
+seen-once (Err r) (Err q) t t' out out' e = (
+  ap Err (number-once r q (refused-same (ap (λ (x : Left). x.answer) e))),
+  ap (λ (x : Left). x.lent) e,
+  ap (λ (x : Left). x.numbers) e,
+)

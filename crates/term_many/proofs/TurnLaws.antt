@@ -1,25 +1,23 @@
 -- Laws that follow the code of `add_all`: the definition one add at a time. Assumes nothing.
 use Prim.Native.Nat.{ℕ, suc, ◌+◌, ◌-◌, ◌≤◌, ◌<◌}
-use mathlib.Core.Path.{◌≡◌, refl, sym, ap, subst, ◌∙◌}
-use mathlib.Core.Bool.{true}
+use mathlib.Core.Path.{◌≡◌, sym, ap, subst, ◌∙◌}
 use mathlib.Core.List.{List, [], ◌∷◌, ◌++◌}
 use native.Mathlib.Numerals.{add-one}
 use native.Mathlib.Omega.{arith}
-use lib.IntN.{ℤ}
 use lib.ListN.{length, set, take, length-set}
 use lib.Seq.{length-take-le, take-suc-set}
+use Rattle.std.specs.Prelude.{Ok, Err}
 use Rattle.refusal.specs.declared.Refusal.{Refusal}
 use Rattle.refusal.specs.declared.Refusal.TheVariants.{NoRoom}
-use Rattle.term_rules.specs.Lent.{Store, store}
-use Rattle.term_rules.specs.WellFormed.{well_formed}
+use Rattle.term_rules.specs.Lent.{Store}
 use Rattle.term_rules.specs.Growing.{Beyond, Grows}
-use Rattle.term_rules.proofs.Adding.AddingLaws.{grows-refl, grows-trans}
+use Rattle.term_rules.proofs.Adding.AddingLaws.{grows-trans}
 use Rattle.term.specs.Answers.{Answer, given, refuse}
 use Rattle.term_one.specs.Wanted.{Wanted, add_count, asked_at}
 use Rattle.term_one.specs.One.{add_one}
 use Rattle.term_many.specs.Many.{add_from}
-use Rattle.term_many.specs.Made.{Made}
-use Rattle.term_many.specs.declared.Many.TheVariants.{Added, Refused}
+use Rattle.term_many.specs.Made.{Long, Made}
+use Rattle.term_many.proofs.LongLaws.{long-trans, one-long}
 use Rattle.term_many.proofs.FromLaws.{one-takes, one_kept, from_end, from-go, from-full, from-stop}
 
 -- The loop over the adds: those before e are made, in order, and the store is as the definition's.
@@ -30,32 +28,9 @@ pub record Turn
   pub placed : e ≤ room
   pub places : room ≤ length got
   pub long : length got ≡ size
-  pub records : length at.records ≡ length first.records
-  pub literals : length at.literals ≡ length first.literals
-  pub names : length at.names ≡ length first.names
+  pub lists : Long first at
   pub grows : Grows first at
   pub same : add_from w room first [] (add_count w) ≡ add_from w room at (take e got) (add_count w - e)
-
-pub turn-starts :
-    (w : Wanted) (room : ℕ) (s : Store) (count : ℕ) (got : List ℕ) →
-    count ≡ add_count w →
-    well_formed s ≡ true →
-    room ≤ length got →
-    Turn w room s (length got) count s got 0
-turn-starts w room s count got e f h =
-    let z : add_count w ≡ add_count w - 0 = omega arith in
-    record {
-      all = e;
-      within = omega arith;
-      placed = omega arith;
-      places = h;
-      long = refl;
-      records = refl;
-      literals = refl;
-      names = refl;
-      grows = grows-refl s f;
-      same = ap (add_from w room s []) z;
-    }
 
 module _
     (w : Wanted)
@@ -94,14 +69,14 @@ module _
         (subst (Grows at) after
         (one-takes at (take e got) (asked_at w (length (take e got))) i answer).takes.grows)
 
+    lists : Long first t
+    lists =
+        long-trans turn.lists
+        (subst (Long at) after (one-long at (take e got) (asked_at w (length (take e got))) i answer))
+
     -- the add gave its number, and that has a place
-    pub turn-go :
-        e < room →
-        length t.records ≡ length at.records →
-        length t.literals ≡ length at.literals →
-        length t.names ≡ length at.names →
-        Turn w room first size count t (set got e i) (e + 1)
-    turn-go l er el en =
+    pub turn-go : e < room → Turn w room first size count t (set got e i) (e + 1)
+    turn-go l =
         let inside : e < length got = omega (arith, turn.places) in
         record {
           all = turn.all;
@@ -109,9 +84,7 @@ module _
           placed = omega arith;
           places = omega (arith, turn.places, length-set got e i);
           long = length-set got e i ∙ turn.long;
-          records = er ∙ turn.records;
-          literals = el ∙ turn.literals;
-          names = en ∙ turn.names;
+          lists = lists;
           grows = grown;
           same =
               start
@@ -122,20 +95,20 @@ module _
         }
 
     -- it has none
-    pub turn-full : room ≤ e → Made w room first (Refused NoRoom) got t.records t.literals t.names
+    pub turn-full : room ≤ e → Made w room first (Err NoRoom) got t
     turn-full l = record {
       same =
           start ∙ from-full w room at (take e got) (add_count w - (e + 1)) i answer (omega (arith, front));
+      long = lists;
       beyond = grown.beyond;
     }
 
   -- the add was refused
   pub turn-stop :
-      (r : Refusal) (rs : List ℕ) (ls : List ℤ) (ns : List ℕ) (n m : ℕ) →
-      (refuse r, store rs ls ns n m) ≡ add_one at (take e got) (asked_at w e) →
-      Made w room first (Refused r) got rs ls ns
-  turn-stop r rs ls ns n m h =
-      let t : Store = store rs ls ns n m in
+      (r : Refusal) (t : Store) →
+      (refuse r, t) ≡ add_one at (take e got) (asked_at w e) →
+      Made w room first (Err r) got t
+  turn-stop r t h =
       let a : (add_one at (take e got) (asked_at w (length (take e got)))).0 ≡ refuse r =
       ap (λ (x : Answer ℕ × Store). x.0) (here (refuse r, t) h) in
       let u : t ≡ at =
@@ -143,6 +116,7 @@ module _
       ∙ one_kept at (take e got) (asked_at w (length (take e got))) _ a in
       record {
         same = start ∙ from-stop w room at (take e got) (add_count w - (e + 1)) _ a;
+        long = subst (Long first) (sym u) turn.lists;
         beyond =
             subst (λ (x : Store). Beyond first x.records x.literals x.names) (sym u) turn.grows.beyond;
       }
@@ -152,7 +126,7 @@ pub turn-ends :
     (w : Wanted) (room : ℕ) (first : Store) (size count : ℕ) (at : Store) (got : List ℕ) (e : ℕ) →
     Turn w room first size count at got e →
     count ≤ e →
-    Made w room first (Added at.terms at.symbols) got at.records at.literals at.names
+    Made w room first (Ok tt) got at
 turn-ends w room first size count at got e turn h =
     let d : e ≡ add_count w = omega (arith, turn.all, turn.within) in
     let z : add_count w - e ≡ 0 = omega (arith, turn.all) in
@@ -162,5 +136,6 @@ turn-ends w room first size count at got e turn h =
           ∙ ap (add_from w room at (take e got)) z
           ∙ from_end w room at (take e got)
           ∙ ap (λ (i : ℕ). given (take i got, at)) d;
+      long = turn.lists;
       beyond = turn.grows.beyond;
     }

@@ -1,14 +1,14 @@
 -- A list of adds as one call: the adds made one by one, all or nothing. R-term-18 of docs/RULES.md. Assumes nothing:
 -- these are definitions.
-use Rattle.std.specs.Prelude.{ℕ, zero, suc, min, true, false, List, [], ◌∷◌, ◌++◌, ltb, ℤ, length, drop}
+use Rattle.std.specs.Prelude.{ℕ, zero, suc, min, true, false, List, [], ◌∷◌, ◌++◌, ltb, length, drop}
+use Rattle.std.specs.Prelude.{Result, Ok, Err}
+use Rattle.refusal.specs.declared.Refusal.{Refusal}
 use Rattle.refusal.specs.declared.Refusal.TheVariants.{NoRoom, BadStore}
-use Rattle.term_rules.specs.Lent.{Store, store}
+use Rattle.term_rules.specs.Lent.{Store}
 use Rattle.term_rules.specs.WellFormed.{well_formed}
 use Rattle.term.specs.Answers.{Answer, given, refused, refuse}
 use Rattle.term_one.specs.Wanted.{Wanted, add_count, asked_at}
 use Rattle.term_one.specs.One.{add_one}
-use Rattle.term_many.specs.declared.Many.{Many}
-use Rattle.term_many.specs.declared.Many.TheVariants.{Added, Refused}
 
 -- "The call equals the adds .. made one by one, in order, each on the store that the one before it left": the next n
 -- adds, after those that got these numbers. "The first add in order that has a fault decides"; "NoRoom, if there is no
@@ -48,8 +48,7 @@ add_many w s out =
     left s out
     (elim (well_formed s) [ true ↦ add_from w (number_room out) s [] (add_count w) | false ↦ refuse BadStore ])
 
--- an answer of the code, with what was lent as it was left; n terms and m symbols were lent
-abbrev pub seen_many : Many → List ℕ → List ℤ → List ℕ → ℕ → ℕ → List ℕ → Left
-seen_many (Added n' m') rs ls ns n m out =
-    record { answer = given tt; lent = store rs ls ns n' m'; numbers = out }
-seen_many (Refused r) rs ls ns n m out = record { answer = refuse r; lent = store rs ls ns n m; numbers = out }
+-- an answer of the code, with what was lent as it was left
+abbrev pub seen_many : Result Unit Refusal → Store → List ℕ → Left
+seen_many (Ok u) t out = record { answer = given tt; lent = t; numbers = out }
+seen_many (Err r) t out = record { answer = refuse r; lent = t; numbers = out }

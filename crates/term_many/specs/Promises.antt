@@ -1,7 +1,9 @@
 -- What a list of adds promises: it equals the adds made one by one, all or nothing. R-term-18 of docs/RULES.md. Assumes
 -- nothing: a record, with one field for each theorem.
-use Rattle.std.specs.Prelude.{ℕ, ◌≤◌, ◌<◌, ◌≡◌, true, false, List, [], ◌∷◌, ◌++◌, map, ◌↔◌, ◌⊎◌, ℤ, pos, length, get_or, take, drop}
+use Rattle.std.specs.Prelude.{ℕ, ◌≤◌, ◌<◌, ◌≡◌, true, false, List, [], ◌∷◌, ◌++◌, map, ◌↔◌, ◌⊎◌}
+use Rattle.std.specs.Prelude.{pos, length, get_or, take, drop, Result}
 use Rattle.name.specs.Entries.{entry_room, length_at, name_at}
+use Rattle.refusal.specs.declared.Refusal.{Refusal}
 use Rattle.term_rules.specs.Lent.{Store, kind_at, symbol_no}
 use Rattle.term_rules.specs.WellFormed.{well_formed}
 use Rattle.term_rules.specs.Nodes.{Node, literal, variable, application}
@@ -12,7 +14,6 @@ use Rattle.term.specs.Outcomes.{IsTerm, There, Room, asks_literal, asks_variable
 use Rattle.term_one.specs.Wanted.{Wanted, add_count, node, kids_of, asked_at, child_number, settled}
 use Rattle.term_one.specs.One.{single, add_one}
 use Rattle.term_many.specs.Many.{number_room, add_many, seen_many}
-use Rattle.term_many.specs.declared.Many.{Many}
 
 -- Adds were made one by one, from store s on: they got these numbers, and the last left store t.
 pub data OneByOne (w : Wanted) (s : Store) : List ℕ → Store → Type 0 where
@@ -140,8 +141,8 @@ pub record Promises : Type 0 where
       asked_at w 0 ≡ node a →
       single s (settled [] a) ≡ (refused k, t) →
       add_many w s out ≡ record { answer = refused k; lent = s; numbers = out }
-  -- The answer and the lists that are left are determined: what is seen the same is the same.
+  -- The answer, the store and the list that are left are determined: what is seen the same is the same.
   pub determined :
-      (r r' : Many) (rs rs' : List ℕ) (ls ls' : List ℤ) (ns ns' : List ℕ) (n m : ℕ) (out out' : List ℕ) →
-      seen_many r rs ls ns n m out ≡ seen_many r' rs' ls' ns' n m out' →
-      (r ≡ r') × (rs ≡ rs') × (ls ≡ ls') × (ns ≡ ns') × (out ≡ out')
+      (r r' : Result Unit Refusal) (t t' : Store) (out out' : List ℕ) →
+      seen_many r t out ≡ seen_many r' t' out' →
+      (r ≡ r') × (t ≡ t') × (out ≡ out')

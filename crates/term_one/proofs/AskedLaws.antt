@@ -1,40 +1,47 @@
 -- What an add asks for, by its tests, and what it then answers. Assumes nothing.
 use Prim.Native.Nat.{ℕ, zero, suc, ◌+◌, ◌-◌, ◌≤◌, ◌<◌}
-use mathlib.Core.Path.{◌≡◌, refl, sym, ap, ◌∙◌}
-use mathlib.Core.List.{List, [], ◌∷◌, ◌++◌, map, map-append}
-use native.Mathlib.Numerals.{add-one}
+use mathlib.Core.Path.{◌≡◌, refl, ap, ◌∙◌}
+use mathlib.Core.Bool.{true, false}
+use mathlib.Core.List.{List, [], ◌∷◌, ◌++◌, map}
 use native.Mathlib.Omega.{arith}
-use borrow.Author.Tests.{le-leb, lt-leb, lt-ltb, le-ltb, ne_eqb, eqb-true, eqb-false}
-use lib.Dec.{eqb}
+use borrow.Author.Tests.{le-leb, lt-leb, lt-ltb, le-ltb, ne_eqb}
 use lib.IntN.{ℤ, pos}
 use lib.ListN.{
   length,
   get_or,
-  set,
   take,
   replicate,
   length-append,
   length-take,
   length-replicate,
-  length-set,
   length-map,
   get_or-eq_default,
 }
-use lib.Seq.{get_or-take, take-append-le, take_all, take-suc, take-suc-set}
-use Rattle.name.specs.Entries.{entry_room, HasEntry, length_at, name_at, InEntries}
+use lib.Seq.{get_or-take, take-append-le}
+use Rattle.name.specs.Name.{valid}
+use Rattle.name.specs.Entries.{entry_room, length_at, name_at}
 use Rattle.refusal.specs.declared.Refusal.{Refusal}
-use Rattle.refusal.specs.declared.Refusal.TheVariants.{Short, BadName, BadValue}
-use Rattle.term_rules.specs.Lent.{Store, record_room, HasRecord, kind_at, symbol_no, arity_at, places_at, kids_at}
+use Rattle.refusal.specs.declared.Refusal.TheVariants.{Short, BadName, BadSize, BadTerm, BadValue}
+use Rattle.term_rules.specs.Lent.{Store, HasRecord, kind_at, symbol_no, arity_at, places_at, kids_at}
+use Rattle.term_rules.specs.WellFormed.{all_below, well_formed}
 use Rattle.term_rules.specs.Nodes.{Node, literal, variable, application}
 use Rattle.term_rules.proofs.KindLaws.{by_kind-literal, by_kind-variable, by_kind-application, by_kind-other}
 use Rattle.term_rules.proofs.LayoutLaws.{children-length}
-use Rattle.term_rules.proofs.TestLaws.{cases}
-use Rattle.term_layout.proofs.KidsLaws.{kids-length}
-use Rattle.term.specs.Answers.{Answer, refuse}
-use Rattle.term.specs.Calls.{add_literal, add_variable, add_application}
+use Rattle.term.specs.Answers.{refuse}
+use Rattle.term.specs.Calls.{
+  fine,
+  literal_faults,
+  variable_faults,
+  terms_faults,
+  application_faults,
+  add_literal,
+  add_variable,
+  add_application,
+}
+use Rattle.term.specs.Calls.{fault as fails}
+use Rattle.term.proofs.CallLaws.{unless-yes, unless-no, variable-then, application-then}
 use Rattle.term_one.specs.Wanted.{
   Wanted,
-  wanted,
   Asked,
   node,
   fault,
@@ -45,17 +52,40 @@ use Rattle.term_one.specs.Wanted.{
   child_number,
   settled,
 }
-use Rattle.term_one.specs.One.{single, add_one, Named}
+use Rattle.term_one.specs.One.{single, add_one}
 
--- what stands in a list that has room for it
-pub has-record : (rs : List ℕ) (e : ℕ) → e < record_room (length rs) → HasRecord rs e
-has-record rs e h = omega arith
+-- the tests of the store's own call, on a store that is well formed
+module _ (s : Store) (w : well_formed s ≡ true) where
+  pub store-passes : fine ≡ literal_faults s
+  unfolding literal_faults
+  store-passes = unless-yes _ _ _ w
 
-pub has-entry : (ns : List ℕ) (k : ℕ) → k < entry_room (length ns) → HasEntry ns k
-has-entry ns k h = omega arith
+  module _ (n : List ℕ) where
+    pub name-fails : valid n ≡ false → fails BadName ≡ variable_faults s n
+    name-fails v = unless-no _ _ _ v ∙ variable-then s n _ store-passes
 
-pub in-entries : (ns : List ℕ) (k : ℕ) → k < entry_room (length ns) → length_at ns k ≤ 31 → InEntries ns k
-in-entries ns k h l = record { long = has-entry ns k h; short = l }
+    pub name-passes : valid n ≡ true → fine ≡ variable_faults s n
+    name-passes v = unless-yes _ _ _ v ∙ variable-then s n _ store-passes
+
+    module _ (ks : List ℕ) where
+      pub applied-name : valid n ≡ false → fails BadName ≡ application_faults s n ks
+      applied-name v = application-then s n ks _ (name-fails v)
+
+      module _ (v : valid n ≡ true) where
+        pub applied-size : 8 < length ks → fails BadSize ≡ application_faults s n ks
+        applied-size h = unless-no _ _ _ (lt-leb _ 8 h) ∙ application-then s n ks _ (name-passes v)
+
+        applied-terms : length ks ≤ 8 → terms_faults s.terms ks ≡ application_faults s n ks
+        applied-terms h = unless-yes _ _ _ (le-leb _ 8 h) ∙ application-then s n ks _ (name-passes v)
+
+        module _ (h : length ks ≤ 8) where
+          pub applied-fails : all_below s.terms ks ≡ false → fails BadTerm ≡ application_faults s n ks
+          unfolding terms_faults
+          applied-fails a = unless-no _ _ _ a ∙ applied-terms h
+
+          pub applied-passes : all_below s.terms ks ≡ true → fine ≡ application_faults s n ks
+          unfolding terms_faults
+          applied-passes a = unless-yes _ _ _ a ∙ applied-terms h
 
 -- a literal
 module _ (zs : List ℤ) (e : ℕ) where
@@ -156,58 +186,6 @@ module _ (rs : List ℕ) (e count : ℕ) (is : count ≡ arity_at rs e) where
   pub counted-many : (f : ℕ → ℕ) → 8 < count → 8 < length (map f (kids_of rs e))
   counted-many f l = omega (arith, is, kids-count rs e, length-map (kids_of rs e) f)
 
-  pub counted-fit : (ks : List ℕ) → ks ≡ kids_at rs e → count ≤ 8 → length ks ≤ 8
-  counted-fit ks d l = omega (arith, is, ap length d, kids-length rs e)
-
--- an add that has a name
-module _ (rs ns got : List ℕ) (e : ℕ) (s : Store) (kind : Named (kind_at rs e)) (zs : List ℤ) where
-  abbrev w : Wanted
-  w = wanted rs zs ns
-
-  abbrev k : ℕ
-  k = symbol_no rs e
-
-  -- a variable's or an application's
-  by_kind :
-      {P : Type 0} →
-      (kind_at rs e ≡ 1 → asked_at w e ≡ named ns k variable → P) →
-      (kind_at rs e ≡ 2 → asked_at w e ≡ named ns k (λ (n : List ℕ). application n (kids_of rs e)) → P) →
-      P
-  by_kind f g =
-      cases (eqb (kind_at rs e) 1)
-      (λ b. let h = eqb-true (kind_at rs e) 1 b in f h (asked-variable w e h))
-      (λ b.
-      let h : kind_at rs e ≡ 2 = omega (arith, eqb-false (kind_at rs e) 1 b, kind.least, kind.most) in
-      g h (asked-application w e h))
-
-  pub name_short : entry_room (length ns) ≤ k → (refuse Short, s) ≡ add_one s got (asked_at w e)
-  name_short h =
-      by_kind (λ c d. one-fault s got (asked_at w e) Short (d ∙ named-short ns k variable h))
-      (λ c d. one-fault s got (asked_at w e) Short (d ∙ named-short ns k _ h))
-
-  module _ (h : k < entry_room (length ns)) where
-    pub name-long : 31 < length_at ns k → (refuse BadName, s) ≡ add_one s got (asked_at w e)
-    name-long l =
-        by_kind (λ c d. one-fault s got (asked_at w e) BadName (d ∙ named-long ns k variable h l))
-        (λ c d. one-fault s got (asked_at w e) BadName (d ∙ named-long ns k _ h l))
-
-    module _ (l : length_at ns k ≤ 31) (a : Answer ℕ × Store) where
-      pub name-variable : kind_at rs e ≡ 1 → a ≡ add_variable s (name_at ns k) → a ≡ add_one s got (asked_at w e)
-      name-variable c d =
-          d
-          ∙ one-variable s got (asked_at w e) (name_at ns k)
-          (asked-variable w e c ∙ named-node ns k variable h l)
-
-      pub name-application :
-          (kind_at rs e ≡ 1 → ⊥) →
-          a ≡ add_application s (name_at ns k) (map (child_number got) (kids_of rs e)) →
-          a ≡ add_one s got (asked_at w e)
-      name-application n d =
-          let c : kind_at rs e ≡ 2 = omega (arith, n, kind.least, kind.most) in
-          d
-          ∙ one-application s got (asked_at w e) (name_at ns k) (kids_of rs e)
-          (asked-application w e c ∙ named-node ns k (λ (x : List ℕ). application x (kids_of rs e)) h l)
-
 -- the number of a child
 module _ (got : List ℕ) (x : ℕ) where
   pub child-term : x < 1024 → child_number got x ≡ x
@@ -241,28 +219,3 @@ pub record Settling (f : ℕ → ℕ) (kids first : List ℕ) (j : ℕ) (at : Li
   pub long : length at ≡ length first
   pub room : length kids ≤ length first
   pub same : take j at ≡ map f (take j kids)
-
-module _ (f : ℕ → ℕ) (kids first : List ℕ) where
-  pub settling-starts : length kids ≤ length first → Settling f kids first 0 first
-  settling-starts h = record { within = omega arith; long = refl; room = h; same = refl }
-
-  pub settling-goes-on :
-      (j : ℕ) (at : List ℕ) →
-      j < length kids →
-      Settling f kids first j at →
-      Settling f kids first (j + 1) (set at j (f (get_or kids j 0)))
-  settling-goes-on j at l c =
-      let x : ℕ = f (get_or kids j 0) in
-      let e : take (j + 1) (set at j x) ≡ map f (take (j + 1) kids) =
-      ap (λ (i : ℕ). take i (set at j x)) (add-one j)
-      ∙ take-suc-set at j x (omega (arith, c.long, c.room))
-      ∙ ap (λ (m : List ℕ). m ++ (x ∷ [])) c.same
-      ∙ sym (map-append f (take j kids) (get_or kids j 0 ∷ []))
-      ∙ ap (map f) (sym (ap (λ (i : ℕ). take i kids) (add-one j) ∙ take-suc kids j 0 l)) in
-      record { within = omega arith; long = length-set at j x ∙ c.long; room = c.room; same = e }
-
-  pub settling-ends :
-      (j : ℕ) (at : List ℕ) → length kids ≤ j → Settling f kids first j at → take (length kids) at ≡ map f kids
-  settling-ends j at l c =
-      let e : j ≡ length kids = omega (arith, c.within) in
-      ap (λ (i : ℕ). take i at) (sym e) ∙ c.same ∙ ap (map f) (take_all j kids l)

@@ -1,10 +1,10 @@
 -- What one add of a list answers and leaves. Assumes nothing: these are definitions.
-use Rattle.std.specs.Prelude.{ℕ, ◌≤◌, ◌<◌, ◌≡◌, List, ℤ}
+use Rattle.std.specs.Prelude.{ℕ, List}
 use Rattle.term_rules.specs.Lent.{Store}
 use Rattle.term_rules.specs.Nodes.{Node, literal, variable, application}
 use Rattle.term.specs.Answers.{Answer, refuse}
 use Rattle.term.specs.Calls.{add_literal, add_variable, add_application}
-use Rattle.term_one.specs.Wanted.{wanted, Asked, node, fault, asked_at, settled}
+use Rattle.term_one.specs.Wanted.{Asked, node, fault, settled}
 
 -- the store's own call for a node
 unfoldable pub single : Store → Node → Answer ℕ × Store
@@ -16,12 +16,3 @@ single s (application n ks) = add_application s n ks
 unfoldable pub add_one : Store → List ℕ → Asked → Answer ℕ × Store
 add_one s got (node a) = single s (settled got a)
 add_one s got (fault r) = (refuse r, s)
-
--- a kind that has a name: a variable's or an application's
-pub record Named (kind : ℕ) : Type 0 where
-  pub least : 0 < kind
-  pub most : kind ≤ 2
-
--- what add e answers and leaves, whatever the lent literals: it has a name
-abbrev pub OneNamed : List ℕ → List ℕ → List ℕ → ℕ → Store → Answer ℕ × Store → Type 0
-OneNamed rs ns got e s a = (zs : List ℤ) → a ≡ add_one s got (asked_at (wanted rs zs ns) e)

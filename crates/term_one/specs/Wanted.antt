@@ -6,6 +6,7 @@ use Rattle.refusal.specs.declared.Refusal.{Refusal}
 use Rattle.refusal.specs.declared.Refusal.TheVariants.{Short, BadName, BadValue}
 use Rattle.term_rules.specs.Lent.{record_room, kind_at, symbol_no, arity_at, places_at, by_kind}
 use Rattle.term_rules.specs.Nodes.{Node, literal, variable, application}
+use Rattle.term_one.specs.declared.adds.Adds.{Adds}
 
 -- "a record of the flat form for each add; .. its literal at place e; .. entries of names"
 pub record Wanted : Type 0 where
@@ -15,6 +16,10 @@ pub record Wanted : Type 0 where
 
 abbrev pub wanted : List ℕ → List ℤ → List ℕ → Wanted
 wanted rs zs ns = record { adds = rs; values = zs; labels = ns }
+
+-- the list that is lent
+abbrev pub wanted_of : Adds → Wanted
+wanted_of l = wanted l.adds.now l.values.now l.labels.now
 
 -- "There are as many adds as `adds` has whole records."
 abbrev pub add_count : Wanted → ℕ

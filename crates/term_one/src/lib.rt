@@ -2,90 +2,60 @@
 // of the store. (`lit`, `var`, `app` of src/termdag.rs)
 #![tactic(auto)]
 
-ghost use Rattle.std.specs.Prelude.{◌≡◌, true, map, ◌≤◌, length, take};
+ghost use Rattle.std.specs.Prelude.{ℕ, ◌≡◌, true, List, map, ◌≤◌, length, take, MatchResult};
 ghost use Rattle.name.specs.Name.{valid};
-ghost use Rattle.term_rules.specs.Lent.{store, HasRecord, kind_at};
+ghost use Rattle.term_add.specs.Held.{held, SameLoans};
+ghost use Rattle.term_rules.specs.Lent.{store, HasRecord, symbol_no};
 ghost use Rattle.term_rules.specs.WellFormed.{well_formed};
-ghost use Rattle.term.specs.Answers.{seen_added};
+ghost use Rattle.term_rules.specs.Nodes.{Node};
+ghost use Rattle.term.specs.Answers.{seen};
 ghost use Rattle.term.specs.Calls.{add_literal, add_variable, add_application};
-ghost use Rattle.term_one.specs.Wanted.{wanted, asked_at, kids_of, child_number};
-ghost use Rattle.term_one.specs.One.{add_one, Named, OneNamed};
+ghost use Rattle.term_one.specs.Wanted.{wanted_of, node, fault, named, asked_at, kids_of, child_number};
+ghost use Rattle.term_one.specs.One.{add_one};
 
+pub mod adds; // adds.rt: a list of adds as it is lent
+
+use adds::Adds;
 use refusal::Refusal;
-use term::Added;
+use term_add::store_mut::StoreMut;
 
 // Adds a literal.
-fn literal(
-    records: &mut [u64],
-    literals: &mut [i64],
-    names: &[u8],
-    terms: usize,
-    symbols: usize,
-    literal: i64,
-) -> Added
-    requires { well_formed (store records.old literals.old names.now terms symbols) ≡ true }
-    ensures { seen_added result records.new literals.new names.now terms symbols
-        ≡ add_literal (store records.old literals.old names.now terms symbols) literal }
+fn literal(store: &mut StoreMut, literal: i64) -> Result<usize, Refusal>
+    requires { well_formed (held store.old) ≡ true }
+    ensures loans { SameLoans store.old store.new }
+    ensures added { (seen result, held store.new) ≡ add_literal (held store.old) literal }
 {
-    let term_add::Added::Term(i, n, m) = term_add::intern_literal(
-        records, literals, names, terms, symbols, literal,
-    ) else {
-        return Added::Refused(Refusal::NoRoom);
-    };
-    Added::Term(i, n, m)
+    store.intern_literal(literal).ok_or(Refusal::NoRoom)
 }
 
 // Adds a variable.
-fn variable(
-    records: &mut [u64],
-    literals: &mut [i64],
-    names: &mut [u8],
-    terms: usize,
-    symbols: usize,
-    name: &[u8],
-) -> Added
-    requires { well_formed (store records.old literals.old names.old terms symbols) ≡ true }
-    ensures { seen_added result records.new literals.new names.new terms symbols
-        ≡ add_variable (store records.old literals.old names.old terms symbols)
+fn variable(store: &mut StoreMut, name: &[u8]) -> Result<usize, Refusal>
+    requires { well_formed (held store.old) ≡ true }
+    ensures loans { SameLoans store.old store.new }
+    ensures added { (seen result, held store.new) ≡ add_variable (held store.old)
         name.now }
 {
     if !name::is_valid(name) {
-        return Added::Refused(Refusal::BadName);
+        return Err(Refusal::BadName);
     }
-    let term_add::Added::Term(i, n, m) = term_add::intern_variable(
-        records, literals, names, terms, symbols, name,
-    ) else {
-        return Added::Refused(Refusal::NoRoom);
-    };
-    Added::Term(i, n, m)
+    store.intern_variable(name).ok_or(Refusal::NoRoom)
 }
 
 // Adds an application of a valid name to at most eight terms.
-fn applied(
-    records: &mut [u64],
-    literals: &mut [i64],
-    names: &mut [u8],
-    terms: usize,
-    symbols: usize,
-    name: &[u8],
-    children: &[u64],
-) -> Added
-    requires symbols_value { well_formed (store records.old literals.old names.old terms symbols) ≡ true }
+fn applied(store: &mut StoreMut, name: &[u8], children: &[u64]) -> Result<usize, Refusal>
+    requires sound { well_formed (held store.old) ≡ true }
     requires name_value { valid name.now ≡ true }
     requires children_len_bound { length children.now ≤ 8 }
-    ensures { seen_added result records.new literals.new names.new terms symbols
-        ≡ add_application (store records.old literals.old names.old terms symbols)
+    ensures loans { SameLoans store.old store.new }
+    ensures added { (seen result, held store.new) ≡ add_application (held store.old)
         name.now children.now }
 {
-    if !term_record::all_below(children, terms) {
-        return Added::Refused(Refusal::BadTerm);
+    if !term_record::all_below(children, store.terms) {
+        return Err(Refusal::BadTerm);
     }
-    let term_add::Added::Term(i, n, m) = term_add::intern_application(
-        records, literals, names, terms, symbols, name, children,
-    ) else {
-        return Added::Refused(Refusal::NoRoom);
-    };
-    Added::Term(i, n, m)
+    store
+        .intern_application(name, children)
+        .ok_or(Refusal::NoRoom)
 }
 
 // The number that child `x` stands for, once the `e` adds before got the first numbers of `got`.
@@ -110,120 +80,82 @@ fn settle(kids: &[u64], got: &[u64], e: usize, children: &mut [u64])
     ensures { take (length kids.now) children.new
         ≡ map (child_number (take e got.now)) kids.now }
 {
-    let mut j = 0;
-    while j < kids.len() {
-        children[j] = child_number(got, e, kids[j]);
-        j += 1;
+    for (j, &kid) in kids.iter().enumerate() {
+        children[j] = child_number(got, e, kid);
     }
 }
 
 // Adds an application of the name to the children of add `e`.
 fn application(
-    records: &mut [u64],
-    literals: &mut [i64],
-    names: &mut [u8],
-    terms: usize,
-    symbols: usize,
+    store: &mut StoreMut,
     name: &[u8],
-    adds: &[u64],
+    list: &Adds,
     got: &[u64],
     e: usize,
-) -> Added
-    requires symbols_value { well_formed (store records.old literals.old names.old terms symbols) ≡ true }
-    requires has_record { HasRecord adds.now e }
+) -> Result<usize, Refusal>
+    requires sound { well_formed (held store.old) ≡ true }
+    requires has_record { HasRecord list.now.adds.now e }
     requires e_in_bounds { e ≤ length got.now }
-    ensures { seen_added result records.new literals.new names.new terms symbols
-        ≡ add_application (store records.old literals.old names.old terms symbols)
-        name.now (map (child_number (take e got.now)) (kids_of adds.now e)) }
+    ensures loans { SameLoans store.old store.new }
+    ensures added { (seen result, held store.new) ≡ add_application (held store.old)
+        name.now (map (child_number (take e got.now)) (kids_of list.now.adds.now e)) }
 {
     if !name::is_valid(name) {
-        return Added::Refused(Refusal::BadName);
+        return Err(Refusal::BadName);
     }
-    if 8 < term_layout::count_of(adds, e) {
-        return Added::Refused(Refusal::BadSize);
+    if 8 < term_layout::count_of(list.adds, e) {
+        return Err(Refusal::BadSize);
     }
-    let kids = term_layout::children_of(adds, e);
+    let kids = term_layout::children_of(list.adds, e);
     let mut children = [0u64; 8];
     settle(kids, got, e, &mut children);
-    applied(
-        records,
-        literals,
-        names,
-        terms,
-        symbols,
-        name,
-        &children[..kids.len()],
-    )
+    applied(store, name, &children[..kids.len()])
 }
 
-// Add `e`, which has a name.
-fn named(
-    records: &mut [u64],
-    literals: &mut [i64],
-    names: &mut [u8],
-    terms: usize,
-    symbols: usize,
-    adds: &[u64],
-    labels: &[u8],
-    got: &[u64],
-    e: usize,
-) -> Added
-    requires symbols_value { well_formed (store records.old literals.old names.old terms symbols) ≡ true }
-    requires has_record { HasRecord adds.now e }
-    requires e_in_bounds { e ≤ length got.now }
-    requires named { Named (kind_at adds.now e) }
-    ensures { OneNamed adds.now labels.now (take e got.now) e
-        (store records.old literals.old names.old terms symbols)
-        (seen_added result records.new literals.new names.new terms symbols) }
+// The name of add `e`, which is that of a variable or an application.
+fn label_of<'a>(list: &Adds<'a>, e: usize) -> Result<&'a [u8], Refusal>
+    requires { HasRecord list.now.adds.now e }
+    ensures { MatchResult result
+        (λ n. (make : List ℕ → Node) →
+        named list.now.labels.now (symbol_no list.now.adds.now e) make ≡ node (make n.now))
+        (λ r. (make : List ℕ → Node) →
+        named list.now.labels.now (symbol_no list.now.adds.now e) make ≡ fault r) }
 {
-    let k = term_layout::symbol_of(adds, e) as usize;
-    if name::entry_room(labels.len()) <= k {
-        return Added::Refused(Refusal::Short);
+    let k = term_layout::symbol_of(list.adds, e) as usize;
+    if name::entry_room(list.labels.len()) <= k {
+        return Err(Refusal::Short);
     }
-    if 31 < name::length_of(labels, k) {
-        return Added::Refused(Refusal::BadName);
+    if 31 < name::length_of(list.labels, k) {
+        return Err(Refusal::BadName);
     }
-    let label = name::name_of(labels, k);
-    if term_layout::kind_of(adds, e) == 1 {
-        return variable(records, literals, names, terms, symbols, label);
-    }
-    application(
-        records, literals, names, terms, symbols, label, adds, got, e,
-    )
+    Ok(name::name_of(list.labels, k))
 }
 
 // Add `e`, once the adds before it got the first numbers of `got`.
-pub fn add_one(
-    records: &mut [u64],
-    literals: &mut [i64],
-    names: &mut [u8],
-    terms: usize,
-    symbols: usize,
-    adds: &[u64],
-    values: &[i64],
-    labels: &[u8],
-    got: &[u64],
-    e: usize,
-) -> Added
-    requires symbols_value { well_formed (store records.old literals.old names.old terms symbols) ≡ true }
-    requires has_record { HasRecord adds.now e }
+pub fn add_one(store: &mut StoreMut, list: &Adds, got: &[u64], e: usize) -> Result<usize, Refusal>
+    requires sound { well_formed (held store.old) ≡ true }
+    requires has_record { HasRecord list.now.adds.now e }
     requires e_in_bounds { e ≤ length got.now }
-    ensures { seen_added result records.new literals.new names.new terms symbols
-        ≡ add_one (store records.old literals.old names.old terms symbols)
+    ensures loans { SameLoans store.old store.new }
+    ensures added { (seen result, held store.new) ≡ add_one (held store.old)
         (take e got.now)
-        (asked_at (wanted adds.now values.now labels.now) e) }
+        (asked_at (wanted_of list.now) e) }
 {
-    let kind = term_layout::kind_of(adds, e);
-    if 2 < kind {
-        return Added::Refused(Refusal::BadValue);
+    match term_layout::kind_of(list.adds, e) {
+        0 => {
+            if list.values.len() <= e {
+                return Err(Refusal::Short);
+            }
+            literal(store, list.values[e])
+        }
+        1 => {
+            let label = label_of(list, e)?;
+            variable(store, label)
+        }
+        2 => {
+            let label = label_of(list, e)?;
+            application(store, label, list, got, e)
+        }
+        _ => Err(Refusal::BadValue),
     }
-    if 0 < kind {
-        return named(
-            records, literals, names, terms, symbols, adds, labels, got, e,
-        );
-    }
-    if values.len() <= e {
-        return Added::Refused(Refusal::Short);
-    }
-    literal(records, literals, names, terms, symbols, values[e])
 }

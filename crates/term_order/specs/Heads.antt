@@ -1,7 +1,7 @@
 -- Two records by all but their children, and where their children first differ. Assumes nothing: these are definitions.
 use Rattle.std.specs.Prelude.{ℕ, ◌≤◌, ◌<◌, ◌≡◌, List, length, get_or}
-use Rattle.order.specs.declared.Ordering.{Ordering}
-use Rattle.order.specs.declared.Ordering.TheVariants.{Less, More}
+use Rattle.std.specs.declared.cmp.Ordering.{Ordering}
+use Rattle.std.specs.declared.cmp.Ordering.TheVariants.{Less, Greater}
 use Rattle.order.specs.Compare.{then_by, numbers, lists}
 use Rattle.term_rules.specs.Nodes.{Node, literal, variable, application}
 use Rattle.term_order.specs.TreeOrder.{ints}
@@ -11,11 +11,11 @@ unfoldable pub heads : Node → Node → Ordering
 heads (literal y) (literal z) = ints y z
 heads (literal y) (variable n) = Less
 heads (literal y) (application n ks) = Less
-heads (variable m) (literal z) = More
+heads (variable m) (literal z) = Greater
 heads (variable m) (variable n) = lists m n
 heads (variable m) (application n ks) = Less
-heads (application m js) (literal z) = More
-heads (application m js) (variable n) = More
+heads (application m js) (literal z) = Greater
+heads (application m js) (variable n) = Greater
 heads (application m js) (application n ks) = then_by (lists m n) (numbers (length js) (length ks))
 
 -- place j is the first at which two lists of eight differ, or there is none and j is 8

@@ -12,9 +12,8 @@ use Prim.{Dec, yes, no}
 use borrow.Author.Tests.{leb-true, leb-false}
 use lib.Dec.{leb}
 use lib.IntN.{ℤ, pos, nat_abs}
-use lib.ListN.{length, get_or, set, drop, replicate, length-set, length-replicate}
+use lib.ListN.{length, get_or, set, drop, drop_of_length-le, replicate, length-set, length-replicate}
 use lib.Seq.{drop-cons, get_or-set_same, get_or-set_other}
-use Rattle.name.proofs.NameLaws.{drop-end}
 use Rattle.term_rules.specs.Lent.{symbol_no, places_at, record_in}
 use Rattle.term_rules.specs.WellFormed.{every, same_term}
 use Rattle.term_rules.proofs.TestLaws.{cases, every_of, every-fails, every-start, every_more}
@@ -35,7 +34,7 @@ module _ (s : List ℕ) (h i : ℕ) where
 
   pub digest-end : i ≤ length s → length s ≤ i → digest_from h (drop i s) ≡ h
   unfolding digest_from
-  digest-end l k = rw (drop-end s i l k)
+  digest-end l k = rw (drop_of_length-le s k)
 
 -- The last of each bucket, one number more.
 module _ (bucket : ℕ → ℕ) where

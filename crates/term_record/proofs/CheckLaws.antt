@@ -8,9 +8,10 @@ use borrow.Author.Tests.{eq-eqb, ne_eqb, lt-ltb, le-ltb, le-leb, lt-leb, leb-tru
 use lib.Dec.{leb}
 use lib.ListN.{length, get_or, drop}
 use lib.IntN.{ℤ, pos}
+use Rattle.std.specs.Option.{is_some}
+use Rattle.std.specs.Prelude.{Option, Some, None}
 use Rattle.name.specs.Name.{valid, same}
 use Rattle.name.specs.Entries.{entries_length, entry_room, length_at, name_at, padding_at, find_name, Entries}
-use Rattle.name.specs.declared.Found.TheVariants.{At, Missing}
 use Rattle.term_rules.specs.Lent.{
   store,
   records_length,
@@ -39,25 +40,12 @@ use Rattle.term_rules.specs.WellFormed.{
   new_term,
   well_formed,
 }
-use Rattle.term_rules.proofs.TestLaws.{and-false, and_first, and_second, every_get, every_of, every-fails, every-same}
+use Rattle.term_rules.proofs.TestLaws.{and_first, and_second, every_get, every_of, every-fails, every-same, no_both}
 use Rattle.term_rules.proofs.SearchLaws.{first-at, first-missing, find_name-first}
 use Rattle.term_rules.proofs.FactsLaws.{sound_name-get}
 use Rattle.term_rules.proofs.SameLaws.{same_int-tells, tells-yes, tells-no}
 use Rattle.term_rules.proofs.KindLaws.{by_kind-literal, by_kind-variable, by_kind-application, by_kind-other}
 use Rattle.term_record.specs.Flat.{within, fresh_name, fresh_record, sound_record_at}
-
-module _ (r l n t m : ℕ) where
-  pub within-terms-refuses : min 1024 (min (record_room r) l) < t → within r l n t m ≡ false
-  unfolding within
-  within-terms-refuses h = rw (lt-leb t (min 1024 (min (record_room r) l)) h)
-
-  pub within-symbols-refuses : min 128 (entry_room n) < m → within r l n t m ≡ false
-  unfolding within
-  within-symbols-refuses h = and-false (leb t (min 1024 (min (record_room r) l))) _ (lt-leb m (min 128 (entry_room n)) h)
-
-  pub within-holds : t ≤ min 1024 (min (record_room r) l) → m ≤ min 128 (entry_room n) → within r l n t m ≡ true
-  unfolding within
-  within-holds h k = rw (le-leb t (min 1024 (min (record_room r) l)) h, le-leb m (min 128 (entry_room n)) k)
 
 -- a name's entry
 module _ (ns : List ℕ) (k : ℕ) where
@@ -76,21 +64,6 @@ module _ (ns : List ℕ) (k : ℕ) where
 
 -- a record
 module _ (rs : List ℕ) (ls : List ℤ) (i : ℕ) where
-  pub literal-symbol-refuses : (symbol_no rs i ≡ 0 → ⊥) → sound_literal (record_in rs ls i) ≡ false
-  unfolding sound_literal record_in
-  literal-symbol-refuses n = rw (ne_eqb (symbol_no rs i) 0 n)
-
-  module _ (a : symbol_no rs i ≡ 0) where
-    pub literal-count-refuses : (arity_at rs i ≡ 0 → ⊥) → sound_literal (record_in rs ls i) ≡ false
-    unfolding sound_literal record_in
-    literal-count-refuses n = rw (a, ne_eqb (arity_at rs i) 0 n)
-
-    pub literal-rest :
-        arity_at rs i ≡ 0 →
-        all_zero (places_at rs i) ≡ sound_literal (record_in rs ls i)
-    unfolding sound_literal record_in
-    literal-rest b = rw (a, b)
-
   module _ (m : ℕ) where
     pub variable-symbol-refuses : m ≤ symbol_no rs i → sound_variable m (record_in rs ls i) ≡ false
     unfolding sound_variable record_in
@@ -238,19 +211,27 @@ module _ (rs : List ℕ) (ls : List ℤ) (j i : ℕ) where
 
 -- names and records that are new
 module _ (ns : List ℕ) (k : ℕ) where
-  pub name_new : find_name ns k (name_at ns k) ≡ Missing → fresh_name ns k ≡ true
+  pub name_new : find_name ns k (name_at ns k) ≡ None → fresh_name ns k ≡ true
   unfolding fresh_name
   name_new e =
       let p : ℕ → Bool = λ j. same (name_at ns j) (name_at ns k) in
       every_of (λ (j : ℕ). not (p j)) k
       (λ j h. rw (first-missing p k 0 (sym (find_name-first ns (name_at ns k) k) ∙ e) j (omega arith) (omega arith)))
 
-  pub name-old : (j : ℕ) → find_name ns k (name_at ns k) ≡ At j → fresh_name ns k ≡ false
+  pub name-old : (j : ℕ) → find_name ns k (name_at ns k) ≡ Some j → fresh_name ns k ≡ false
   unfolding fresh_name
   name-old j e =
       let p : ℕ → Bool = λ j. same (name_at ns j) (name_at ns k) in
       let r = first-at p k 0 j (sym (find_name-first ns (name_at ns k) k) ∙ e) in
       every-fails (λ (j : ℕ). not (p j)) k j (omega (arith, r.1)) (rw r.2)
+
+  -- whether a search found none
+  pub name_none :
+      (f : Option ℕ) (b : Bool) → find_name ns k (name_at ns k) ≡ f → is_some f ≡ not b → b ≡ fresh_name ns k
+  name_none None true e h = sym (name_new e)
+  name_none (Some j) false e h = sym (name-old j e)
+  name_none None false e h = absurd (no_both true refl (sym h))
+  name_none (Some j) true e h = absurd (no_both true refl h)
 
 pub entries-of : (ns : List ℕ) (m : ℕ) → entries_length m ≤ length ns → every m (sound_name ns) ≡ true → Entries ns m
 entries-of ns m h e =

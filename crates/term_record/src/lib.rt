@@ -1,8 +1,8 @@
 // The lent store's records as flat numbers: one record read or written, and whether a whole lent store is well formed.
 #![tactic(auto)]
 
-ghost use Rattle.std.specs.Prelude.{◌≡◌, true, false, ℕ, ◌+◌, ◌≤◌, ◌<◌, length};
-ghost use Rattle.name.specs.Name.{same};
+ghost use Rattle.std.specs.Prelude.{◌≡◌, true, false, ℕ, ◌+◌, ◌≤◌, ◌<◌, length, is_some, IfSome};
+ghost use Rattle.term_layout.specs.Sound.{lent_of, store_of};
 ghost use Rattle.name.specs.Entries.{entries_length, HasEntry, Entries};
 ghost use Rattle.term_rules.specs.Lent.{store, records_length, InRecords, record_in};
 ghost use Rattle.term_rules.specs.WellFormed.{
@@ -20,7 +20,8 @@ ghost use Rattle.term_rules.specs.WellFormed.{
 ghost use Rattle.term_record.specs.Flat.{fresh_name, fresh_record, sound_record_at, within};
 ghost use Rattle.term_record.specs.Buckets.{digest_from, bucket_in, Last, Chained};
 
-use name::Found;
+use term_layout::lent::Lent;
+use term_layout::store::Store;
 use term_rules::Term;
 
 // Term record `i`.
@@ -31,13 +32,8 @@ pub fn record_at(records: &[u64], literals: &[i64], i: usize) -> Term
     let kind = term_layout::kind_of(records, i);
     let symbol = term_layout::symbol_of(records, i);
     let count = term_layout::count_of(records, i);
-    let places = term_layout::places_of(records, i);
     let mut children = [0u64; 8];
-    let mut j = 0;
-    while j < 8 {
-        children[j] = places[j];
-        j += 1;
-    }
+    children.copy_from_slice(term_layout::places_of(records, i));
     Term {
         kind,
         symbol,
@@ -50,58 +46,14 @@ pub fn record_at(records: &[u64], literals: &[i64], i: usize) -> Term
 fn all_zero(s: &[u64]) -> bool
     ensures { result ≡ all_zero s.now }
 {
-    let mut i = 0;
-    while i < s.len() {
-        if s[i] != 0 {
-            return false;
-        }
-        i += 1;
-    }
-    true
-}
-
-fn all_zero_bytes(s: &[u8]) -> bool
-    ensures { result ≡ all_zero s.now }
-{
-    let mut i = 0;
-    while i < s.len() {
-        if s[i] != 0 {
-            return false;
-        }
-        i += 1;
-    }
-    true
+    s.iter().all(|x| *x == 0)
 }
 
 // Whether every number of `s` is below `n`.
 pub fn all_below(s: &[u64], n: usize) -> bool
     ensures { result ≡ all_below n s.now }
 {
-    let mut i = 0;
-    while i < s.len() {
-        if s[i] >= n as u64 {
-            return false;
-        }
-        i += 1;
-    }
-    true
-}
-
-// Whether `a` and `b` have the same numbers.
-pub fn are_equal(a: &[u64], b: &[u64]) -> bool
-    ensures { result ≡ same a.now b.now }
-{
-    if a.len() != b.len() {
-        return false;
-    }
-    let mut i = 0;
-    while i < a.len() {
-        if a[i] != b[i] {
-            return false;
-        }
-        i += 1;
-    }
-    true
+    s.iter().all(|x| *x < n as u64)
 }
 
 // Whether entry `k` holds a valid name, with zeros past it.
@@ -115,19 +67,17 @@ fn is_sound_name(names: &[u8], k: usize) -> bool
     if !name::is_valid(name::name_of(names, k)) {
         return false;
     }
-    all_zero_bytes(name::padding_of(names, k))
+    name::padding_of(names, k).iter().all(|b| *b == 0)
 }
 
 fn are_names_sound(names: &[u8], symbols: usize) -> bool
     requires { entries_length symbols ≤ length names.now }
     ensures { result ≡ every symbols (sound_name names.now) }
 {
-    let mut k = 0;
-    while k < symbols {
+    for k in 0..symbols {
         if !is_sound_name(names, k) {
             return false;
         }
-        k += 1;
     }
     true
 }
@@ -137,37 +87,29 @@ fn is_new_name(names: &[u8], k: usize) -> bool
     requires { Entries names.now (k + 1) }
     ensures { result ≡ fresh_name names.now k }
 {
-    let Found::At(_) = name::find(names, k, name::name_of(names, k)) else {
-        return true;
-    };
-    false
+    name::find(names, k, name::name_of(names, k)).is_none()
 }
 
 fn are_names_new(names: &[u8], symbols: usize) -> bool
     requires { Entries names.now symbols }
     ensures { result ≡ every symbols (fresh_name names.now) }
 {
-    let mut k = 0;
-    while k < symbols {
+    for k in 0..symbols {
         if !is_new_name(names, k) {
             return false;
         }
-        k += 1;
     }
     true
 }
 
+#[tactic(auto, unfolding(term_rules::specs::WellFormed::sound_literal, term_rules::specs::Lent::record_in))]
 fn is_sound_literal(records: &[u64], literals: &[i64], i: usize) -> bool
     requires { InRecords records.now literals.now i }
     ensures { result ≡ sound_literal (record_in records.now literals.now i) }
 {
-    if term_layout::symbol_of(records, i) != 0 {
-        return false;
-    }
-    if term_layout::count_of(records, i) != 0 {
-        return false;
-    }
-    all_zero(term_layout::places_of(records, i))
+    term_layout::symbol_of(records, i) == 0
+        && term_layout::count_of(records, i) == 0
+        && all_zero(term_layout::places_of(records, i))
 }
 
 fn is_sound_variable(records: &[u64], literals: &[i64], i: usize, symbols: usize) -> bool
@@ -210,29 +152,22 @@ fn is_sound_record(records: &[u64], literals: &[i64], i: usize, symbols: usize) 
     requires { InRecords records.now literals.now i }
     ensures { result ≡ sound_record_at records.now literals.now symbols i }
 {
-    let kind = term_layout::kind_of(records, i);
-    if kind == 0 {
-        return is_sound_literal(records, literals, i);
+    match term_layout::kind_of(records, i) {
+        0 => is_sound_literal(records, literals, i),
+        1 => is_sound_variable(records, literals, i, symbols),
+        2 => is_sound_application(records, literals, i, symbols),
+        _ => false,
     }
-    if kind == 1 {
-        return is_sound_variable(records, literals, i, symbols);
-    }
-    if kind == 2 {
-        return is_sound_application(records, literals, i, symbols);
-    }
-    false
 }
 
 fn are_records_sound(records: &[u64], literals: &[i64], terms: usize, symbols: usize) -> bool
     requires { (records_length terms ≤ length records.now) × (terms ≤ length literals.now) }
     ensures { result ≡ every terms (sound_record_at records.now literals.now symbols) }
 {
-    let mut i = 0;
-    while i < terms {
+    for i in 0..terms {
         if !is_sound_record(records, literals, i, symbols) {
             return false;
         }
-        i += 1;
     }
     true
 }
@@ -257,10 +192,7 @@ fn is_same_record(records: &[u64], literals: &[i64], j: usize, i: usize) -> bool
     if literals[j] != literals[i] {
         return false;
     }
-    are_equal(
-        term_layout::places_of(records, j),
-        term_layout::places_of(records, i),
-    )
+    term_layout::places_of(records, j) == term_layout::places_of(records, i)
 }
 
 // A number below 1,021 that depends on `start` and `s` alone.
@@ -270,10 +202,8 @@ fn digest(start: u64, s: &[u64]) -> u64
     ensures upper_bound { result < 1021 }
 {
     let mut h = start;
-    let mut i = 0;
-    while i < s.len() {
-        h = (h * 31 + s[i] % 1021) % 1021;
-        i += 1;
+    for x in s {
+        h = (h * 31 + *x % 1021) % 1021;
     }
     h
 }
@@ -288,7 +218,7 @@ fn bucket(records: &[u64], literals: &[i64], i: usize) -> usize
         term_layout::symbol_of(records, i) % 1021,
         term_layout::places_of(records, i),
     );
-    let m = decimal::absolute(literals[i]) % 1021;
+    let m = literals[i].unsigned_abs() % 1021;
     ((h + m) % 1021) as usize
 }
 
@@ -318,8 +248,7 @@ fn are_records_new(records: &[u64], literals: &[i64], terms: usize) -> bool
 {
     let mut lasts: [usize; 1021] = [0; 1021];
     let mut nexts: [usize; 1024] = [0; 1024];
-    let mut i = 0;
-    while i < terms {
+    for i in 0..terms {
         let b = bucket(records, literals, i);
         let from = lasts[b];
         if !is_new_record(records, literals, &nexts, from, i) {
@@ -327,12 +256,12 @@ fn are_records_new(records: &[u64], literals: &[i64], terms: usize) -> bool
         }
         nexts[i] = from;
         lasts[b] = i + 1;
-        i += 1;
     }
     true
 }
 
 // Whether the counts are within the limits and these lent lengths.
+#[tactic(auto, unfolding(crate::specs::Flat::within))]
 fn are_counts_within(
     records: usize,
     literals: usize,
@@ -342,39 +271,48 @@ fn are_counts_within(
 ) -> bool
     ensures { result ≡ within records literals names terms symbols }
 {
-    if 1024 < terms {
-        return false;
-    }
-    if term_layout::record_room(records) < terms {
-        return false;
-    }
-    if literals < terms {
-        return false;
-    }
-    if 128 < symbols {
-        return false;
-    }
-    if name::entry_room(names) < symbols {
-        return false;
-    }
-    true
+    terms <= 1024.min(term_layout::record_room(records).min(literals))
+        && symbols <= 128.min(name::entry_room(names))
 }
 
 // Whether the lent store is well formed, whatever is lent. At most terms² record compares and symbols² name compares.
-pub fn check(records: &[u64], literals: &[i64], names: &[u8], terms: usize, symbols: usize) -> bool
-    ensures { result ≡ well_formed (store records.now literals.now names.now terms symbols) }
+pub fn check(lent: &Lent) -> bool
+    ensures { result ≡ well_formed (lent_of lent.now) }
 {
-    if !are_counts_within(records.len(), literals.len(), names.len(), terms, symbols) {
+    if !are_counts_within(
+        lent.records.len(),
+        lent.literals.len(),
+        lent.names.len(),
+        lent.terms,
+        lent.symbols,
+    ) {
         return false;
     }
-    if !are_names_sound(names, symbols) {
+    if !are_names_sound(lent.names, lent.symbols) {
         return false;
     }
-    if !are_names_new(names, symbols) {
+    if !are_names_new(lent.names, lent.symbols) {
         return false;
     }
-    if !are_records_sound(records, literals, terms, symbols) {
+    if !are_records_sound(lent.records, lent.literals, lent.terms, lent.symbols) {
         return false;
     }
-    are_records_new(records, literals, terms)
+    are_records_new(lent.records, lent.literals, lent.terms)
+}
+
+// The store as one that is well formed, where it is.
+pub fn checked<'a>(lent: &Lent<'a>) -> Option<Store<'a>>
+    ensures told { is_some result ≡ well_formed (lent_of lent.now) }
+    ensures same { IfSome result (λ s. store_of s ≡ lent_of lent.now) }
+{
+    if !check(lent) {
+        return None;
+    }
+    Some(Store {
+        records: lent.records,
+        literals: lent.literals,
+        names: lent.names,
+        terms: lent.terms,
+        symbols: lent.symbols,
+    })
 }

@@ -8,27 +8,26 @@ use borrow.Author.Tests.{eqb-true, eqb-false, ltb-true, ltb-false}
 use lib.Dec.{eqb, ltb}
 use Rattle.name.specs.Name.{same}
 use Rattle.name.specs.Entries.{name_at, find_from, find_name}
-use Rattle.name.specs.declared.Found.{Found}
-use Rattle.name.specs.declared.Found.TheVariants.{At, Missing}
+use Rattle.std.specs.Prelude.{Option, Some, None}
 use Rattle.term_rules.specs.Adding.{first_from}
 use Rattle.term_rules.proofs.TestLaws.{cases, no_both}
 
-pub no_found : {P : Type 0} {j : ℕ} → Missing ≡ At j → P
+pub no_found : {P : Type 0} {j : ℕ} → None ≡ Some j → P
 no_found e = let z : ◌≡◌ {A = ℕ} 0 1 = cc in absurd (omega arith)
 
 -- by what a search found
-pub found-cases : {P : Type 0} (f : Found) → ((j : ℕ) → f ≡ At j → P) → (f ≡ Missing → P) → P
-found-cases (At j) a m = a j refl
-found-cases Missing a m = m refl
+pub found-cases : {P : Type 0} (f : Option ℕ) → ((j : ℕ) → f ≡ Some j → P) → (f ≡ None → P) → P
+found-cases (Some j) a m = a j refl
+found-cases None a m = m refl
 
-at_same : {i j : ℕ} → At i ≡ At j → i ≡ j
+at_same : {i j : ℕ} → Some i ≡ Some j → i ≡ j
 at_same e = cc
 
 apart : (i j : ℕ) → (i ≡ j → ⊥) → i ≤ j → i < j
 apart i j n h = cases (ltb i j) (λ l. ltb-true i j l) (λ l. absurd (n (omega (arith, ltb-false i j l))))
 
 module _ (p : ℕ → Bool) where
-  first-hit : (i n : ℕ) → p i ≡ true → first_from p i (suc n) ≡ At i
+  first-hit : (i n : ℕ) → p i ≡ true → first_from p i (suc n) ≡ Some i
   unfolding first_from
   first-hit i n e = rw (e, first_from)
 
@@ -36,12 +35,12 @@ module _ (p : ℕ → Bool) where
   unfolding first_from
   first_next i n e = rw (e, first_from)
 
-  first-none-left : (i : ℕ) → first_from p i 0 ≡ Missing
+  first-none-left : (i : ℕ) → first_from p i 0 ≡ None
   unfolding first_from
   first-none-left i = refl
 
   -- what a search found
-  pub first-at : (n i j : ℕ) → first_from p i n ≡ At j → (i ≤ j) × (j < i + n) × (p j ≡ true)
+  pub first-at : (n i j : ℕ) → first_from p i n ≡ Some j → (i ≤ j) × (j < i + n) × (p j ≡ true)
   first-at zero i j e = no_found (sym (first-none-left i) ∙ e)
   first-at (suc n) i j e =
       cases (p i)
@@ -49,7 +48,7 @@ module _ (p : ℕ → Bool) where
       (λ f. let r = first-at n (i + 1) j (sym (first_next i n f) ∙ e) in (omega arith, omega arith, r.2))
 
   -- what a search did not find
-  pub first-missing : (n i : ℕ) → first_from p i n ≡ Missing → (j : ℕ) → i ≤ j → j < i + n → p j ≡ false
+  pub first-missing : (n i : ℕ) → first_from p i n ≡ None → (j : ℕ) → i ≤ j → j < i + n → p j ≡ false
   first-missing zero i e j h l = absurd (omega arith)
   first-missing (suc n) i e j h l =
       cases (p i) (λ t. no_found (sym e ∙ first-hit i n t))
@@ -59,20 +58,20 @@ module _ (p : ℕ → Bool) where
       first-missing n (i + 1) (sym (first_next i n f) ∙ e) j (omega (arith, apart i j (eqb-false i j d) h))
       (omega arith)))
 
-  pub first-none : (n i : ℕ) → ((j : ℕ) → i ≤ j → j < i + n → p j ≡ false) → first_from p i n ≡ Missing
+  pub first-none : (n i : ℕ) → ((j : ℕ) → i ≤ j → j < i + n → p j ≡ false) → first_from p i n ≡ None
   first-none zero i f = first-none-left i
   first-none (suc n) i f =
       first_next i n (f i (omega arith) (omega arith))
       ∙ first-none n (i + 1) (λ j h l. f j (omega arith) (omega arith))
 
   -- the steps of a loop
-  pub first-here : (i n : ℕ) → i < n → p i ≡ true → first_from p i (n - i) ≡ At i
+  pub first-here : (i n : ℕ) → i < n → p i ≡ true → first_from p i (n - i) ≡ Some i
   first-here i n h e = let m : n - i ≡ suc (n - i - 1) = omega arith in rw m (first-hit i (n - i - 1) e)
 
   pub first_more : (i n : ℕ) → i < n → p i ≡ false → first_from p (i + 1) (n - (i + 1)) ≡ first_from p i (n - i)
   first_more i n h e = let m : n - i ≡ suc (n - (i + 1)) = omega arith in sym (rw m (first_next i (n - (i + 1)) e))
 
-  pub first-end : (i n : ℕ) → n ≤ i → first_from p i (n - i) ≡ Missing
+  pub first-end : (i n : ℕ) → n ≤ i → first_from p i (n - i) ≡ None
   first-end i n h = let m : n - i ≡ 0 = omega arith in rw m (first-none-left i)
 
   pub first-start : (n : ℕ) → first_from p 0 (n - 0) ≡ first_from p 0 n
@@ -96,18 +95,18 @@ pub first-unique :
     j < n →
     p j ≡ true →
     ((i : ℕ) → i < n → p i ≡ true → i ≡ j) →
-    first_from p 0 n ≡ At j
+    first_from p 0 n ≡ Some j
 first-unique p n j h e once =
     found-cases (first_from p 0 n)
     (λ i d.
     let r = first-at p n 0 i d in
     let q : i ≡ j = once i (omega arith) r.2 in
-    d ∙ ap At q)
+    d ∙ ap Some q)
     (λ d. no_both (p j) e (first-missing p n 0 d j (omega arith) (omega arith)))
 
 -- a search for a name is such a search
 module _ (table name : List ℕ) where
-  name-hit : (k n : ℕ) → same (name_at table k) name ≡ true → find_from table name k (suc n) ≡ At k
+  name-hit : (k n : ℕ) → same (name_at table k) name ≡ true → find_from table name k (suc n) ≡ Some k
   unfolding find_from
   name-hit k n e = rw (e, find_from)
 

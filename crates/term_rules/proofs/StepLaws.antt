@@ -5,13 +5,12 @@ use mathlib.Core.Bool.{Bool, true, false}
 use mathlib.Core.List.{List}
 use lib.Dec.{ltb}
 use Rattle.name.specs.Entries.{find_name, put_name}
-use Rattle.name.specs.declared.Found.{Found}
-use Rattle.name.specs.declared.Found.TheVariants.{At, Missing}
+use Rattle.std.specs.Prelude.{Option, Some, None}
 use Rattle.term_rules.specs.Lent.{Store, store, symbol_room}
 use Rattle.term_rules.specs.Adding.{find_symbol, symbol_for, with_name, room_for_name}
 
 module _ (s : Store) (name : List ℕ) where
-  module _ (k : ℕ) (e : find_symbol s name ≡ At k) where
+  module _ (k : ℕ) (e : find_symbol s name ≡ Some k) where
     pub symbol_for-old : symbol_for s name ≡ k
     unfolding symbol_for
     symbol_for-old = rw (e, symbol_for)
@@ -24,7 +23,7 @@ module _ (s : Store) (name : List ℕ) where
     unfolding room_for_name
     room_for_name-old = rw (e, room_for_name)
 
-  module _ (e : find_symbol s name ≡ Missing) where
+  module _ (e : find_symbol s name ≡ None) where
     pub symbol_for-new : symbol_for s name ≡ s.symbols
     unfolding symbol_for
     symbol_for-new = rw (e, symbol_for)

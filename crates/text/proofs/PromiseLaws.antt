@@ -19,10 +19,9 @@ use Rattle.term_rules.specs.Nodes.{literal, variable, node_at}
 use Rattle.text_rules.specs.Forms.{form, by_text, child_text, line, line_in}
 use Rattle.text_rules.specs.PlainText.{plain_line, plain_text}
 use Rattle.text_rules.specs.LetText.{Naming, let_text, next_count}
-use Rattle.text_whole.specs.declared.Text.{Text}
-use Rattle.text_whole.specs.declared.Text.TheVariants.{Written, Refused}
+use Rattle.std.specs.Prelude.{Result, Ok, Err}
+use Rattle.refusal.specs.declared.Refusal.{Refusal}
 use Rattle.text_whole.specs.declared.LetText.{LetText}
-use Rattle.text_whole.specs.declared.LetText.TheVariants.{Written as LetWritten, Refused as LetRefused}
 use Rattle.text_whole.specs.Placed.{Told, told, placed, Answer, written, refusal, answer_of}
 use Rattle.text.specs.Told.{plain_told}
 use Rattle.text_whole.specs.LetPlaced.{LetAnswer, let_answer_of, valid_prefix}
@@ -162,29 +161,30 @@ pub digits-lead : (x : ℕ) → 0 < x → 48 < get_or (digits x) 0 0
 digits-lead x q = digits-lead-in (suc x) x (omega arith) q
 
 -- ---- what is told the same is the same
-answer-once : (r q : Text) → answer_of r ≡ answer_of q → r ≡ q
-answer-once (Written m) (Written n) e = let d : m ≡ n = cc in ap Written d
-answer-once (Written m) (Refused q) e = let z : ◌≡◌ {A = ℕ} 0 1 = cc in absurd (omega arith)
-answer-once (Refused r) (Written n) e = let z : ◌≡◌ {A = ℕ} 0 1 = cc in absurd (omega arith)
-answer-once (Refused r) (Refused q) e =
-    let d : refusal_no r ≡ refusal_no q = cc in ap Refused (number-once r q d)
+answer-once : (r q : Result ℕ Refusal) → answer_of r ≡ answer_of q → r ≡ q
+answer-once (Ok m) (Ok n) e = cc
+answer-once (Ok m) (Err q) e = cc
+answer-once (Err r) (Ok n) e = cc
+answer-once (Err r) (Err q) e =
+    let d : refusal_no r ≡ refusal_no q = cc in ap Err (number-once r q d)
 
-let-answer-once : (r q : LetText) → let_answer_of r ≡ let_answer_of q → r ≡ q
-let-answer-once (LetWritten m j) (LetWritten n k) e =
-    let d : m ≡ n = cc in
-    let f : j ≡ k = cc in
-    ap (λ (x : ℕ). LetWritten x j) d ∙ ap (LetWritten n) f
-let-answer-once (LetWritten m j) (LetRefused q) e = let z : ◌≡◌ {A = ℕ} 0 1 = cc in absurd (omega arith)
-let-answer-once (LetRefused r) (LetWritten n k) e = let z : ◌≡◌ {A = ℕ} 0 1 = cc in absurd (omega arith)
-let-answer-once (LetRefused r) (LetRefused q) e =
-    let d : refusal_no r ≡ refusal_no q = cc in ap LetRefused (number-once r q d)
+let-answer-once : (r q : Result LetText Refusal) → let_answer_of r ≡ let_answer_of q → r ≡ q
+let-answer-once (Ok m) (Ok n) e =
+    let p : m.length ≡ n.length = cc in
+    let q : m.next ≡ n.next = cc in
+    let d : m ≡ n = rw (p, q) in
+    ap Ok d
+let-answer-once (Ok m) (Err q) e = cc
+let-answer-once (Err r) (Ok n) e = cc
+let-answer-once (Err r) (Err q) e =
+    let d : refusal_no r ≡ refusal_no q = cc in ap Err (number-once r q d)
 
 pub plain-determined :
-    (r q : Text) (o p : List ℕ) → told (answer_of r) o ≡ told (answer_of q) p → (r ≡ q) × (o ≡ p)
+    (r q : Result ℕ Refusal) (o p : List ℕ) → told (answer_of r) o ≡ told (answer_of q) p → (r ≡ q) × (o ≡ p)
 plain-determined r q o p e =
     (answer-once r q (ap (λ (x : Told Answer). x.answer) e), ap (λ (x : Told Answer). x.out) e)
 
 pub let-determined :
-    (r q : LetText) (o p : List ℕ) → told (let_answer_of r) o ≡ told (let_answer_of q) p → (r ≡ q) × (o ≡ p)
+    (r q : Result LetText Refusal) (o p : List ℕ) → told (let_answer_of r) o ≡ told (let_answer_of q) p → (r ≡ q) × (o ≡ p)
 let-determined r q o p e =
     (let-answer-once r q (ap (λ (x : Told LetAnswer). x.answer) e), ap (λ (x : Told LetAnswer). x.out) e)

@@ -2,3 +2,4 @@
 pub mod Told
 pub mod LetTold
 pub mod Promises
+pub mod Checks

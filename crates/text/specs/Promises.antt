@@ -1,6 +1,6 @@
 -- What the texts promise: document 01, 'Terms' and 'Refusal numbers'. Assumes nothing: a record, with one field for
 -- each theorem.
-use Rattle.std.specs.Prelude.{ℕ, suc, ◌+◌, ◌*◌, ◌-◌, ◌≤◌, ◌<◌, ◌≡◌, true, false, List, [], ◌∷◌, ◌++◌, length, drop, get_or, pos, negsuc}
+use Rattle.std.specs.Prelude.{ℕ, suc, ◌+◌, ◌*◌, ◌-◌, ◌≤◌, ◌<◌, ◌≡◌, true, false, List, [], ◌∷◌, ◌++◌, length, drop, get_or, pos, negsuc, Result}
 use Rattle.decimal.specs.Decimal.{digits}
 use Rattle.name.specs.Name.{valid}
 use Rattle.term_rules.specs.Lent.{Store}
@@ -9,7 +9,7 @@ use Rattle.term_rules.specs.Nodes.{literal, variable, node_at, Tree, Means}
 use Rattle.term_rules.specs.Growing.{Grows}
 use Rattle.text_rules.specs.PlainText.{plain_text}
 use Rattle.text_rules.specs.LetText.{Naming, let_text, next_count}
-use Rattle.text_whole.specs.declared.Text.{Text}
+use Rattle.refusal.specs.declared.Refusal.{Refusal}
 use Rattle.text_whole.specs.declared.LetText.{LetText}
 use Rattle.text_whole.specs.Placed.{told, written, refusal, answer_of}
 use Rattle.text.specs.Told.{plain_told}
@@ -142,6 +142,6 @@ pub record Promises : Type 0 where
   pub variable_bare : (s : Store) (t : ℕ) (name : List ℕ) → node_at s t ≡ variable name → plain_text s t ≡ name
   -- Each call's answer and what it leaves are determined: what is told the same is the same.
   pub plain_determined :
-      (r q : Text) (o p : List ℕ) → told (answer_of r) o ≡ told (answer_of q) p → (r ≡ q) × (o ≡ p)
+      (r q : Result ℕ Refusal) (o p : List ℕ) → told (answer_of r) o ≡ told (answer_of q) p → (r ≡ q) × (o ≡ p)
   pub let_determined :
-      (r q : LetText) (o p : List ℕ) → told (let_answer_of r) o ≡ told (let_answer_of q) p → (r ≡ q) × (o ≡ p)
+      (r q : Result LetText Refusal) (o p : List ℕ) → told (let_answer_of r) o ≡ told (let_answer_of q) p → (r ≡ q) × (o ≡ p)

@@ -7,7 +7,7 @@ use native.Mathlib.Omega.{arith}
 use native.Mathlib.Numerals.{add-one}
 use native.Mathlib.Decide.{ℕ_discrete, dec_lt}
 use lib.ListN.{length, get_or, set, take, drop, length-set, drop_of_length-le}
-use lib.Seq.{drop-cons, get_or-set_same, get_or-set_other, take-suc, take_all}
+use lib.Seq.{drop-cons, get_or-set_same, get_or-set_other, take-suc}
 use Rattle.text_rules.specs.Counts.{places, size}
 use Rattle.text_rules.proofs.CountLaws.{
   places-none,
@@ -24,7 +24,7 @@ use Rattle.text_rules.proofs.CountLaws.{
 use Rattle.text_rules.proofs.SizeLaws.{sum_of-step, sum_of-none, sum_of-capped, size_step}
 use Rattle.term_rules.specs.Lent.{kids_at}
 use Rattle.term_layout.proofs.KidsLaws.{kids-length}
-use Rattle.text_counts.specs.Tallies.{Linked, Most, Added, Given, Counts, Sizes, sum_at}
+use Rattle.text_counts.specs.Tallies.{Linked, Most, Given, Counts, Sizes, sum_at}
 
 pub kids-few : (rs : List ℕ) (n t : ℕ) → Linked rs n → t < n → length (kids_at rs t) ≤ 8
 kids-few rs n t w l =
@@ -98,10 +98,6 @@ module _ (b : ℕ) (before ks now : List ℕ) (j : ℕ) (v : Adding b before ks 
             places-other x (get_or ks j 0) [] (λ (q : get_or ks j 0 ≡ x). e (sym q)),
             places-none x,
           )
-
-  pub adding-end : length ks ≤ j → Added ks before now
-  adding-end l =
-      record { each = λ x lx. v.each x lx ∙ ap (λ (y : List ℕ). get_or before x 0 + places x y) (take_all j ks l) }
 
 -- ---- counts: the terms from t on have given
 get_d_past : (xs : List ℕ) (i : ℕ) → length xs ≤ i → get_or xs i 0 ≡ 0
@@ -227,9 +223,6 @@ pub record Summing (zs ks : List ℕ) (acc j : ℕ) : Type 0 where
   pub low : acc ≤ 4
   pub same : min 4 (acc + sum_at zs (drop j ks)) ≡ min 4 (1 + sum_at zs ks)
 
-pub summing-none : (zs ks : List ℕ) → Summing zs ks 1 0
-summing-none zs ks = record { at = omega arith; low = omega arith; same = refl }
-
 pub summing-again :
     (zs ks : List ℕ) (acc j r : ℕ) →
     j < length ks →
@@ -253,14 +246,6 @@ pub record Sizing (rs : List ℕ) (n : ℕ) (before now : List ℕ) (t : ℕ) : 
   pub long : length now ≡ length before
   pub low : Most 4 now
   pub same : Sizes rs now t
-
-pub sizing-none : (rs : List ℕ) (n : ℕ) (zs : List ℕ) → Most 0 zs → Sizing rs n zs zs 0
-sizing-none rs n zs m = record {
-  at = omega arith;
-  long = refl;
-  low = λ i. omega (arith, m i);
-  same = λ t l. let z : ⊥ = omega arith in absurd z;
-}
 
 pub sizing-again :
     (rs : List ℕ) (n : ℕ) (before now : List ℕ) (t r : ℕ) →

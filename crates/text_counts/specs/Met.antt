@@ -1,5 +1,28 @@
 -- The bindings as they stand in flat tables. Assumes nothing: these are definitions.
-use Rattle.std.specs.Prelude.{◌≡◌, Bool, true, false, ◌&&◌, List, [], ◌∷◌, ◌++◌, ℕ, zero, suc, ◌+◌, ◌*◌, ◌-◌, ◌<◌, ◌≤◌, length, get_or, ltb, leb, eqb}
+use Rattle.std.specs.Prelude.{
+  ◌≡◌,
+  Bool,
+  true,
+  false,
+  ◌&&◌,
+  List,
+  [],
+  ◌∷◌,
+  ◌++◌,
+  ℕ,
+  zero,
+  suc,
+  ◌+◌,
+  ◌*◌,
+  ◌-◌,
+  ◌<◌,
+  ◌≤◌,
+  length,
+  get_or,
+  ltb,
+  leb,
+  eqb,
+}
 use Rattle.text_rules.specs.Bindings.{Bound, Place, nowhere, place, find, to_bind, meet_in, bindings}
 use Rattle.term_rules.specs.Lent.{kids_at}
 use Rattle.text_counts.specs.Tallies.{Linked, Most}

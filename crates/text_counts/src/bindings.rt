@@ -2,51 +2,43 @@
 ghost use Rattle.std.specs.Prelude.{◌≡◌, ◌<◌, ◌≤◌, length};
 ghost use Rattle.text_counts.specs.Tallies.{Linked};
 ghost use Rattle.text_counts.specs.Met.{Ready, Done, flag_of, Marked, Blank, AllMet};
+ghost use Rattle.text_counts.specs.Long.{Long};
 
-// Term `t` is met at indent `i`, after `m` bindings: its children first, then itself if it is to be bound
-// (`src/termdag.rs`, to_string_with_let). The number of bindings then.
-pub fn meet(
-    records: &[u64],
-    wanted: &[u64],
-    places: &mut [u64],
-    terms: &mut [u64],
-    indents: &mut [u64],
-    n: usize,
-    m: usize,
-    i: usize,
-    t: usize,
-) -> usize
-    requires { Ready records.now wanted.now places.old terms.old indents.old n m i t }
-    ensures { Done records.now wanted.now terms.old indents.old m i t
-        places.new terms.new indents.new result }
+// What has been bound so far: the first `count` bindings by term and indent, and for each term its place, which is 0
+// without a binding, else one more than the binding's number.
+#[derive(Drop)]
+pub struct Found {
+    pub places: [u64; 1024],
+    pub terms: [u64; 1024],
+    pub indents: [u64; 1024],
+    pub count: usize,
+}
+
+// Term `t` is met at indent `i`: its children first, then itself if it is to be bound (`src/termdag.rs`,
+// to_string_with_let).
+pub fn meet(records: &[u64], wanted: &[u64], found: &mut Found, n: usize, i: usize, t: usize)
+    requires ready { Ready records.now wanted.now found.old.places found.old.terms found.old.indents
+        n found.old.count i t }
+    requires long { Long found.old }
+    ensures done { Done records.now wanted.now found.old.terms found.old.indents found.old.count i t
+        found.new.places found.new.terms found.new.indents found.new.count }
+    ensures long { Long found.new }
 {
-    if 0 < places[t] {
-        return m;
+    if 0 < found.places[t] {
+        return;
     }
     let ks = term_layout::children_of(records, t);
-    let mut b = m;
-    let mut j = 0;
-    while j < ks.len() {
-        b = meet(
-            records,
-            wanted,
-            places,
-            terms,
-            indents,
-            n,
-            b,
-            i + 2,
-            ks[j] as usize,
-        );
-        j += 1;
+    for k in ks {
+        meet(records, wanted, found, n, i + 2, *k as usize);
     }
     if wanted[t] == 0 {
-        return b;
+        return;
     }
-    places[t] = b as u64 + 1;
-    terms[b] = t as u64;
-    indents[b] = i as u64;
-    b + 1
+    let b = found.count;
+    found.places[t] = b as u64 + 1;
+    found.terms[b] = t as u64;
+    found.indents[b] = i as u64;
+    found.count = b + 1;
 }
 
 // Whether a term is to be bound: count over 1 and size at least 4.
@@ -69,30 +61,23 @@ fn mark(counts: &mut [u64], sizes: &[u64], n: usize)
     requires n_in_bounds { (n ≤ length counts.old) × (n ≤ length sizes.now) }
     ensures { Marked counts.old sizes.now counts.new n }
 {
-    let mut t = 0;
-    while t < n {
+    for t in 0..n {
         counts[t] = flag(counts[t], sizes[t]);
-        t += 1;
     }
 }
 
-// Finds the bindings of the last of the first `n` terms, from tables of zeros; how many there are.
-pub fn bind(
-    records: &[u64],
-    counts: &mut [u64],
-    sizes: &mut [u64],
-    places: &mut [u64],
-    terms: &mut [u64],
-    indents: &mut [u64],
-    n: usize,
-) -> usize
+// Finds the bindings of the last of the first `n` terms, from tables of zeros.
+pub fn bind(records: &[u64], counts: &mut [u64], sizes: &mut [u64], found: &mut Found, n: usize)
     requires linked { Linked records.now n }
     requires n_nonzero { 0 < n }
-    requires blank { Blank counts.old sizes.old places.old terms.old indents.old n }
-    ensures { AllMet records.now places.new terms.new indents.new n result }
+    requires blank { Blank counts.old sizes.old found.old.places found.old.terms found.old.indents n }
+    requires long { Long found.old }
+    ensures all_met { AllMet records.now found.new.places found.new.terms found.new.indents n found.new.count }
+    ensures long { Long found.new }
 {
+    found.count = 0;
     crate::count(counts, records, n);
     crate::size(sizes, records, n);
     mark(counts, sizes, n);
-    meet(records, counts, places, terms, indents, n, 0, 0, n - 1)
+    meet(records, counts, found, n, 0, n - 1);
 }

@@ -14,11 +14,8 @@ fn add_places(counts: &mut [u64], ks: &[u64])
     requires most { Most 65536 counts.old }
     ensures { Added ks.now counts.old counts.new }
 {
-    let mut j = 0;
-    while j < ks.len() {
-        let k = ks[j] as usize;
-        counts[k] += 1;
-        j += 1;
+    for k in ks {
+        counts[*k as usize] += 1;
     }
 }
 
@@ -46,18 +43,9 @@ pub fn count(counts: &mut [u64], records: &[u64], n: usize)
     ensures { Counts records.now counts.new n }
 {
     counts[n - 1] = 1;
-    let mut t = n;
-    while 0 < t {
-        t -= 1;
+    for t in (0..n).rev() {
         give_on(counts, t, term_layout::children_of(records, t));
     }
-}
-
-fn add_size(a: u64, b: u64) -> u64
-    requires { (a ≤ 4) × (b ≤ 4) }
-    ensures { result ≡ min 4 (a + b) }
-{
-    if a + b < 4 { a + b } else { 4 }
 }
 
 // A size from the children's.
@@ -66,14 +54,11 @@ fn size_of(sizes: &[u64], ks: &[u64]) -> u64
     requires most { Most 4 sizes.now }
     ensures { result ≡ min 4 (1 + sum_at sizes.now ks.now) }
 {
-    let mut acc = 1;
-    let mut j = 0;
-    while j < ks.len() {
-        let k = ks[j] as usize;
-        acc = add_size(acc, sizes[k]);
-        j += 1;
+    let mut size: u64 = 1;
+    for k in ks {
+        size = (size + sizes[*k as usize]).min(4);
     }
-    acc
+    size
 }
 
 // The sizes of the first `n` terms, children first, 4 for 4 and more.
@@ -83,9 +68,7 @@ pub fn size(sizes: &mut [u64], records: &[u64], n: usize)
     requires most { Most 0 sizes.old }
     ensures { Sizes records.now sizes.new n }
 {
-    let mut t = 0;
-    while t < n {
+    for t in 0..n {
         sizes[t] = size_of(sizes, term_layout::children_of(records, t));
-        t += 1;
     }
 }

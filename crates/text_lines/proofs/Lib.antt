@@ -3,3 +3,4 @@ pub mod CleanLaws
 pub mod OwnLaws
 pub mod LineLaws
 pub mod ThreeLaws
+pub mod SeenLaws

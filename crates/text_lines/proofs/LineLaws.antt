@@ -12,10 +12,8 @@ use Rattle.decimal.specs.Written.{Wrote}
 use Rattle.decimal.proofs.WrittenLaws.{
   Stands,
   stands-none,
-  stands-first,
   stands-then,
   stands-byte,
-  stands-length,
   stands-place,
   stands-fits,
   wrote-of-stands,
@@ -32,18 +30,6 @@ body_width-leaf rs ws i t e = rw (eq-eqb (arity_at rs t) 0 e, body_width)
 pub body_width-wide : (rs ws : List ℕ) (i t : ℕ) → (arity_at rs t ≡ 0 → ⊥) → body_width rs ws i t ≡ i + get_or ws t 0
 unfolding body_width
 body_width-wide rs ws i t e = rw (ne_eqb (arity_at rs t) 0 e, body_width)
-
--- the five bytes before a name
-pub stands-let :
-    (o : List ℕ) →
-    5 ≤ length o →
-    Stands o (40 ∷ 108 ∷ 101 ∷ 116 ∷ 32 ∷ []) (set (set (set (set (set o 0 40) 1 108) 2 101) 3 116) 4 32) 5
-stands-let o l =
-    let a = stands-first o 40 (omega arith) in
-    let b = stands-byte o (40 ∷ []) _ 1 a 108 (omega arith) in
-    let c = stands-byte o (40 ∷ 108 ∷ []) _ 2 b 101 (omega arith) in
-    let d = stands-byte o (40 ∷ 108 ∷ 101 ∷ []) _ 3 c 116 (omega arith) in
-    stands-byte o (40 ∷ 108 ∷ 101 ∷ 116 ∷ []) _ 4 d 32 (omega arith)
 
 -- ---- a line, piece by piece
 module _ (v : View) (rs ws : List ℕ) (i t k : ℕ) where
@@ -178,15 +164,13 @@ module _ (v : View) (rs ws terms indents : List ℕ) where
         let e : k + (m - k) ≡ m = omega (arith, w.at) in
         let g = lines_to-grows (m - k) k in omega (arith, rw e at g)
 
-    pub lining-length : length o ≡ length o₀
-    lining-length = stands-length o₀ (up_to k) o p w.text lining-short
-
     pub lining-place : p ≤ length o
     lining-place = stands-place o₀ (up_to k) o p w.text lining-short
 
     module _ (l : k < m) where
       pub lining-fits :
-          length (line_text v rs ws (get_or indents k 0) (get_or terms k 0) k) ≤ length (take (length o - p) (drop p o))
+          length (line_text v rs ws (get_or indents k 0) (get_or terms k 0) k) ≤ length (take (length o - p) (drop p
+          o))
       lining-fits = stands-fits o₀ (up_to k) o p w.text (line_at k) (omega (arith, lines_to-room k m l))
 
       pub lining-again :
@@ -199,12 +183,6 @@ module _ (v : View) (rs ws terms indents : List ℕ) where
             subst (λ (d : List ℕ). Stands o₀ d (put_mid p (length o - p) o q) (p + r)) (sym (lines_to-more k))
             (stands-then o₀ (up_to k) o p w.text (line_at k) q r x);
       }
-
-      pub lining-next :
-          (q : List ℕ) (r : ℕ) →
-          Wrote (line_text v rs ws (get_or indents k 0) (get_or terms k 0) k) r (take (length o - p) (drop p o)) q →
-          p + r ≤ length o₀
-      lining-next q r x = omega (arith, w.text.long, x.long, lines_to-room k m l)
 
     pub lining-end : m ≤ k → Wrote (lines_to v rs ws terms indents m) p o₀ o
     lining-end l =

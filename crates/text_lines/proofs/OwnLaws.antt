@@ -103,7 +103,8 @@ module _
         (form-longer (32 ∷ []) (child_text called (line_in node called f)) (node t) j lj) in
         let c = ap length (child_text-is called (line_in node called f) (get_or (children (node t)) j 0)) in
         child_text-is called (line_in node called f) (get_or (children (node t)) j 0)
-        ∙ (shown-same (called (get_or (children (node t)) j 0)) (line_in node called f (get_or (children (node t)) j 0))
+        ∙ (shown-same (called (get_or (children (node t)) j 0)) (line_in node called f (get_or (children (node t)) j
+        0))
         (own_in node called f m (i + 2) (get_or (children (node t)) j 0)) (λ h. sym (ih (omega arith)))
         ∙ sym (child_text-is called (own_in node called f m (i + 2)) (get_or (children (node t)) j 0)))
 

@@ -12,7 +12,6 @@ use Rattle.decimal.proofs.WrittenLaws.{
   wrote-of-stands,
   stands-then,
   stands-length,
-  stands-place,
   stands-fits,
 }
 use Rattle.text_lines.proofs.LineLaws.{stands-two}
@@ -27,9 +26,6 @@ module _
     s₁ : Stands o₀ a o₁ p₁
     s₁ = stands-of-wrote o₀ a o₁ p₁ w₁
 
-    pub first-place : p₁ ≤ length o₁
-    first-place = stands-place o₀ a o₁ p₁ s₁ (omega arith)
-
     pub second_fits : length b ≤ length (take (length o₁ - p₁) (drop p₁ o₁))
     second_fits = stands-fits o₀ a o₁ p₁ s₁ b (omega arith)
 
@@ -42,12 +38,6 @@ module _
 
       long₂ : length (a ++ b) ≡ length a + length b
       long₂ = length-append a b
-
-      pub second-place : p₁ + r₂ ≤ length (put_mid p₁ (length o₁ - p₁) o₁ q₂)
-      second-place = stands-place o₀ (a ++ b) o₂ (p₁ + r₂) s₂ (omega (arith, long₂))
-
-      pub second-low : p₁ + r₂ ≤ length o₀
-      second-low = omega (arith, s₂.long, long₂)
 
       pub third-fits :
           length d

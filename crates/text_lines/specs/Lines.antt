@@ -1,5 +1,24 @@
 -- The lines of the bindings as they are written. Assumes nothing: these are definitions.
-use Rattle.std.specs.Prelude.{true, false, List, [], ◌∷◌, ◌++◌, ℕ, zero, suc, ◌+◌, ◌*◌, ◌^◌, ◌<◌, ◌≤◌, length, get_or, eqb, ltb}
+use Rattle.std.specs.Prelude.{
+  true,
+  false,
+  List,
+  [],
+  ◌∷◌,
+  ◌++◌,
+  ℕ,
+  zero,
+  suc,
+  ◌+◌,
+  ◌*◌,
+  ◌^◌,
+  ◌<◌,
+  ◌≤◌,
+  length,
+  get_or,
+  eqb,
+  ltb,
+}
 use Rattle.text_pieces.specs.Pieces.{gap_text}
 use Rattle.term_rules.specs.Lent.{arity_at}
 use Rattle.text_write.specs.Piece.{View, body}

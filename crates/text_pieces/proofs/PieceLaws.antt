@@ -1,25 +1,13 @@
--- The laws of the pieces: names, gaps, copies. Assumes nothing.
-use mathlib.Core.Path.{◌≡◌, refl, sym, ap, subst, ◌∙◌}
+-- The laws of the pieces: names and gaps. Assumes nothing.
+use mathlib.Core.Path.{◌≡◌, refl}
 use mathlib.Core.Bool.{Bool, true, false, ◌&&◌}
 use mathlib.Core.List.{List, [], ◌∷◌, ◌++◌}
-use Prim.Native.Nat.{ℕ, ◌+◌, ◌-◌, ◌<◌, ◌≤◌}
+use Prim.Native.Nat.{ℕ, ◌+◌, ◌<◌, ◌≤◌}
 use native.Mathlib.Omega.{arith}
-use native.Mathlib.Numerals.{add-one}
-use lib.ListN.{length, set, take, get_or, length-append, length-replicate, replicate-append-replicate}
-use lib.Seq.{take-suc, take_all, length-take-le, drop-set-lt}
+use lib.ListN.{length, length-append, length-replicate}
 use lib.Dec.{eqb, ltb}
 use borrow.Author.Tests.{lt-ltb, le-ltb}
 use Rattle.decimal.specs.Decimal.{digits}
-use Rattle.decimal.specs.Written.{Wrote}
-use Rattle.decimal.proofs.WrittenLaws.{
-  Stands,
-  stands-none,
-  stands-again,
-  stands-byte,
-  stands-first,
-  stands-length,
-  wrote-of-stands,
-}
 use Rattle.text_rules.specs.LetText.{count_text, new_line}
 use Rattle.text_pieces.specs.Pieces.{name_text, gap_text}
 
@@ -52,87 +40,3 @@ gap_text-narrow limit w n l = rw (le-ltb limit w l, gap_text)
 pub gap_text-wide : (limit w n : ℕ) → limit < w → gap_text (ltb limit w) n ≡ new_line n
 unfolding gap_text
 gap_text-wide limit w n l = rw (lt-ltb limit w l, gap_text)
-
--- ---- a copy: the first j bytes stand
-pub record Copying (o₀ s o : List ℕ) (j : ℕ) : Type 0 where
-  pub at : j ≤ length s
-  pub text : Stands o₀ (take j s) o j
-
-module _ (o₀ s : List ℕ) (room : length s ≤ length o₀) where
-  pub copying-none : Copying o₀ s o₀ 0
-  copying-none = record { at = omega arith; text = stands-none o₀ }
-
-  module _ (o : List ℕ) (j : ℕ) (v : Copying o₀ s o j) where
-    pub copying-length : length o ≡ length o₀
-    copying-length =
-        let n : length (take j s) ≡ j = length-take-le j s v.at in
-        stands-length o₀ (take j s) o j v.text (omega (arith, v.at))
-
-    pub copying-again : j < length s → Copying o₀ s (set o j (get_or s j 0)) (j + 1)
-    copying-again l =
-        let n : length (take j s) ≡ j = length-take-le j s v.at in
-        let e : take j s ++ (get_or s j 0 ∷ []) ≡ take (j + 1) s = sym (take-suc s j 0 l) ∙ rw add-one in
-        record {
-          at = omega arith;
-          text =
-              subst (λ (d : List ℕ). Stands o₀ d (set o j (get_or s j 0)) (j + 1)) e
-              (stands-byte o₀ (take j s) o j v.text (get_or s j 0) (omega arith));
-        }
-
-    pub copying-end : length s ≤ j → Wrote s j o₀ o
-    copying-end l =
-        wrote-of-stands o₀ s o j (subst (λ (d : List ℕ). Stands o₀ d o j) (take_all j s l) v.text)
-
--- ---- a new line: its newline and the first j - 1 spaces stand
-new_line-more : (n : ℕ) → new_line n ++ (32 ∷ []) ≡ new_line (n + 1)
-unfolding new_line
-new_line-more n = ap (λ (x : List ℕ). 10 ∷ x) (replicate-append-replicate n 1 32)
-
-new_line-none : new_line 0 ≡ 10 ∷ []
-unfolding new_line
-new_line-none = refl
-
-pub record Spacing (o₀ : List ℕ) (n : ℕ) (o : List ℕ) (j : ℕ) : Type 0 where
-  pub low : 1 ≤ j
-  pub high : j ≤ n + 1
-  pub text : Stands o₀ (new_line (j - 1)) o j
-
-module _ (o : List ℕ) (n : ℕ) (room : n < length o) where
-  -- the loop begins after the newline is written
-  pub spacing-none : Spacing (set o 0 10) n (set o 0 10) 1
-  spacing-none = record {
-    low = omega arith;
-    high = omega arith;
-    text =
-        subst (λ (d : List ℕ). Stands (set o 0 10) d (set o 0 10) 1) (sym new_line-none)
-        (stands-again o (10 ∷ []) (set o 0 10) 1 (stands-first o 10 (omega arith)));
-  }
-
-  pub spacing-end : (o' : List ℕ) (j : ℕ) → Spacing (set o 0 10) n o' j → n < j → Wrote (new_line n) j o o'
-  spacing-end o' j v l =
-      let e : j - 1 ≡ n = omega (arith, v.high) in
-      let w =
-      wrote-of-stands (set o 0 10) (new_line n) o' j
-      (subst (λ (x : ℕ). Stands (set o 0 10) (new_line x) o' j) e v.text) in
-      record {
-        long = w.long;
-        bytes =
-            w.bytes ∙ rw (drop-set-lt (length (new_line n)) o 0 10 (omega (arith, new_line-length n)));
-      }
-
-module _ (o₀ : List ℕ) (n : ℕ) (room : n < length o₀) (o : List ℕ) (j : ℕ) (v : Spacing o₀ n o j) where
-  pub spacing-length : length o ≡ length o₀
-  spacing-length =
-      stands-length o₀ (new_line (j - 1)) o j v.text (omega (arith, v.low, v.high, new_line-length (j - 1)))
-
-  pub spacing-again : j ≤ n → Spacing o₀ n (set o j 32) (j + 1)
-  spacing-again l =
-      let e : j - 1 + 1 ≡ j + 1 - 1 = omega (arith, v.low) in
-      record {
-        low = omega arith;
-        high = omega arith;
-        text =
-            subst (λ (d : List ℕ). Stands o₀ d (set o j 32) (j + 1))
-            (new_line-more (j - 1) ∙ ap new_line e)
-            (stands-byte o₀ (new_line (j - 1)) o j v.text 32 (omega (arith, new_line-length (j - 1), v.low)));
-      }

@@ -3,21 +3,23 @@ ghost use Rattle.std.specs.Prelude.{◌≡◌, ◌≤◌, ◌<◌, length};
 ghost use Rattle.decimal.specs.Written.{Wrote};
 ghost use Rattle.name.specs.Entries.{name_at, InEntries};
 ghost use Rattle.text_pieces.specs.Pieces.{capped};
-ghost use Rattle.text_pieces.specs.Readable.{nodes, head_text, Readable};
+ghost use Rattle.text_pieces.specs.Readable.{head_text};
+ghost use Rattle.text_pieces.specs.Read.{nodes_of};
+
+use crate::nodes::Nodes;
 
 // How long the head of term `t` is.
-pub fn head_length(records: &[u64], literals: &[i64], names: &[u8], n: usize, t: usize) -> u64
-    requires readable { Readable records.now literals.now names.now n }
-    requires t_lt_n { t < n }
+pub fn head_length(nodes: &Nodes, t: usize) -> u64
+    requires t_lt_n { t < nodes.now.n }
     ensures { result ≡ capped
-        (length (head_text (nodes records.now literals.now names.now t))) }
+        (length (head_text (nodes_of nodes.now t))) }
 {
-    let kind = term_layout::kind_of(records, t);
+    let kind = term_layout::kind_of(nodes.records, t);
     if kind == 0 {
-        return crate::add(0, decimal::literal_length(literals[t]));
+        return crate::add(0, decimal::literal_length(nodes.literals[t]));
     }
-    let k = term_layout::symbol_of(records, t) as usize;
-    let long = name::length_of(names, k) as u64;
+    let k = term_layout::symbol_of(nodes.records, t) as usize;
+    let long = name::length_of(nodes.names, k) as u64;
     if kind == 1 {
         return long;
     }
@@ -34,28 +36,20 @@ fn put_symbol(out: &mut [u8], names: &[u8], k: usize) -> usize
 }
 
 // Writes the head of term `t`.
-pub fn put_head(
-    out: &mut [u8],
-    records: &[u64],
-    literals: &[i64],
-    names: &[u8],
-    n: usize,
-    t: usize,
-) -> usize
-    requires readable { Readable records.now literals.now names.now n }
-    requires t_lt_n { t < n }
-    requires t_in_bounds { length (head_text (nodes records.now literals.now names.now t)) ≤ length out.old }
-    ensures { Wrote (head_text (nodes records.now literals.now names.now t)) result
+pub fn put_head(out: &mut [u8], nodes: &Nodes, t: usize) -> usize
+    requires t_lt_n { t < nodes.now.n }
+    requires t_in_bounds { length (head_text (nodes_of nodes.now t)) ≤ length out.old }
+    ensures { Wrote (head_text (nodes_of nodes.now t)) result
         out.old out.new }
 {
-    let kind = term_layout::kind_of(records, t);
+    let kind = term_layout::kind_of(nodes.records, t);
     if kind == 0 {
-        return decimal::put_literal(out, literals[t]);
+        return decimal::put_literal(out, nodes.literals[t]);
     }
-    let k = term_layout::symbol_of(records, t) as usize;
+    let k = term_layout::symbol_of(nodes.records, t) as usize;
     if kind == 1 {
-        return put_symbol(out, names, k);
+        return put_symbol(out, nodes.names, k);
     }
-    out[0] = 40;
-    1 + put_symbol(&mut out[1..], names, k)
+    out[0] = b'(';
+    1 + put_symbol(&mut out[1..], nodes.names, k)
 }

@@ -4,18 +4,27 @@
 ghost use Rattle.std.specs.Prelude.{◌≡◌, ◌&&◌, ◌+◌, ◌^◌, ◌<◌, ◌≤◌, length, eqb, ltb};
 ghost use Rattle.decimal.specs.Written.{Wrote};
 ghost use Rattle.text_rules.specs.LetText.{count_text};
-ghost use Rattle.text_pieces.specs.Pieces.{capped, name_text, gap_text};
+ghost use Rattle.text_pieces.specs.Pieces.{capped, gap_text};
+ghost use Rattle.text_pieces.specs.Read.{named};
 
+pub mod nodes; // nodes.rt: the first terms of a store, as the texts read them
 pub mod heads; // heads.rt: what a term's text starts with: its length and its bytes, read from the lent store
+
+// How let names are spelled: a stem and a count, from the start count on; the count 0 may print no digits.
+#[derive(Clone, Copy)]
+pub struct Spelling<'a> {
+    pub stem: &'a [u8],
+    pub start: u64,
+    pub bare: bool,
+}
 
 const CAP: u64 = 9223372036854775808;
 
 // The sum of two lengths.
 pub fn add(a: u64, b: u64) -> u64
-    requires { a ≤ 2 ^ 63 }
     ensures { result ≡ capped (a + b) }
 {
-    if b < CAP - a { a + b } else { CAP }
+    a.saturating_add(b).min(CAP)
 }
 
 // Writes the bytes `s`.
@@ -23,19 +32,15 @@ pub fn put_bytes(out: &mut [u8], s: &[u8]) -> usize
     requires { length s.now ≤ length out.old }
     ensures { Wrote s.now result out.old out.new }
 {
-    let mut j = 0;
-    while j < s.len() {
-        out[j] = s[j];
-        j += 1;
-    }
-    j
+    out[..s.len()].copy_from_slice(s);
+    s.len()
 }
 
 // Whether the count `n` prints no digits.
 fn is_bare(bare: bool, n: u64) -> bool
     ensures { result ≡ (bare && eqb n 0) }
 {
-    if bare { n == 0 } else { false }
+    bare && n == 0
 }
 
 fn count_length(bare: bool, n: u64) -> u64
@@ -58,21 +63,24 @@ fn put_count(out: &mut [u8], bare: bool, n: u64) -> usize
 }
 
 // How long the name of binding `k` is (`src/util.rs`, SymbolGen).
-pub fn name_length(stem: &[u8], start: u64, bare: bool, k: u64) -> u64
-    requires { start + k < 2 ^ 63 }
-    ensures { result ≡ capped (length (name_text stem.now start bare k)) }
+pub fn name_length(spelling: &Spelling, k: u64) -> u64
+    requires { spelling.now.start + k < 2 ^ 63 }
+    ensures { result ≡ capped (length (named spelling.now k)) }
 {
-    add(stem.len() as u64, count_length(bare, start + k))
+    add(
+        spelling.stem.len() as u64,
+        count_length(spelling.bare, spelling.start + k),
+    )
 }
 
 // Writes the name of binding `k` (`src/util.rs`, SymbolGen).
-pub fn put_name(out: &mut [u8], stem: &[u8], start: u64, bare: bool, k: u64) -> usize
-    requires k_bound { start + k < 2 ^ 63 }
-    requires k_in_bounds { length (name_text stem.now start bare k) ≤ length out.old }
-    ensures { Wrote (name_text stem.now start bare k) result out.old out.new }
+pub fn put_name(out: &mut [u8], spelling: &Spelling, k: u64) -> usize
+    requires k_bound { spelling.now.start + k < 2 ^ 63 }
+    requires k_in_bounds { length (named spelling.now k) ≤ length out.old }
+    ensures { Wrote (named spelling.now k) result out.old out.new }
 {
-    let p = put_bytes(out, stem);
-    p + put_count(&mut out[p..], bare, start + k)
+    let p = put_bytes(out, spelling.stem);
+    p + put_count(&mut out[p..], spelling.bare, spelling.start + k)
 }
 
 // How long the gap before a child is, in a text of this width.
@@ -89,14 +97,10 @@ pub fn put_gap(out: &mut [u8], limit: u64, width: u64, n: usize) -> usize
     ensures { Wrote (gap_text (ltb limit width) n) result out.old out.new }
 {
     if width <= limit {
-        out[0] = 32;
+        out[0] = b' ';
         return 1;
     }
-    out[0] = 10;
-    let mut j = 1;
-    while j <= n {
-        out[j] = 32;
-        j += 1;
-    }
-    j
+    out[0] = b'\n';
+    out[1..=n].fill(b' ');
+    n + 1
 }

@@ -12,7 +12,8 @@ use Rattle.text_pieces.specs.Readable.{nodes}
 use Rattle.text_whole.specs.Placed.{told, placed, Zeros}
 
 module _ {A : Type 0} (text : List ℕ) (done no_room : A) (out : List ℕ) where
-  pub placed-fits : length text ≤ length out → placed text done no_room out ≡ told done (text ++ drop (length text) out)
+  pub placed-fits : length text ≤ length out → placed text done no_room out ≡ told done (text ++ drop (length text)
+      out)
   unfolding placed
   placed-fits l = rw (le-leb (length text) (length out) l, placed)
 

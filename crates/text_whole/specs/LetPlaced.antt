@@ -1,13 +1,14 @@
 -- A let text placed in the lent part, or NoRoom: document 01, 'Terms'. Assumes nothing: these are definitions.
-use Rattle.std.specs.Prelude.{ℕ, ◌+◌, ◌≤◌, ◌<◌, ◌≡◌, Bool, false, ◌&&◌, List, ◌++◌, length, ℤ, leb}
+use Rattle.std.specs.Prelude.{ℕ, ◌+◌, ◌≤◌, ◌<◌, ◌≡◌, Bool, false, ◌&&◌, List, ◌++◌, length, ℤ, leb, Result, Ok, Err}
+use Rattle.refusal.specs.declared.Refusal.{Refusal}
 use Rattle.refusal.specs.Numbers.{refusal_no}
 use Rattle.name.specs.Name.{all_allowed}
 use Rattle.term_rules.specs.Lent.{Store}
 use Rattle.term_rules.specs.Nodes.{Node}
+use Rattle.text_whole.specs.declared.Naming.{Naming as Given}
 use Rattle.text_rules.specs.LetText.{Naming, several, bindings_of, let_layout, let_text, next_count}
 use Rattle.text_pieces.specs.Readable.{nodes, head_text, Readable}
 use Rattle.text_whole.specs.declared.LetText.{LetText}
-use Rattle.text_whole.specs.declared.LetText.TheVariants.{Written, Refused}
 use Rattle.text_whole.specs.Placed.{Told, told, placed}
 
 -- the length of the text and the next unused count; or a refusal's number
@@ -15,14 +16,18 @@ pub data LetAnswer : Type 0 where
   written : ℕ → ℕ → LetAnswer
   refusal : ℕ → LetAnswer
 
-abbrev pub let_answer_of : LetText → LetAnswer
-let_answer_of (Written n next) = written n next
-let_answer_of (Refused r) = refusal (refusal_no r)
+abbrev pub let_answer_of : Result LetText Refusal → LetAnswer
+let_answer_of (Ok text) = written text.length text.next
+let_answer_of (Err r) = refusal (refusal_no r)
 
 -- what the let names are made of, as it is given
 abbrev pub naming : List ℕ → List ℕ → ℕ → Bool → Naming
 naming prefix hint start bare_zero =
     record { prefix = prefix; hint = hint; start = start; bare_zero = bare_zero }
+
+-- how let names are made, as the struct has it
+abbrev pub naming_of : Given → Naming
+naming_of g = naming g.prefix.now g.hint.now g.start g.bare
 
 -- "(a let prefix may be empty)"
 unfoldable pub valid_prefix : List ℕ → Bool

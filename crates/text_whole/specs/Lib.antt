@@ -2,3 +2,4 @@
 pub mod Alike
 pub mod Placed
 pub mod LetPlaced
+pub mod Laid

@@ -4,169 +4,148 @@
 #![tactic(auto)]
 
 ghost use Rattle.std.specs.Prelude.{◌≡◌, true, ◌++◌, ◌+◌, ◌-◌, ◌<◌, ◌≤◌, length};
+ghost use Rattle.term_layout.specs.Sound.{store_of};
 ghost use Rattle.decimal.specs.Written.{Wrote};
 ghost use Rattle.name.specs.Name.{valid};
-ghost use Rattle.term_rules.specs.Lent.{store};
-ghost use Rattle.term_rules.specs.WellFormed.{well_formed};
 ghost use Rattle.text_rules.specs.PlainText.{plain_line};
-ghost use Rattle.text_pieces.specs.Readable.{nodes, Readable};
-ghost use Rattle.text_counts.specs.Met.{AllMet};
+ghost use Rattle.text_pieces.specs.Read.{nodes_of};
 ghost use Rattle.text_whole.specs.Placed.{answer_of, told, placed, plain_placed, written, refusal, Zeros};
-ghost use Rattle.text_whole.specs.LetPlaced.{let_answer_of, naming, valid_prefix, let_placed, Layable, Lays};
+ghost use Rattle.text_whole.specs.LetPlaced.{naming_of, let_answer_of, naming, valid_prefix, let_placed};
+ghost use Rattle.text_whole.specs.Laid.{LayableOf, AllMetOf, LaysOf};
 
 use refusal::Refusal;
+use term_layout::store::Store;
 use text_counts::bindings;
-use text_lines::lets;
+use text_counts::bindings::Found;
+use text_lines::{Bindings, lets};
+use text_pieces::Spelling;
+use text_pieces::nodes::Nodes;
+use text_write::page::Page;
 use text_write::widths;
 
-// The length of the text that was written, or why none was.
+// How let names are made: the prefix, the hint and a count, from the start count on; the count 0 may print no digits.
 #[derive(Clone, Copy)]
-pub enum Text {
-    Written(usize),
-    Refused(Refusal),
+pub struct Naming<'a> {
+    pub prefix: &'a [u8],
+    pub hint: &'a [u8],
+    pub start: u64,
+    pub bare: bool,
 }
 
-// The length of the let text that was written and the next unused count, or why none was.
+// The length of a let text that was written, and the next unused count.
 #[derive(Clone, Copy)]
-pub enum LetText {
-    Written(usize, u64),
-    Refused(Refusal),
+pub struct LetText {
+    pub length: usize,
+    pub next: u64,
 }
 
 // The plain text of term `t`, if it fits: its length from the table of lengths, then its bytes.
 fn put_plain(
     out: &mut [u8],
-    records: &[u64],
-    literals: &[i64],
-    names: &[u8],
+    nodes: &Nodes,
     places: &[u64],
     wides: &mut [u64],
-    n: usize,
     t: usize,
-) -> Text
-    requires readable { Readable records.now literals.now names.now n }
-    requires t_lt_n { t < n }
-    requires n_in_bounds { (n ≤ length places.now) × (n ≤ length wides.old) }
+) -> Result<usize, Refusal>
+    requires t_lt_n { t < nodes.now.n }
+    requires n_in_bounds { (nodes.now.n ≤ length places.now) × (nodes.now.n ≤ length wides.old) }
     requires zeros { Zeros places.now }
     ensures { told (answer_of result) out.new
-        ≡ placed (plain_line (nodes records.now literals.now names.now) t)
-        (written (length (plain_line (nodes records.now literals.now names.now) t)))
+        ≡ placed (plain_line (nodes_of nodes.now) t)
+        (written (length (plain_line (nodes_of nodes.now) t)))
         (refusal 13) out.old }
 {
-    widths::widths(wides, records, literals, names, places, names, n, 0, false);
+    let spelling = Spelling {
+        stem: b"",
+        start: 0,
+        bare: false,
+    };
+    widths::widths(wides, nodes, places, &spelling);
     if (out.len() as u64) < wides[t] {
-        return Text::Refused(Refusal::NoRoom);
+        return Err(Refusal::NoRoom);
     }
-    let limit = 18446744073709551615;
-    let long = text_write::put(
-        out, records, literals, names, places, wides, names, n, 0, false, limit, 0, 0, 0, t,
-    );
-    Text::Written(long)
+    let page = Page {
+        nodes: *nodes,
+        places,
+        wides,
+        spelling,
+    };
+    Ok(text_write::put(out, &page, u64::MAX, 0, 0, 0, t))
 }
 
 // The plain text of term `term` of a well-formed store, at the start of `out` (`src/termdag.rs`, to_string).
-pub fn plain_of(
-    out: &mut [u8],
-    records: &[u64],
-    literals: &[i64],
-    names: &[u8],
-    terms: usize,
-    symbols: usize,
-    term: usize,
-) -> Text
-    requires symbols_value { well_formed (store records.now literals.now names.now terms symbols) ≡ true }
-    requires term_lt_terms { term < terms }
+pub fn plain_of(out: &mut [u8], store: &Store, term: usize) -> Result<usize, Refusal>
+    requires term_lt_terms { term < store.now.terms }
     ensures { told (answer_of result) out.new
         ≡ plain_placed
-        (store records.now literals.now names.now terms symbols) term
+        (store_of store.now) term
         out.old }
 {
+    let nodes = Nodes {
+        records: store.records,
+        literals: store.literals,
+        names: store.names,
+        n: term + 1,
+    };
     let places = [0u64; 1024];
     let mut wides = [0u64; 1024];
-    put_plain(
-        out,
-        records,
-        literals,
-        names,
-        &places,
-        &mut wides,
-        term + 1,
-        term,
-    )
+    put_plain(out, &nodes, &places, &mut wides, term)
 }
 
-// The let text of the last of the first `n` terms from the tables of its bindings, if it fits: the inline lengths, its
-// length, then its bytes.
+// The let text of the last of the terms from the tables of its bindings, if it fits: the inline lengths, its length,
+// then its bytes.
 fn put_bound(
     out: &mut [u8],
-    records: &[u64],
-    literals: &[i64],
-    names: &[u8],
+    nodes: &Nodes,
     places: &[u64],
     wides: &mut [u64],
-    stem: &[u8],
-    terms: &[u64],
-    indents: &[u64],
-    n: usize,
-    start: u64,
-    bare: bool,
-    m: usize,
-) -> LetText
-    requires layable { Layable records.now literals.now names.now stem.now n start }
-    requires all_met { AllMet records.now places.now terms.now indents.now n m }
-    requires n_in_bounds { (n ≤ length places.now) × (n ≤ length wides.old) × (length terms.now ≤ 1024) }
-    ensures { Lays (nodes records.now literals.now names.now) stem.now start bare
-        (n - 1) out.old (let_answer_of result) out.new }
+    spelling: &Spelling,
+    bindings: &Bindings,
+) -> Result<LetText, Refusal>
+    requires layable { LayableOf nodes.now spelling.now }
+    requires all_met { AllMetOf nodes.now places.now bindings.now }
+    requires n_in_bounds { (nodes.now.n ≤ length places.now)
+        × (nodes.now.n ≤ length wides.old)
+        × (length bindings.now.terms.now ≤ 1024) }
+    ensures { LaysOf nodes.now spelling.now out.old (let_answer_of result) out.new }
 {
-    widths::widths(
-        wides, records, literals, names, places, stem, n, start, bare,
-    );
-    let long = lets::let_length(
-        records, literals, names, places, wides, stem, terms, indents, n, start, bare, m,
-    );
+    widths::widths(wides, nodes, places, spelling);
+    let page = Page {
+        nodes: *nodes,
+        places,
+        wides,
+        spelling: *spelling,
+    };
+    let long = lets::let_length(&page, bindings);
     if (out.len() as u64) < long {
-        return LetText::Refused(Refusal::NoRoom);
+        return Err(Refusal::NoRoom);
     }
-    let end = lets::put_let(
-        out, records, literals, names, places, wides, stem, terms, indents, n, start, bare, m,
-    );
-    LetText::Written(end, start + m as u64)
+    let length = lets::put_let(out, &page, bindings);
+    let next = spelling.start + bindings.count as u64;
+    Ok(LetText { length, next })
 }
 
-// The let text of the last of the first `n` terms: its bindings in tables of the call's own, then the text.
-fn put_let(
-    out: &mut [u8],
-    records: &[u64],
-    literals: &[i64],
-    names: &[u8],
-    stem: &[u8],
-    n: usize,
-    start: u64,
-    bare: bool,
-) -> LetText
-    requires { Layable records.now literals.now names.now stem.now n start }
-    ensures { Lays (nodes records.now literals.now names.now) stem.now start bare
-        (n - 1) out.old (let_answer_of result) out.new }
+// The let text of the last of the terms: its bindings in tables of the call's own, then the text.
+fn put_let(out: &mut [u8], nodes: &Nodes, spelling: &Spelling) -> Result<LetText, Refusal>
+    requires { LayableOf nodes.now spelling.now }
+    ensures { LaysOf nodes.now spelling.now out.old (let_answer_of result) out.new }
 {
     let mut counts = [0u64; 1024];
     let mut sizes = [0u64; 1024];
-    let mut places = [0u64; 1024];
-    let mut terms = [0u64; 1024];
-    let mut indents = [0u64; 1024];
     let mut wides = [0u64; 1024];
-    let m = bindings::bind(
-        records,
-        &mut counts,
-        &mut sizes,
-        &mut places,
-        &mut terms,
-        &mut indents,
-        n,
-    );
-    put_bound(
-        out, records, literals, names, &places, &mut wides, stem, &terms, &indents, n, start, bare,
-        m,
-    )
+    let mut found = Found {
+        places: [0u64; 1024],
+        terms: [0u64; 1024],
+        indents: [0u64; 1024],
+        count: 0,
+    };
+    bindings::bind(nodes.records, &mut counts, &mut sizes, &mut found, nodes.n);
+    let bindings = Bindings {
+        terms: &found.terms,
+        indents: &found.indents,
+        count: found.count,
+    };
+    put_bound(out, nodes, &found.places, &mut wides, spelling, &bindings)
 }
 
 // Prefix and hint, one after the other.
@@ -181,36 +160,30 @@ fn join(stem: &mut [u8], prefix: &[u8], hint: &[u8]) -> usize
 // The let text of term `term` of a well-formed store, at the start of `out` (`src/termdag.rs`, to_string_with_let).
 pub fn let_of(
     out: &mut [u8],
-    records: &[u64],
-    literals: &[i64],
-    names: &[u8],
-    terms: usize,
-    symbols: usize,
+    store: &Store,
     term: usize,
-    prefix: &[u8],
-    hint: &[u8],
-    start: u64,
-    bare: bool,
-) -> LetText
-    requires symbols_value { well_formed (store records.now literals.now names.now terms symbols) ≡ true }
-    requires term_lt_terms { term < terms }
-    requires prefix_value { (valid_prefix prefix.now ≡ true) × (valid hint.now ≡ true) }
-    requires start_bound { start ≤ 4294966271 }
+    naming: &Naming,
+) -> Result<LetText, Refusal>
+    requires term_lt_terms { term < store.now.terms }
+    requires prefix_value { (valid_prefix naming.now.prefix.now ≡ true) × (valid naming.now.hint.now ≡ true) }
+    requires start_bound { naming.now.start ≤ 4294966271 }
     ensures { told (let_answer_of result) out.new
         ≡ let_placed
-        (store records.now literals.now names.now terms symbols)
-        (naming prefix.now hint.now start bare) term out.old }
+        (store_of store.now)
+        (naming_of naming.now) term out.old }
 {
     let mut stem = [0u8; 62];
-    let e = join(&mut stem, prefix, hint);
-    put_let(
-        out,
-        records,
-        literals,
-        names,
-        &stem[..e],
-        term + 1,
-        start,
-        bare,
-    )
+    let e = join(&mut stem, naming.prefix, naming.hint);
+    let nodes = Nodes {
+        records: store.records,
+        literals: store.literals,
+        names: store.names,
+        n: term + 1,
+    };
+    let spelling = Spelling {
+        stem: &stem[..e],
+        start: naming.start,
+        bare: naming.bare,
+    };
+    put_let(out, &nodes, &spelling)
 }

@@ -87,9 +87,6 @@ module _ (head gap : List ℕ) (g : ℕ → List ℕ) (ks o₀ o : List ℕ) (p 
         Wrote (g (get_or ks j 0)) r₂
         (take (length (put_mid p (length o - p) o q) - (p + r)) (drop (p + r) (put_mid p (length o - p) o q))) q₂)
       where
-        pub turn-place : p + r + r₂ < length o₀
-        turn-place = omega (arith, half.long, w₂.long, half-fits)
-
         pub writing-again :
             Writing head gap g ks o₀
             (put_mid (p + r) (length (put_mid p (length o - p) o q) - (p + r)) (put_mid p (length o - p) o q) q₂)

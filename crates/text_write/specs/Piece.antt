@@ -1,6 +1,24 @@
 -- The text of a term as it is written: one form, whose gap is a space or a new line. Assumes nothing: these are
 -- definitions.
-use Rattle.std.specs.Prelude.{Bool, true, false, List, [], ℕ, zero, suc, ◌+◌, ◌-◌, ◌^◌, ◌<◌, ◌≤◌, length, get_or, ℤ, ltb}
+use Rattle.std.specs.Prelude.{
+  Bool,
+  true,
+  false,
+  List,
+  [],
+  ℕ,
+  zero,
+  suc,
+  ◌+◌,
+  ◌-◌,
+  ◌^◌,
+  ◌<◌,
+  ◌≤◌,
+  length,
+  get_or,
+  ℤ,
+  ltb,
+}
 use Rattle.term_rules.specs.Nodes.{Node}
 use Rattle.text_rules.specs.Forms.{form}
 use Rattle.text_pieces.specs.Pieces.{name_text, gap_text}

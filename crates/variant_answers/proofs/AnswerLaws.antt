@@ -5,20 +5,18 @@ use mathlib.Core.List.{List, []}
 use Prim.Native.Nat.{ℕ, ◌<◌, ◌≤◌, min}
 use native.Mathlib.Omega.{arith}
 use borrow.Author.Tests.{le-leb, lt-leb}
-use lib.IntN.{ℤ}
 use lib.ListN.{length, get_or, take, replicate}
 use lib.Seq.{paste, length-take-le}
 use Rattle.refusal.specs.declared.Refusal.TheVariants.{TooDear, NoRoom}
-use Rattle.term_rules.specs.Lent.{Store, store}
+use Rattle.term_rules.specs.Lent.{Store}
 use Rattle.copies.specs.Copied.{copied}
 use Rattle.choice_rules.proofs.Demand.OrderLaws.{map-length}
 use Rattle.build.specs.Plan.{Child, Plan}
 use Rattle.build.specs.Building.{state, Out, done, full}
 use Rattle.answer_rules.specs.Variants.{Lending, variants_refused, variants_kept, room_for_results}
 use Rattle.variant_terms.specs.Turned.{Wholly, whole, nothing, wholly, rows_in, RowsWhole, seen_wholly}
-use Rattle.variant_terms.specs.declared.Turned.TheVariants.{All, Full as None}
+use Rattle.std.specs.Prelude.{Some, None, Ok, Err}
 use Rattle.variant_answers.specs.Kept.{lending, seen, dear_in, prices_of, built_in, answer_in, Results, Answers}
-use Rattle.variant_answers.specs.declared.Variants.TheVariants.{Kept, TooDear as Dear, NoRoom as Full}
 
 -- the terms are copied to the front
 pub terms-copied :
@@ -64,7 +62,7 @@ module _
   pub answer-dear :
       dear_in prices rows ≡ true →
       Answers plan ranks name kids p prices rows l
-      (seen Dear s.terms s.symbols s.records s.literals s.names ws ts)
+      (seen (Err TooDear) s ws ts)
   answer-dear e = λ d deep. sym (in-dear d e)
 
   no-costs : length ws < length rows → room_for_results l (length rows) ≡ false
@@ -81,60 +79,58 @@ module _
 
   -- nothing is left only of a term that had no room, and then all is as it was
   no_room :
-      (d : ℕ) (rs : List ℕ) (ls : List ℤ) (ns : List ℕ) (o : Out (List ℕ)) →
-      wholly s o ≡ nothing (store rs ls ns s.terms s.symbols) →
-      seen Full s.terms s.symbols rs ls ns ws ts ≡ built_in p prices rows l (wholly s o)
+      (d : ℕ) (s' : Store) (o : Out (List ℕ)) → wholly s o ≡ nothing s' →
+      seen (Err NoRoom) s' ws ts ≡ built_in p prices rows l (wholly s o)
   unfolding wholly built_in
-  no_room d rs ls ns (done us s') q =
+  no_room d s' (done us s₁) q =
       let z : ◌≡◌ {A = ℕ} 0 1 = cc in
       absurd (omega arith)
-  no_room d rs ls ns (full me rs' ls' ns') q =
-      let z : s ≡ store rs ls ns s.terms s.symbols = cc in
+  no_room d s' (full me rs ls ns) q =
+      let z : s ≡ s' = cc in
       ap (λ (x : Store). variants_refused NoRoom (lending x ws ts)) (sym z)
 
   all-built :
-      (n m : ℕ) (us rs : List ℕ) (ls : List ℤ) (ns ws' ts' : List ℕ) →
+      (s' : Store) (us ws' ts' : List ℕ) →
       ws' ≡ paste ws 0 (prices_of prices rows) (length (prices_of prices rows)) →
       ts' ≡ paste ts 0 us (length us) →
-      seen (Kept (length rows) p n m) s.terms s.symbols rs ls ns ws' ts'
-      ≡ built_in p prices rows l (whole us (store rs ls ns n m))
+      seen (Ok (record { count = length rows; passes = p })) s' ws' ts'
+      ≡ built_in p prices rows l (whole us s')
   unfolding built_in variants_kept
-  all-built n m us rs ls ns ws' ts' a b =
+  all-built s' us ws' ts' a b =
       rw (a, b, map-length (λ (i : ℕ). get_or prices i 0) rows) refl
 
   module _ (e : dear_in prices rows ≡ false) where
     pub answer-no-costs :
         length ws < length rows →
         Answers plan ranks name kids p prices rows l
-        (seen Full s.terms s.symbols s.records s.literals s.names ws ts)
+        (seen (Err NoRoom) s ws ts)
     answer-no-costs h = λ d deep. sym (in-full d e (no-costs h))
 
     module _ (h : length rows ≤ length ws) where
       pub answer-no-terms :
           length ts < length rows →
           Answers plan ranks name kids p prices rows l
-          (seen Full s.terms s.symbols s.records s.literals s.names ws ts)
+          (seen (Err NoRoom) s ws ts)
       answer-no-terms k = λ d deep. sym (in-full d e (no-terms h k))
 
       module _ (k : length rows ≤ length ts) where
         -- there was no room for a term
         pub answer-full :
-            (us rs : List ℕ) (ls : List ℤ) (ns : List ℕ) →
-            RowsWhole plan ranks name kids rows s (seen_wholly None us rs ls ns s.terms s.symbols) →
-            Answers plan ranks name kids p prices rows l (seen Full s.terms s.symbols rs ls ns ws ts)
-        answer-full us rs ls ns w = λ d deep.
-            no_room d rs ls ns (rows_in plan d name kids (state (replicate 512 0) s) [] rows) (w d deep)
+            (us : List ℕ) (s' : Store) →
+            RowsWhole plan ranks name kids rows s (seen_wholly None us s') →
+            Answers plan ranks name kids p prices rows l (seen (Err NoRoom) s' ws ts)
+        answer-full us s' w = λ d deep.
+            no_room d s' (rows_in plan d name kids (state (replicate 512 0) s) [] rows) (w d deep)
             ∙ sym (in-built d e (has_both h k))
 
         -- all terms were built
         pub answer-kept :
-            (n m : ℕ) (found rs : List ℕ) (ls : List ℤ) (ns ws' ts' : List ℕ) →
-            RowsWhole plan ranks name kids rows s
-            (seen_wholly (All n m) (take (length rows) found) rs ls ns s.terms s.symbols) →
+            (u : Unit) (s' : Store) (found ws' ts' : List ℕ) →
+            RowsWhole plan ranks name kids rows s (seen_wholly (Some u) (take (length rows) found) s') →
             Results prices rows found ws ts ws' ts' →
             Answers plan ranks name kids p prices rows l
-            (seen (Kept (length rows) p n m) s.terms s.symbols rs ls ns ws' ts')
-        answer-kept n m found rs ls ns ws' ts' w r = λ d deep.
-            all-built n m (take (length rows) found) rs ls ns ws' ts' r.costs_are r.terms_are
+            (seen (Ok (record { count = length rows; passes = p })) s' ws' ts')
+        answer-kept u s' found ws' ts' w r = λ d deep.
+            all-built s' (take (length rows) found) ws' ts' r.costs_are r.terms_are
             ∙ ap (built_in p prices rows l) (sym (w d deep))
             ∙ sym (in-built d e (has_both h k))

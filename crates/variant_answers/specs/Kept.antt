@@ -1,10 +1,11 @@
 -- What the kept rows answer, over packed rows: document 01, 'Costs and choice' and 'Refusal numbers'. Assumes nothing:
 -- definitions.
-use Rattle.std.specs.Prelude.{◌≡◌, Bool, true, false, ◌||◌, List, [], ◌∷◌, map, ℕ, ◌≤◌, leb, ℤ, length, get_or, take, replicate}
+use Rattle.std.specs.Prelude.{◌≡◌, Bool, true, false, ◌||◌, List, [], ◌∷◌, map, ℕ, ◌≤◌, leb, ℤ, length, get_or, take, replicate, Result, Ok, Err}
 use Rattle.std.proofs.Math.Seq.{paste}
+use Rattle.refusal.specs.declared.Refusal.{Refusal}
 use Rattle.refusal.specs.declared.Refusal.TheVariants.{TooDear, NoRoom}
 use Rattle.refusal.specs.Numbers.{refusal_no}
-use Rattle.term_rules.specs.Lent.{Store, store}
+use Rattle.term_rules.specs.Lent.{Store}
 use Rattle.price_passes.specs.Flat.{top}
 use Rattle.build.specs.Plan.{Child, Plan}
 use Rattle.build.specs.Building.{state}
@@ -13,33 +14,21 @@ use Rattle.answer_rules.specs.Answers.{value, refusal}
 use Rattle.answer_rules.specs.Variants.{VariantsAfter, Lending, variants_refused, variants_kept, room_for_results}
 use Rattle.variant_terms.specs.Rows.{Deep}
 use Rattle.variant_terms.specs.Turned.{AllListed, Steady, Wholly, whole, nothing, wholly, rows_in}
-use Rattle.variant_answers.specs.declared.Variants.{Variants}
-use Rattle.variant_answers.specs.declared.Variants.TheVariants.{Kept, TooDear as Dear, NoRoom as Full}
+use Rattle.variant_answers.specs.declared.Kept.{Kept}
 
 -- What is lent.
 abbrev pub lending : Store → List ℕ → List ℕ → Lending
 lending s ws ts = record { store = s; costs = ws; terms = ts }
 
--- The answer of the code, with what was lent as it leaves it; a refusal leaves the counts n and m.
-abbrev pub seen : Variants → ℕ → ℕ → List ℕ → List ℤ → List ℕ → List ℕ → List ℕ → VariantsAfter
-seen (Kept k p n' m') n m rs ls ns ws ts = record {
-  answer = value (record { count = k; passes = p });
-  store = store rs ls ns n' m';
+-- The answer of the code, with what was lent as it leaves it.
+abbrev pub seen : Result Kept Refusal → Store → List ℕ → List ℕ → VariantsAfter
+seen (Ok k) s ws ts = record {
+  answer = value (record { count = k.count; passes = k.passes });
+  store = s;
   costs = ws;
   terms = ts;
 }
-seen Dear n m rs ls ns ws ts = record {
-  answer = refusal (refusal_no TooDear);
-  store = store rs ls ns n m;
-  costs = ws;
-  terms = ts;
-}
-seen Full n m rs ls ns ws ts = record {
-  answer = refusal (refusal_no NoRoom);
-  store = store rs ls ns n m;
-  costs = ws;
-  terms = ts;
-}
+seen (Err r) s ws ts = record { answer = refusal (refusal_no r); store = s; costs = ws; terms = ts }
 
 -- "a kept one costs 2^64-1 after saturation": one of the rows, by the list of all rows' costs.
 unfoldable pub dear_in : List ℕ → List ℕ → Bool

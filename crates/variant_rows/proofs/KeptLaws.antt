@@ -15,7 +15,7 @@ use Rattle.table_rules.specs.Arrays.{Filled}
 use Rattle.table_rules.proofs.HasLaws.{has-get}
 use Rattle.table_rules.proofs.PickedLaws.{picked-has}
 use Rattle.variant_order.specs.Keys.{no_later}
-use Rattle.variant_order.specs.Arrays.{key_in, KeysIn, AllBelow}
+use Rattle.variant_order.specs.Arrays.{key_in, AllBelow}
 use Rattle.variant_order.proofs.RankLaws.{no_later-linear}
 use Rattle.variant_rows.specs.Candidates.{PartsIn}
 
@@ -66,22 +66,7 @@ module _
       ∙ take_min most m (sorted le (picked p 0 n))
       (sorted-length le (no_later-linear (key_in prices rows labels cells)) (picked p 0 n) ∙ count)
 
--- only the number of costs is asked for
-pub keys-of-costs :
-    (prices prices' rows labels cells : List ℕ) (n : ℕ) →
-    length prices' ≡ length prices →
-    KeysIn prices rows labels cells n →
-    KeysIn prices' rows labels cells n
-keys-of-costs prices prices' rows labels cells n e v = record {
-  costs_long = omega (arith, v.costs_long);
-  few = v.few;
-  long = v.long;
-  name = v.name;
-  name_short = v.name_short;
-  cells_long = v.cells_long;
-  arity = v.arity;
-}
-
+-- the same number of rows and of classes
 pub parts-of-length :
     (n n' k k' : ℕ) (starts children : List ℕ) →
     n ≡ n' →

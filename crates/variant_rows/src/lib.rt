@@ -1,20 +1,13 @@
 // The rows of a class that are kept as its variants. (src/extract.rs, extract_variants_with_sort)
 #![tactic(auto)]
 
-ghost use Rattle.std.specs.Prelude.{◌≡◌, min, length};
+ghost use Rattle.std.specs.Prelude.{length};
 ghost use Rattle.variant_rows.specs.Kept.{KeptReady, Keeps};
 
-pub mod candidates; // candidates.rt: the rows of a class that have a cost, and what each row costs
+use price_passes::flat::Rows;
+use variant_order::keys::Keys;
 
-// The smaller of two numbers.
-fn smaller(a: usize, b: usize) -> usize
-    ensures { result ≡ min a b }
-{
-    if a < b {
-        return a;
-    }
-    b
-}
+pub mod candidates; // candidates.rt: the rows of a class that have a cost, and what each row costs
 
 // The first `most` rows of class `c` that have a cost, in order, to the front of `list`, and every row's cost into
 // `prices`; how many are kept. `rows` has the same rows packed.
@@ -39,10 +32,22 @@ pub fn rows(
         starts.now children.now rows.now labels.now cells.now
         c most result prices.new list.new }
 {
-    candidates::price_rows(costs, heads, starts, children, prices);
-    let m = candidates::find_rows(ranks, outputs, starts, children, c, list);
-    let k = smaller(most, m);
-    let n = outputs.len();
-    variant_sort::choose(prices, rows, labels, cells, n, &mut list[..m], k);
+    let flat = Rows {
+        outputs,
+        heads,
+        starts,
+        children,
+    };
+    candidates::price_rows(costs, &flat, prices);
+    let m = candidates::find_rows(ranks, &flat, c, list);
+    let k = most.min(m);
+    let keys = Keys {
+        costs: prices,
+        rows,
+        names: labels,
+        cells,
+        count: outputs.len(),
+    };
+    variant_sort::choose(&keys, &mut list[..m], k);
     k
 }

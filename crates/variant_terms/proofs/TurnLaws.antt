@@ -44,9 +44,6 @@ pub record Turn
   pub room : length rows ≤ length found
   pub long : length found ≡ n
   pub memo : length at.memo ≡ length first.memo
-  pub records : length at.lent.records ≡ length first.lent.records
-  pub literals : length at.lent.literals ≡ length first.lent.literals
-  pub names : length at.lent.names ≡ length first.lent.names
   pub tracks : Tracks p at
   pub grows : Grows first.lent at.lent
   pub same :
@@ -72,20 +69,14 @@ module _
       (t : ℕ) (s' : State) →
       RowMade p ranks values (name (get_or rows j 0)) (part (get_or rows j 0)) at (done t s') →
       length s'.memo ≡ length at.memo →
-      length s'.lent.records ≡ length at.lent.records →
-      length s'.lent.literals ≡ length at.lent.literals →
-      length s'.lent.names ≡ length at.lent.names →
       Turn p ranks name kids first rows s' n (set found j t) (j + 1)
-  turn-go l t s' made em er el en =
+  turn-go l t s' made em =
       let inside : j < length found = omega (arith, turn.room) in
       record {
         within = omega arith;
         room = omega (arith, turn.room, length-set found j t);
         long = length-set found j t ∙ turn.long;
         memo = em ∙ turn.memo;
-        records = er ∙ turn.records;
-        literals = el ∙ turn.literals;
-        names = en ∙ turn.names;
         tracks = made.leaves.tracks;
         grows = grows-trans turn.grows made.leaves.grows;
         same = λ d deep.

@@ -3,14 +3,11 @@
 use Rattle.std.specs.Prelude.{ℕ, ◌-◌, ◌<◌, ◌≤◌, ◌≡◌, true, List, [], map, ℤ, length, get_or}
 use Rattle.term_rules.specs.Lent.{Store}
 use Rattle.term_rules.specs.WellFormed.{well_formed}
-use Rattle.term_rules.specs.Nodes.{application}
-use Rattle.term_rules.specs.Adding.{add}
 use Rattle.term_rules.specs.Growing.{Grows}
 use Rattle.build.specs.Plan.{Plan, plan_of, child_of}
-use Rattle.build.specs.Building.{State, state, Out, done, full, added, child_in, children_in, build_in}
+use Rattle.build.specs.Building.{State, state, Out, done, full, child_in, children_in, build_in}
 use Rattle.build.specs.Standing.{Tracks, Stuck}
-use Rattle.build.specs.Ready.{Label, Planned, seen}
-use Rattle.build.specs.declared.Built.{Built}
+use Rattle.build.specs.Ready.{Label, Planned}
 use Rattle.answer_rules.specs.Variants.{own_variant}
 
 -- A depth that is enough for every class: above each rank.
@@ -38,10 +35,6 @@ pub record OwnIn (labels : List ℕ) (f : ℕ) (s : Store) (ks : List ℕ) : Typ
   pub name : Label labels f
   pub few : length ks ≤ 8
   pub formed : well_formed s ≡ true
-
--- The application was added, whatever the memo.
-abbrev pub OwnExact : Store → List ℕ → List ℕ → Built → List ℕ → List ℤ → List ℕ → Type 0
-OwnExact s name ks r rs ls ns = (me : List ℕ) → added (state me s) (add s (application name ks)) ≡ seen r me rs ls ns
 
 -- What was there stays, the memo still tells the truth, and the new term is in the store.
 pub record Leads (p : Plan) (s : State) (t : ℕ) (s' : State) : Type 0 where

@@ -1,18 +1,16 @@
 -- The terms of rows in turn, over packed rows, and all or nothing. Document 01, 'Costs and choice'. Assumes nothing:
 -- definitions.
-use Rattle.std.specs.Prelude.{ℕ, ◌<◌, ◌≤◌, ◌≡◌, true, List, [], ◌∷◌, ◌++◌, ℤ, length, get_or, replicate}
+use Rattle.std.specs.Prelude.{ℕ, ◌<◌, ◌≤◌, ◌≡◌, true, List, [], ◌∷◌, ◌++◌, ℤ, length, get_or, replicate, Option, Some, None}
 use Rattle.name.specs.Entries.{name_at}
-use Rattle.term_rules.specs.Lent.{Store, store}
+use Rattle.term_rules.specs.Lent.{Store}
 use Rattle.term_rules.specs.WellFormed.{well_formed}
 use Rattle.table_layout.specs.Rows.{HasRow, function_at, count_at, children_at}
 use Rattle.build.specs.Plan.{Child, Plan}
-use Rattle.build.specs.Building.{State, state, Out, done, full, children_in, build_in}
+use Rattle.build.specs.Building.{State, state, Out, done, full, no_more, children_in, build_in}
 use Rattle.build.specs.Standing.{Stuck}
 use Rattle.build.specs.Ready.{Planned}
 use Rattle.answer_rules.specs.Variants.{own_variant}
 use Rattle.variant_terms.specs.Rows.{Deep, Builder, RowIn}
-use Rattle.variant_terms.specs.declared.Turned.{Turned}
-use Rattle.variant_terms.specs.declared.Turned.TheVariants.{All, Full}
 
 -- The name of row i's function.
 abbrev pub name_in : List ℕ → List ℕ → ℕ → List ℕ
@@ -51,10 +49,10 @@ pub record ListReady
   pub builder : Builder rank rows edges labels values me s
   pub listed : AllListed rank rows ranks labels values list
 
--- An answer, with the terms' numbers and what was lent as it was left.
-abbrev pub seen_all : Turned → List ℕ → List ℕ → List ℕ → List ℤ → List ℕ → Out (List ℕ)
-seen_all (All n m) ts me rs ls ns = done ts (state me (store rs ls ns n m))
-seen_all Full ts me rs ls ns = full me rs ls ns
+-- An answer, with the terms' numbers, the memo and the store as they were left.
+abbrev pub seen_all : Option Unit → List ℕ → List ℕ → Store → Out (List ℕ)
+seen_all (Some u) ts me s = done ts (state me s)
+seen_all None ts me s = no_more me s
 
 -- Where a term had no room, the store was left as it was then.
 abbrev pub LeftStuck : Store → Out (List ℕ) → Type 0
@@ -78,9 +76,9 @@ unfoldable pub wholly : Store → Out (List ℕ) → Wholly
 wholly s (done ts s') = whole ts s'.lent
 wholly s (full me rs ls ns) = nothing s
 
-abbrev pub seen_wholly : Turned → List ℕ → List ℕ → List ℤ → List ℕ → ℕ → ℕ → Wholly
-seen_wholly (All n m) ts rs ls ns terms symbols = whole ts (store rs ls ns n m)
-seen_wholly Full ts rs ls ns terms symbols = nothing (store rs ls ns terms symbols)
+abbrev pub seen_wholly : Option Unit → List ℕ → Store → Wholly
+seen_wholly (Some u) ts s = whole ts s
+seen_wholly None ts s = nothing s
 
 -- What one call asks of the rows and the store: a row for every class with a rank, all below 512.
 pub record Steady (rank : ℕ → ℕ) (rows edges labels : List ℕ) (values : List ℤ) (s : Store) : Type 0 where

@@ -3,155 +3,113 @@
 #![tactic(auto)]
 
 ghost use Rattle.std.specs.Prelude.{◌≡◌, ◌≤◌, length, get_or, take};
-ghost use Rattle.term_rules.specs.Lent.{store};
+ghost use Rattle.term_add.specs.Held.{held, SameLoans};
 ghost use Rattle.table_layout.specs.Rows.{children_at};
-ghost use Rattle.build.specs.Plan.{plan_of, children_of};
+ghost use Rattle.build.specs.Plan.{plan_in, children_of};
 ghost use Rattle.build.specs.Building.{state};
 ghost use Rattle.build.specs.Ready.{seen};
 ghost use Rattle.variant_terms.specs.Rows.{RowMade};
 ghost use Rattle.variant_terms.specs.Turned.{name_in, ListedReady, ListReady, seen_all, RowsMade};
 ghost use Rattle.variant_terms.specs.Turned.{WholeReady, seen_wholly, RowsWhole};
 
-use build::Built;
+use build::plan::Plan;
+use term_add::store_mut::StoreMut;
 
 pub mod row; // row.rt: the term of one row, as a variant is: each child class by its best term, then the row's own
 
-// The counts of terms and symbols then; or that the store has no room for a term.
-#[derive(Clone, Copy)]
-pub enum Turned {
-    All(usize, usize),
-    Full,
-}
-
 // The term of row `i` of the scan order.
 fn one_row(
-    rows: &[u16],
-    edges: &[u16],
+    plan: &Plan,
     ranks: &[u64],
-    labels: &[u8],
-    values: &[i64],
     memo: &mut [u16],
-    records: &mut [u64],
-    literals: &mut [i64],
-    names: &mut [u8],
-    terms: usize,
-    symbols: usize,
+    store: &mut StoreMut,
     i: usize,
-) -> Built
-    requires { ListedReady rows.now edges.now ranks.now labels.now values.now memo.old
-        (store records.old literals.old names.old terms symbols) i }
-    ensures { RowMade
-        (plan_of rows.now edges.now labels.now values.now)
-        ranks.now values.now (name_in labels.now rows.now i)
-        (children_at rows.now i)
+) -> Option<usize>
+    requires { ListedReady
+        plan.now.rows.now plan.now.edges.now ranks.now plan.now.labels.now plan.now.values.now
+        memo.old
+        (held store.old) i }
+    ensures loans { SameLoans store.old store.new }
+    ensures made { RowMade
+        (plan_in plan.now)
+        ranks.now plan.now.values.now (name_in plan.now.labels.now plan.now.rows.now i)
+        (children_at plan.now.rows.now i)
         (state memo.old
-        (store records.old literals.old names.old terms symbols))
-        (seen result memo.new records.new literals.new names.new) }
+        (held store.old))
+        (seen result memo.new (held store.new)) }
 {
-    let f = table_layout::function_of(rows, i);
-    let kids = table_layout::children_of(rows, i);
-    row::row_term(
-        rows, edges, ranks, labels, values, memo, records, literals, names, terms, symbols, f, kids,
-    )
+    let f = table_layout::function_of(plan.rows, i);
+    let kids = table_layout::children_of(plan.rows, i);
+    row::row_term(plan, ranks, memo, store, f, kids)
 }
 
-// The terms of the listed rows in turn, into the front of `found`.
+// The terms of the listed rows in turn, into the front of `found`; none where the store has no room for one.
 fn all_rows(
-    rows: &[u16],
-    edges: &[u16],
+    plan: &Plan,
     ranks: &[u64],
-    labels: &[u8],
-    values: &[i64],
     list: &[u64],
     memo: &mut [u16],
-    records: &mut [u64],
-    literals: &mut [i64],
-    names: &mut [u8],
-    terms: usize,
-    symbols: usize,
+    store: &mut StoreMut,
     found: &mut [u64],
-) -> Turned
-    requires list_ready { ListReady rows.now edges.now ranks.now labels.now values.now memo.old
-        (store records.old literals.old names.old terms symbols) list.now }
+) -> Option<()>
+    requires list_ready { ListReady
+        plan.now.rows.now plan.now.edges.now ranks.now plan.now.labels.now plan.now.values.now
+        memo.old
+        (held store.old) list.now }
     requires list_in_bounds { length list.now ≤ length found.old }
-    ensures { RowsMade
-        (plan_of rows.now edges.now labels.now values.now)
-        ranks.now (name_in labels.now rows.now)
-        (children_of rows.now values.now) list.now
+    ensures loans { SameLoans store.old store.new }
+    ensures made { RowsMade
+        (plan_in plan.now)
+        ranks.now (name_in plan.now.labels.now plan.now.rows.now)
+        (children_of plan.now.rows.now plan.now.values.now) list.now
         (state memo.old
-        (store records.old literals.old names.old terms symbols))
-        (seen_all result (take (length list.now) found.new) memo.new records.new
-        literals.new names.new) }
+        (held store.old))
+        (seen_all result (take (length list.now) found.new) memo.new (held store.new)) }
 {
-    let mut n = terms;
-    let mut k = symbols;
-    let mut j = 0;
-    while j < list.len() {
-        let Built::Done(t, more, known) = one_row(
-            rows,
-            edges,
-            ranks,
-            labels,
-            values,
-            memo,
-            records,
-            literals,
-            names,
-            n,
-            k,
-            list[j] as usize,
-        ) else {
-            return Turned::Full;
-        };
-        found[j] = t as u64;
-        n = more;
-        k = known;
-        j += 1;
+    for (j, i) in list.iter().enumerate() {
+        let term = one_row(plan, ranks, memo, store, *i as usize)?;
+        found[j] = term as u64;
     }
-    Turned::All(n, k)
+    Some(())
 }
 
 // The terms of the listed rows, all or nothing: where there is no room for one, what was lent is put back.
 pub fn whole_rows(
-    rows: &[u16],
-    edges: &[u16],
+    plan: &Plan,
     ranks: &[u64],
-    labels: &[u8],
-    values: &[i64],
     list: &[u64],
-    records: &mut [u64],
-    literals: &mut [i64],
-    names: &mut [u8],
-    terms: usize,
-    symbols: usize,
+    store: &mut StoreMut,
     found: &mut [u64],
-) -> Turned
-    requires whole_ready { WholeReady rows.now edges.now ranks.now labels.now values.now
-        (store records.old literals.old names.old terms symbols) list.now }
+) -> Option<()>
+    requires whole_ready { WholeReady
+        plan.now.rows.now plan.now.edges.now ranks.now plan.now.labels.now plan.now.values.now
+        (held store.old) list.now }
     requires list_in_bounds { length list.now ≤ length found.old }
-    ensures { RowsWhole
-        (plan_of rows.now edges.now labels.now values.now)
-        ranks.now (name_in labels.now rows.now)
-        (children_of rows.now values.now) list.now
-        (store records.old literals.old names.old terms symbols)
-        (seen_wholly result (take (length list.now) found.new) records.new
-        literals.new names.new terms symbols) }
+    ensures loans { SameLoans store.old store.new }
+    ensures whole { RowsWhole
+        (plan_in plan.now)
+        ranks.now (name_in plan.now.labels.now plan.now.rows.now)
+        (children_of plan.now.rows.now plan.now.values.now) list.now
+        (held store.old)
+        (seen_wholly result (take (length list.now) found.new) (held store.new)) }
 {
     let mut memo = [0u16; 512];
     let mut old_records = [0u64; term_layout::RECORDS];
     let mut old_literals = [0i64; 1024];
     let mut old_names = [0u8; 4096];
-    copies::numbers(&mut old_records, records);
-    copies::literals(&mut old_literals, literals);
-    copies::bytes(&mut old_names, names);
-    let Turned::All(n, k) = all_rows(
-        rows, edges, ranks, labels, values, list, &mut memo, records, literals, names, terms,
-        symbols, found,
-    ) else {
-        copies::numbers(records, &old_records);
-        copies::literals(literals, &old_literals);
-        copies::bytes(names, &old_names);
-        return Turned::Full;
-    };
-    Turned::All(n, k)
+    let old = store.lent();
+    copies::over(&mut old_records, old.records);
+    copies::over(&mut old_literals, old.literals);
+    copies::over(&mut old_names, old.names);
+    let terms = store.terms;
+    let symbols = store.symbols;
+    let made = all_rows(plan, ranks, list, &mut memo, store, found);
+    if made.is_none() {
+        copies::over(store.records, &old_records);
+        copies::over(store.literals, &old_literals);
+        copies::over(store.names, &old_names);
+        store.terms = terms;
+        store.symbols = symbols;
+    }
+    made
 }

@@ -2,132 +2,79 @@
 // extract_variants_with_sort)
 ghost use Rattle.std.specs.Prelude.{◌≡◌};
 ghost use Rattle.name.specs.Entries.{name_at};
-ghost use Rattle.term_rules.specs.Lent.{store};
-ghost use Rattle.build.specs.Plan.{plan_of};
+ghost use Rattle.term_rules.specs.Nodes.{application};
+ghost use Rattle.term_rules.specs.Adding.{add};
+ghost use Rattle.term_add.specs.Held.{held, SameLoans, Gains};
+ghost use Rattle.build.specs.Plan.{plan_in};
 ghost use Rattle.build.specs.Building.{state};
 ghost use Rattle.build.specs.Ready.{seen};
-ghost use Rattle.variant_terms.specs.Rows.{OwnIn, OwnExact, KidReady, KidMade, RowReady, RowMade};
+ghost use Rattle.variant_terms.specs.Rows.{OwnIn, KidReady, KidMade, RowReady, RowMade};
 
-use build::Built;
-use term_add::Added;
+use build::plan::Plan;
+use term_add::store_mut::StoreMut;
 
 // The application of function `f` to terms that are in the store.
-fn own_row(
-    labels: &[u8],
-    records: &mut [u64],
-    literals: &mut [i64],
-    names: &mut [u8],
-    terms: usize,
-    symbols: usize,
-    f: usize,
-    children: &[u64],
-) -> Built
-    requires { OwnIn labels.now f (store records.old literals.old names.old terms symbols)
-        children.now }
-    ensures { OwnExact (store records.old literals.old names.old terms symbols)
-        (name_at labels.now f) children.now result records.new literals.new
-        names.new }
+fn own_row(labels: &[u8], store: &mut StoreMut, f: usize, children: &[u64]) -> Option<usize>
+    requires { OwnIn labels.now f (held store.old) children.now }
+    ensures loans { SameLoans store.old store.new }
+    ensures gains { Gains (held store.old) (add (held store.old) (application (name_at labels.now f) children.now))
+        result (held store.new) }
 {
-    let p = f * 32;
-    let a = p + 1;
-    let e = a + labels[p] as usize;
-    let Added::Term(t, n, k) = term_add::intern_application(
-        records,
-        literals,
-        names,
-        terms,
-        symbols,
-        &labels[a..e],
-        children,
-    ) else {
-        return Built::Full;
-    };
-    Built::Done(t, n, k)
+    store.intern_application(name::name_of(labels, f), children)
 }
 
 // The term of a row's child: a class by its best term, a literal by itself.
 fn child_term(
-    rows: &[u16],
-    edges: &[u16],
+    plan: &Plan,
     ranks: &[u64],
-    labels: &[u8],
-    values: &[i64],
     memo: &mut [u16],
-    records: &mut [u64],
-    literals: &mut [i64],
-    names: &mut [u8],
-    terms: usize,
-    symbols: usize,
+    store: &mut StoreMut,
     x: usize,
-) -> Built
-    requires { KidReady rows.now edges.now ranks.now labels.now values.now memo.old
-        (store records.old literals.old names.old terms symbols) x }
-    ensures { KidMade
-        (plan_of rows.now edges.now labels.now values.now)
-        ranks.now values.now
+) -> Option<usize>
+    requires { KidReady
+        plan.now.rows.now plan.now.edges.now ranks.now plan.now.labels.now plan.now.values.now
+        memo.old
+        (held store.old) x }
+    ensures loans { SameLoans store.old store.new }
+    ensures made { KidMade
+        (plan_in plan.now)
+        ranks.now plan.now.values.now
         (state memo.old
-        (store records.old literals.old names.old terms symbols))
-        x (seen result memo.new records.new literals.new names.new) }
+        (held store.old))
+        x (seen result memo.new (held store.new)) }
 {
     if x < 512 {
         let level = ranks[x] as usize;
-        return build::build(
-            rows, edges, labels, values, memo, records, literals, names, terms, symbols, level, x,
-        );
+        return build::build(plan, memo, store, level, x);
     }
-    build::literal_term(values, records, literals, names, terms, symbols, x - 512)
+    build::literal_term(plan.values, store, x - 512)
 }
 
 // The term of a row of function `f`: its children first, left to right, then the term itself.
 pub fn row_term(
-    rows: &[u16],
-    edges: &[u16],
+    plan: &Plan,
     ranks: &[u64],
-    labels: &[u8],
-    values: &[i64],
     memo: &mut [u16],
-    records: &mut [u64],
-    literals: &mut [i64],
-    names: &mut [u8],
-    terms: usize,
-    symbols: usize,
+    store: &mut StoreMut,
     f: usize,
     kids: &[u16],
-) -> Built
-    requires { RowReady rows.now edges.now ranks.now labels.now values.now memo.old
-        (store records.old literals.old names.old terms symbols) f kids.now }
-    ensures { RowMade
-        (plan_of rows.now edges.now labels.now values.now)
-        ranks.now values.now (name_at labels.now f) kids.now
+) -> Option<usize>
+    requires { RowReady
+        plan.now.rows.now plan.now.edges.now ranks.now plan.now.labels.now plan.now.values.now
+        memo.old
+        (held store.old) f kids.now }
+    ensures loans { SameLoans store.old store.new }
+    ensures made { RowMade
+        (plan_in plan.now)
+        ranks.now plan.now.values.now (name_at plan.now.labels.now f) kids.now
         (state memo.old
-        (store records.old literals.old names.old terms symbols))
-        (seen result memo.new records.new literals.new names.new) }
+        (held store.old))
+        (seen result memo.new (held store.new)) }
 {
     let mut children = [0u64; 8];
-    let mut n = terms;
-    let mut k = symbols;
-    let mut j = 0;
-    while j < kids.len() {
-        let Built::Done(t, more, known) = child_term(
-            rows,
-            edges,
-            ranks,
-            labels,
-            values,
-            memo,
-            records,
-            literals,
-            names,
-            n,
-            k,
-            table_layout::wide(kids[j]),
-        ) else {
-            return Built::Full;
-        };
-        children[j] = t as u64;
-        n = more;
-        k = known;
-        j += 1;
+    for (j, kid) in kids.iter().enumerate() {
+        let term = child_term(plan, ranks, memo, store, usize::from(*kid))?;
+        children[j] = term as u64;
     }
-    own_row(labels, records, literals, names, n, k, f, &children[..j])
+    own_row(plan.labels, store, f, &children[..kids.len()])
 }

@@ -1,16 +1,15 @@
 -- The variants of a root, once a table is laid flat, over a lent store: how the answer is read, and what is asked.
 -- Assumes nothing: definitions.
-use Rattle.std.specs.Prelude.{◌≡◌, true, false, List, ℕ, ◌+◌, ◌<◌, ◌≤◌, ℤ, length, take}
-use Rattle.refusal.specs.declared.Refusal.TheVariants.{TooDear, NoRoom, BadStore}
-use Rattle.refusal.specs.Numbers.{refusal_no}
-use Rattle.term_rules.specs.Lent.{store}
+use Rattle.std.specs.Prelude.{◌≡◌, true, false, List, ℕ, ◌+◌, ◌<◌, ◌≤◌, ℤ, length, take, Result}
+use Rattle.refusal.specs.declared.Refusal.{Refusal}
+use Rattle.refusal.specs.declared.Refusal.TheVariants.{BadStore}
+use Rattle.term_rules.specs.Lent.{Store}
 use Rattle.term_rules.specs.WellFormed.{well_formed}
 use Rattle.term_rules.specs.Nodes.{literal}
 use Rattle.term_rules.specs.Adding.{add}
 use Rattle.file_rules.specs.Table.{Table}
 use Rattle.table_rules.specs.Rules.Classes.{class_count}
 use Rattle.table_rules.specs.Rules.Choosing.{run_of, prices_for}
-use Rattle.answer_rules.specs.Answers.{value, refusal}
 use Rattle.answer_rules.specs.Variants.{
   VariantsAfter,
   Lending,
@@ -20,32 +19,12 @@ use Rattle.answer_rules.specs.Variants.{
   variants_refused,
 }
 use Rattle.variants_root.specs.Flat.{VariantTable}
-use Rattle.variant_answers.specs.declared.Variants.{Variants}
-use Rattle.variant_answers.specs.declared.Variants.TheVariants.{Kept as KeptRows, TooDear as Dear, NoRoom as Full}
-use Rattle.variants_root.specs.declared.VariantsAnswer.{VariantsAnswer}
-use Rattle.variants_root.specs.declared.VariantsAnswer.TheVariants.{Kept, Refused}
+use Rattle.variant_answers.specs.Kept.{seen}
+pub use Rattle.variant_answers.specs.declared.Kept.{Kept}
 
--- The code's answer as the definition's, with the lent lists as the call leaves them. A refusal leaves the counts n and
--- m, which were those before.
-abbrev pub seen_variants : VariantsAnswer → ℕ → ℕ → List ℕ → List ℤ → List ℕ → List ℕ → List ℕ → VariantsAfter
-seen_variants (Kept k p terms symbols) n m rs ls ns ws ts = record {
-  answer = value (record { count = k; passes = p });
-  store = store rs ls ns terms symbols;
-  costs = ws;
-  terms = ts;
-}
-seen_variants (Refused r) n m rs ls ns ws ts = record {
-  answer = refusal (refusal_no r);
-  store = store rs ls ns n m;
-  costs = ws;
-  terms = ts;
-}
-
--- What is answered for kept rows.
-abbrev pub answer_from : Variants → VariantsAnswer
-answer_from (KeptRows k p n m) = Kept k p n m
-answer_from Dear = Refused TooDear
-answer_from Full = Refused NoRoom
+-- The code's answer as the definition's, with the lent lists as the call leaves them.
+abbrev pub seen_variants : Result Kept Refusal → Store → List ℕ → List ℕ → VariantsAfter
+seen_variants r s ws ts = seen r s ws ts
 
 -- "17, 12, 13": a store that is not well formed is refused before what the root says.
 unfoldable pub if_formed : Lending → VariantsAfter → VariantsAfter

@@ -1,12 +1,15 @@
 // The variants of a class, over flat rows: costs and choice, the rows that are kept, then their terms.
 // (src/extract.rs, extract_variants_with_sort)
 ghost use Rattle.std.specs.Prelude.{length};
-ghost use Rattle.term_rules.specs.Lent.{store};
+ghost use Rattle.term_add.specs.Held.{held, SameLoans};
 ghost use Rattle.price.specs.Solved.{Blank};
 ghost use Rattle.variant_answers.specs.Kept.{lending, seen};
 ghost use Rattle.variants_root.specs.Flat.{KeyedReady, KeyedAnswers};
 
-use variant_answers::Variants;
+use build::plan::Plan;
+use refusal::Refusal;
+use term_add::store_mut::StoreMut;
+use variant_answers::Kept;
 
 // The first `most` variants of class `c`, by packed rows, on lists of one place for each class that are all zero
 // before: their costs to the front of `paid`, their terms to the front of `found`.
@@ -24,23 +27,20 @@ pub fn decide(
     costs: &mut [u64],
     ranks: &mut [u64],
     edges: &mut [u16],
-    records: &mut [u64],
-    literals: &mut [i64],
-    names: &mut [u8],
-    terms: usize,
-    symbols: usize,
+    store: &mut StoreMut,
     paid: &mut [u64],
     found: &mut [u64],
-) -> Variants
+) -> Result<Kept, Refusal>
     requires keyed_ready { KeyedReady outputs.now heads.now starts.now children.now rows.now labels.now values.now
-        cells.now (length ranks.old) (store records.old literals.old names.old terms symbols) }
+        cells.now (length ranks.old) (held store.old) }
     requires blank { Blank (length ranks.old) costs.old ranks.old edges.old }
-    ensures { KeyedAnswers outputs.now heads.now starts.now
+    ensures loans { SameLoans store.old store.new }
+    ensures variants { KeyedAnswers outputs.now heads.now starts.now
         children.now rows.now labels.now values.now cells.now
         (length ranks.old) c most
-        (lending (store records.old literals.old names.old terms symbols)
+        (lending (held store.old)
         paid.old found.old)
-        (seen result terms symbols records.new literals.new names.new paid.new
+        (seen result (held store.new) paid.new
         found.new) }
 {
     let run = price::solve(outputs, heads, starts, children, costs, ranks, edges);
@@ -61,20 +61,19 @@ pub fn decide(
         &mut prices,
         &mut list,
     );
-    variant_answers::answer(
+    let plan = Plan {
         rows,
         edges,
-        ranks,
         labels,
         values,
+    };
+    variant_answers::answer(
+        &plan,
+        ranks,
         &prices,
         &list[..k],
         run.passes,
-        records,
-        literals,
-        names,
-        terms,
-        symbols,
+        store,
         paid,
         found,
     )

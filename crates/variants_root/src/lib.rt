@@ -3,72 +3,50 @@
 #![tactic(auto)]
 
 ghost use Rattle.std.specs.Prelude.{◌≡◌, ◌<◌, pos, length, get_or};
-ghost use Rattle.term_rules.specs.Lent.{store};
+ghost use Rattle.term_add.specs.Held.{held, SameLoans};
 ghost use Rattle.variant_answers.specs.Kept.{lending};
 ghost use Rattle.variants_root.specs.Flat.{VariantsReady, VariantsAnswers};
-ghost use Rattle.variants_root.specs.Several.{seen_variants, answer_from, literal_answer, SomeTable, ClassAnswers};
+ghost use Rattle.variants_root.specs.Several.{seen_variants, literal_answer, SomeTable, ClassAnswers};
 
-use build::Built;
 use refusal::Refusal;
 use table_layout::pack;
-use variant_answers::Variants;
+use term_add::store_mut::StoreMut;
+pub use variant_answers::Kept;
 
 pub mod kept_rows; // kept_rows.rt: the variants of a class, over flat rows: costs and choice, the rows that are kept, then their terms
-
-// How many are kept, the passes and the counts of terms and symbols then; or the refusal.
-#[derive(Clone, Copy)]
-pub enum VariantsAnswer {
-    Kept(usize, u64, usize, usize),
-    Refused(Refusal),
-}
-
-// What the kept rows answer, or their refusal.
-fn answer_from(kept: Variants) -> VariantsAnswer
-    ensures { result ≡ answer_from kept }
-{
-    match kept {
-        Variants::Kept(k, p, n, m) => VariantsAnswer::Kept(k, p, n, m),
-        Variants::TooDear => VariantsAnswer::Refused(Refusal::TooDear),
-        Variants::NoRoom => VariantsAnswer::Refused(Refusal::NoRoom),
-    }
-}
 
 // The one variant of literal `i`: a base root costs 1, and one pass changes nothing.
 pub fn of_literal(
     values: &[i64],
     i: u64,
-    records: &mut [u64],
-    literals: &mut [i64],
-    names: &[u8],
-    terms: usize,
-    symbols: usize,
+    store: &mut StoreMut,
     paid: &mut [u64],
     found: &mut [u64],
-) -> VariantsAnswer
+) -> Result<Kept, Refusal>
     requires { i < length values.now }
-    ensures { seen_variants result terms symbols records.new literals.new names.now
+    ensures loans { SameLoans store.old store.new }
+    ensures variants { seen_variants result (held store.new)
         paid.new found.new
         ≡ literal_answer (get_or values.now i (pos 0))
-        (lending (store records.old literals.old names.now terms symbols)
+        (lending (held store.old)
         paid.old found.old) }
 {
-    if !term_record::check(records, literals, names, terms, symbols) {
-        return VariantsAnswer::Refused(Refusal::BadStore);
+    if !term_record::check(&store.lent()) {
+        return Err(Refusal::BadStore);
     }
     if paid.len() == 0 {
-        return VariantsAnswer::Refused(Refusal::NoRoom);
+        return Err(Refusal::NoRoom);
     }
     if found.len() == 0 {
-        return VariantsAnswer::Refused(Refusal::NoRoom);
+        return Err(Refusal::NoRoom);
     }
-    let Built::Done(t, n, m) = build::literal_term(
-        values, records, literals, names, terms, symbols, i as usize,
-    ) else {
-        return VariantsAnswer::Refused(Refusal::NoRoom);
-    };
+    let term = build::literal_term(values, store, i as usize).ok_or(Refusal::NoRoom)?;
     paid[0] = 1;
-    found[0] = t as u64;
-    VariantsAnswer::Kept(1, 1, n, m)
+    found[0] = term as u64;
+    Ok(Kept {
+        count: 1,
+        passes: 1,
+    })
 }
 
 // The first `most` variants of class `c` of `w`, over flat rows and a well-formed store, on lists of the call's own.
@@ -85,23 +63,20 @@ fn choose(
     c: usize,
     w: usize,
     most: usize,
-    records: &mut [u64],
-    literals: &mut [i64],
-    names: &mut [u8],
-    terms: usize,
-    symbols: usize,
+    store: &mut StoreMut,
     paid: &mut [u64],
     found: &mut [u64],
-) -> VariantsAnswer
+) -> Result<Kept, Refusal>
     requires { VariantsReady outputs.now heads.now starts.now children.now order.now functions.now
         labels.now values.now cells.now w
-        (store records.old literals.old names.old terms symbols) }
-    ensures { VariantsAnswers outputs.now heads.now starts.now
+        (held store.old) }
+    ensures loans { SameLoans store.old store.new }
+    ensures variants { VariantsAnswers outputs.now heads.now starts.now
         children.now order.now functions.now labels.now
         values.now cells.now w c most
-        (lending (store records.old literals.old names.old terms symbols)
+        (lending (held store.old)
         paid.old found.old)
-        (seen_variants result terms symbols records.new literals.new names.new
+        (seen_variants result (held store.new)
         paid.new found.new) }
 {
     let mut rows = [0u16; table_layout::ROWS];
@@ -109,7 +84,7 @@ fn choose(
     let mut costs: [u64; 512] = [0; 512];
     let mut ranks: [u64; 512] = [0; 512];
     let mut edges: [u16; 512] = [0; 512];
-    let kept = crate::kept_rows::decide(
+    crate::kept_rows::decide(
         outputs,
         heads,
         starts,
@@ -123,15 +98,10 @@ fn choose(
         &mut costs[..w],
         &mut ranks[..w],
         &mut edges[..w],
-        records,
-        literals,
-        names,
-        terms,
-        symbols,
+        store,
         paid,
         found,
-    );
-    answer_from(kept)
+    )
 }
 
 // The first `most` variants of class `c`, over the lists that a table was laid in: `n` rows with `m` children, over
@@ -151,26 +121,23 @@ pub fn of_class(
     m: usize,
     w: usize,
     most: usize,
-    records: &mut [u64],
-    literals: &mut [i64],
-    names: &mut [u8],
-    terms: usize,
-    symbols: usize,
+    store: &mut StoreMut,
     paid: &mut [u64],
     found: &mut [u64],
-) -> VariantsAnswer
+) -> Result<Kept, Refusal>
     requires { SomeTable n m w order.now flat.now heads.now starts.now children.now functions.now
         labels.now values.now cells.now }
-    ensures { ClassAnswers n m w order.now flat.now heads.now
+    ensures loans { SameLoans store.old store.new }
+    ensures variants { ClassAnswers n m w order.now flat.now heads.now
         starts.now children.now functions.now labels.now
         values.now cells.now c most
-        (lending (store records.old literals.old names.old terms symbols)
+        (lending (held store.old)
         paid.old found.old)
-        (seen_variants result terms symbols records.new literals.new names.new
+        (seen_variants result (held store.new)
         paid.new found.new) }
 {
-    if !term_record::check(records, literals, names, terms, symbols) {
-        return VariantsAnswer::Refused(Refusal::BadStore);
+    if !term_record::check(&store.lent()) {
+        return Err(Refusal::BadStore);
     }
     choose(
         &flat[..n],
@@ -185,11 +152,7 @@ pub fn of_class(
         c as usize,
         w,
         most,
-        records,
-        literals,
-        names,
-        terms,
-        symbols,
+        store,
         paid,
         found,
     )

@@ -24,23 +24,23 @@ pub const MOST_NAMES: usize = 128;
 /// The stack of a thread that is to make a call, in bytes, by the call's name: the header's `NEEDLEVALE_STACK_`.
 /// Measured and tested, not proved; `scripts/stacks write` writes these lines.
 pub mod stack {
-    pub const ANSWER: usize = 815104;
+    pub const ANSWER: usize = 688128;
     pub const READ: usize = 139264;
     pub const ADD_LITERAL_FLAT: usize = 32768;
-    pub const BEST: usize = 983040;
-    pub const VARIANTS: usize = 1011712;
-    pub const PLAIN_TEXT: usize = 487424;
-    pub const LET_TEXT: usize = 536576;
-    pub const SIZE: usize = 253952;
-    pub const GET: usize = 253952;
-    pub const COMPARE: usize = 253952;
-    pub const SORT: usize = 282624;
-    pub const FIND_LITERAL: usize = 253952;
-    pub const FIND_VARIABLE: usize = 253952;
-    pub const FIND_APPLICATION: usize = 356352;
-    pub const ADD_LITERAL: usize = 471040;
-    pub const ADD_VARIABLE: usize = 471040;
-    pub const ADD_APPLICATION: usize = 471040;
+    pub const BEST: usize = 966656;
+    pub const VARIANTS: usize = 995328;
+    pub const PLAIN_TEXT: usize = 479232;
+    pub const LET_TEXT: usize = 462848;
+    pub const SIZE: usize = 462848;
+    pub const GET: usize = 462848;
+    pub const COMPARE: usize = 462848;
+    pub const SORT: usize = 487424;
+    pub const FIND_LITERAL: usize = 462848;
+    pub const FIND_VARIABLE: usize = 462848;
+    pub const FIND_APPLICATION: usize = 462848;
+    pub const ADD_LITERAL: usize = 786432;
+    pub const ADD_VARIABLE: usize = 675840;
+    pub const ADD_APPLICATION: usize = 675840;
 }
 
 /// Numbers of a store's record: kind, symbol, count, eight children.

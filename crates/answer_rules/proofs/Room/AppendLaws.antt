@@ -11,8 +11,7 @@ use lib.Dec.{ltb}
 use borrow.Author.Tests.{ltb-true, ltb-false}
 use Rattle.name.specs.Name.{valid}
 use Rattle.name.specs.Entries.{entries_length, entry_room, HasEntry, put_name}
-use Rattle.name.specs.declared.Found.{Found}
-use Rattle.name.specs.declared.Found.TheVariants.{At, Missing}
+use Rattle.std.specs.Prelude.{Option, Some, None}
 use Rattle.term_rules.specs.declared.Term.{Term}
 use Rattle.term_rules.specs.Lent.{Store, store, symbol_at, term_room, symbol_room}
 use Rattle.term_rules.specs.Facts.{Sound}
@@ -81,41 +80,41 @@ module _ (s : Store) (sound : Sound s) (name : List ℕ) (v : valid name ≡ tru
         }
 
   renamed_by :
-      (f : Found) →
-      elim f as (λ _. Bool) [ At k ↦ true | Missing ↦ ltb s.symbols (symbol_room s) ] ≡ true →
+      (f : Option ℕ) →
+      elim f as (λ _. Bool) [ Some k ↦ true | None ↦ ltb s.symbols (symbol_room s) ] ≡ true →
       Renamed s (λ (m : List ℕ). m ≡ name)
       (elim f as (λ _. Store) [
-        | At k ↦ s
-        | Missing ↦
+        | Some k ↦ s
+        | None ↦
             store s.records s.literals (put_name s.names s.symbols name) s.terms (s.symbols + 1)
       ])
-  renamed_by (At k) r = renamed-self s (λ (m : List ℕ). m ≡ name)
-  renamed_by Missing r = renamed-new r
+  renamed_by (Some k) r = renamed-self s (λ (m : List ℕ). m ≡ name)
+  renamed_by None r = renamed-new r
 
   renamed-of : room_for_name s name ≡ true → Renamed s (λ (m : List ℕ). m ≡ name) (with_name s name)
   unfolding room_for_name with_name
   renamed-of r = renamed_by (find_symbol s name) r
 
   same_by :
-      (f : Found) →
+      (f : Option ℕ) →
       (elim f as (λ _. Store) [
-        | At k ↦ s
-        | Missing ↦
+        | Some k ↦ s
+        | None ↦
             store s.records s.literals (put_name s.names s.symbols name) s.terms (s.symbols + 1)
       ]).terms ≡ s.terms
-  same_by (At k) = refl
-  same_by Missing = refl
+  same_by (Some k) = refl
+  same_by None = refl
 
   room_by :
-      (f : Found) → Room s →
+      (f : Option ℕ) → Room s →
       Room
       (elim f as (λ _. Store) [
-        | At k ↦ s
-        | Missing ↦
+        | Some k ↦ s
+        | None ↦
             store s.records s.literals (put_name s.names s.symbols name) s.terms (s.symbols + 1)
       ])
-  room_by (At k) r = r
-  room_by Missing r = record { limit = r.limit; records = r.records; literals = r.literals }
+  room_by (Some k) r = r
+  room_by None r = record { limit = r.limit; records = r.records; literals = r.literals }
 
   named-terms : (with_name s name).terms ≡ s.terms
   unfolding with_name

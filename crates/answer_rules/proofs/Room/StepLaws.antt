@@ -10,8 +10,7 @@ use lib.Dec.{ltb}
 use borrow.Author.Tests.{ltb-true, ltb-false, lt-ltb}
 use Rattle.name.specs.Name.{same}
 use Rattle.name.specs.Entries.{name_at}
-use Rattle.name.specs.declared.Found.{Found}
-use Rattle.name.specs.declared.Found.TheVariants.{At, Missing}
+use Rattle.std.specs.Prelude.{Option, Some, None}
 use Rattle.term_rules.specs.Lent.{Store, symbol_at, term_room, symbol_room}
 use Rattle.term_rules.specs.WellFormed.{well_formed}
 use Rattle.term_rules.specs.Facts.{Sound}
@@ -111,9 +110,9 @@ GoodAdd G Bad no_room = Bad
 -- by what adding meets
 module _ (P : Adds → Type 0) (s : Store) (node : Node) where
   room-cases :
-      (find_term s node ≡ Missing → room_for s node ≡ true → P (at s.terms (append s node))) →
-      (find_term s node ≡ Missing → room_for s node ≡ false → P no_room) →
-      find_term s node ≡ Missing →
+      (find_term s node ≡ None → room_for s node ≡ true → P (at s.terms (append s node))) →
+      (find_term s node ≡ None → room_for s node ≡ false → P no_room) →
+      find_term s node ≡ None →
       (b : Bool) →
       room_for s node ≡ b →
       P (elim b as (λ _. Adds) [ true ↦ at s.terms (append s node) | false ↦ no_room ])
@@ -122,22 +121,22 @@ module _ (P : Adds → Type 0) (s : Store) (node : Node) where
 
   pub add-cases :
       ((i : ℕ) → P (at i s)) →
-      (find_term s node ≡ Missing → room_for s node ≡ true → P (at s.terms (append s node))) →
-      (find_term s node ≡ Missing → room_for s node ≡ false → P no_room) →
+      (find_term s node ≡ None → room_for s node ≡ true → P (at s.terms (append s node))) →
+      (find_term s node ≡ None → room_for s node ≡ false → P no_room) →
       P (add s node)
   unfolding add
   add-cases h f g = go (find_term s node) refl
     where
       go :
-          (x : Found) →
+          (x : Option ℕ) →
           find_term s node ≡ x →
           P
           (elim x as (λ _. Adds) [
-            | At i ↦ at i s
-            | Missing ↦ elim (room_for s node) [ true ↦ at s.terms (append s node) | false ↦ no_room ]
+            | Some i ↦ at i s
+            | None ↦ elim (room_for s node) [ true ↦ at s.terms (append s node) | false ↦ no_room ]
           ])
-      go (At i) e = h i
-      go Missing e = room-cases f g e (room_for s node) refl
+      go (Some i) e = h i
+      go None e = room-cases f g e (room_for s node) refl
 
 -- a store that fits after an addition
 module _ (s : Store) (node : Node) (formed : well_formed s ≡ true) (fit : Fit s node) where
@@ -185,19 +184,19 @@ module _
   sound : Sound s
   sound = sound-of-well_formed s formed
 
-  absent : find_term s node ≡ Missing → (i : ℕ) → i < s.terms → tree_at s i ≡ u → ⊥
+  absent : find_term s node ≡ None → (i : ℕ) → i < s.terms → tree_at s i ≡ u → ⊥
   unfolding find_term
   absent m i l e =
       tells-apart same_node same_node-tells (node_at s i) node
       (first-missing (λ (j : ℕ). same_node (node_at s j) node) s.terms 0 m i (omega arith) (omega arith))
       (node-of-tree s sound node u fit tree i l (subst (Means s i) e (tree_at-means s sound i l)))
 
-  term-room : find_term s node ≡ Missing → ltb s.terms (term_room s) ≡ true
+  term-room : find_term s node ≡ None → ltb s.terms (term_room s) ≡ true
   term-room m =
       let l : s.terms < s'.terms = fewer-terms s s' sound u within.terms held (absent m) in
       lt-ltb s.terms (term_room s) (omega (arith, l, terms-within s' formed', within.same_term_room))
 
-  new-name : (n : List ℕ) → find_symbol s n ≡ Missing → (k : ℕ) → k < s.symbols → symbol_at s k ≡ n → ⊥
+  new-name : (n : List ℕ) → find_symbol s n ≡ None → (k : ℕ) → k < s.symbols → symbol_at s k ≡ n → ⊥
   new-name n m k l =
       tells-apart same same-tells (symbol_at s k) n
       (first-missing (λ (j : ℕ). same (name_at s.names j) n) s.symbols 0
@@ -224,7 +223,7 @@ module _
       (name-room n (name-held s' (sound-of-well_formed s' formed') (applied n e.0) (subst (Holds s') e.2 held)))
 
   -- there is room for the node
-  pub room-there : find_term s node ≡ Missing → room_for s node ≡ true
+  pub room-there : find_term s node ≡ None → room_for s node ≡ true
   room-there m = room_by node tree (term-room m)
 
   own_name : (x : Node) (m : List ℕ) → NodeTree s x u → NameOf x m → HasName s' m

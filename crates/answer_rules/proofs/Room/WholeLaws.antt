@@ -3,11 +3,9 @@
 use Prim.Native.Nat.{ℕ, ◌+◌, ◌<◌}
 use mathlib.Core.Path.{◌≡◌, refl, subst}
 use mathlib.Core.Bool.{true}
-use mathlib.Core.List.{List}
 use native.Mathlib.Omega.{arith}
 use lib.ListN.{replicate}
-use lib.IntN.{ℤ}
-use Rattle.term_rules.specs.Lent.{Store, store}
+use Rattle.term_rules.specs.Lent.{Store}
 use Rattle.term_rules.specs.WellFormed.{well_formed}
 use Rattle.term_rules.specs.Nodes.{Tree, Trees, none, more, Means}
 use Rattle.term_rules.specs.Adding.{Adds, at, no_room, add}
@@ -15,8 +13,7 @@ use Rattle.term_rules.proofs.FactsLaws.{sound-of-well_formed}
 use Rattle.build.specs.Plan.{class, Plan, ChildTree}
 use Rattle.build.specs.Building.{state, Out, done, full, build_in}
 use Rattle.build.specs.Ready.{Ranked}
-use Rattle.build.specs.declared.Built.{Built}
-use Rattle.build.specs.declared.Built.TheVariants.{Done, Full}
+use Rattle.std.specs.Prelude.{Option, Some, None}
 use Rattle.build.proofs.StandingLaws.{child_tree-unique}
 use Rattle.build.proofs.BuildingLaws.{tracks-of-zeros}
 use Rattle.build.specs.Whole.{left, whole, Tells}
@@ -34,14 +31,13 @@ use Rattle.answer_rules.proofs.Room.StepLaws.{
 }
 use Rattle.answer_rules.proofs.Room.BuildLaws.{Good, Step, build-good}
 
-not_full : {P : Type 0} {t n m : ℕ} → Done t n m ≡ Full → P
+not_full : {P : Type 0} {i : ℕ} → ◌≡◌ {A = Option ℕ} (Some i) None → P
 not_full e = let z : ◌≡◌ {A = ℕ} 0 1 = cc in absurd (omega arith)
 
 -- an answer, and what it says of the room
-abbrev pub RoomBuilt : Store → Tree → Built → List ℕ → List ℤ → List ℕ → Type 0
-RoomBuilt s u (Done i n m) rs ls ns =
-    Fits s (store rs ls ns n m) × (i < n) × Means (store rs ls ns n m) i u
-RoomBuilt s u Full rs ls ns = NoRoomFor s u
+abbrev pub RoomBuilt : Store → Tree → Option ℕ → Store → Type 0
+RoomBuilt s u (Some i) s' = Fits s s' × (i < s'.terms) × Means s' i u
+RoomBuilt s u None s' = NoRoomFor s u
 
 -- no tree need be anything
 pub all-trees : (ts : Trees) → AllTrees (λ (u : Tree). Unit) ts
@@ -83,41 +79,37 @@ module _
       (rank c + 1) (state (replicate 512 0) s) c (tracks-of-zeros p 512 s formed) h (omega arith)
       (record { tree = u; of = tree; need = tt }) (fits-self s formed)
 
-  abbrev FitsBuilt : Built → List ℕ → List ℤ → List ℕ → Type 0
-  FitsBuilt (Done i n m) rs ls ns = Fits s (store rs ls ns n m)
-  FitsBuilt Full rs ls ns = Unit
+  abbrev FitsBuilt : Option ℕ → Store → Type 0
+  FitsBuilt (Some i) s' = Fits s s'
+  FitsBuilt None s' = Unit
 
-  left-fits :
-      (o : Out ℕ) → Good (Fits s) Unit o →
-      FitsBuilt (left s o).answer (left s o).records (left s o).literals (left s o).names
+  left-fits : (o : Out ℕ) → Good (Fits s) Unit o → FitsBuilt (left s o).answer (left s o).store
   unfolding left
   left-fits (done t s') k = k
   left-fits (full me rs ls ns) k = tt
 
-  left-full : (s' : Store) (o : Out ℕ) → Good (λ (b : Store). Within b s') ⊥ o → (left s o).answer ≡ Full → ⊥
+  left-full : (s' : Store) (o : Out ℕ) → Good (λ (b : Store). Within b s') ⊥ o → (left s o).answer ≡ None → ⊥
   unfolding left
   left-full s' (done t s'') k e = not_full e
   left-full s' (full me rs ls ns) k e = k
 
   room-built :
-      (a : Built) (rs : List ℕ) (ls : List ℤ) (ns : List ℕ) →
-      Tells p s c a rs ls ns →
-      FitsBuilt a rs ls ns →
-      ((s' : Store) → Fits s s' → Holds s' u → a ≡ Full → ⊥) →
-      RoomBuilt s u a rs ls ns
-  room-built (Done i n m) rs ls ns d f q = (
+      (a : Option ℕ) (s' : Store) →
+      Tells p s c a s' →
+      FitsBuilt a s' →
+      ((s₁ : Store) → Fits s s₁ → Holds s₁ u → a ≡ None → ⊥) →
+      RoomBuilt s u a s'
+  room-built (Some i) s' d f q = (
     f,
     d.stands.below,
-    subst (λ (v : Tree). Means (store rs ls ns n m) i v) (child_tree-unique d.stands.of tree) d.stands.means,
+    subst (λ (v : Tree). Means s' i v) (child_tree-unique d.stands.of tree) d.stands.means,
   )
-  room-built Full rs ls ns d f q = λ s' g k. q s' g k refl
+  room-built None s' d f q = λ s₁ g k. q s₁ g k refl
 
   -- the term comes back, or has no room
-  pub whole_room :
-      RoomBuilt s u (whole p (rank c) s c).answer (whole p (rank c) s c).records (whole p (rank c) s c).literals
-      (whole p (rank c) s c).names
+  pub whole_room : RoomBuilt s u (whole p (rank c) s c).answer (whole p (rank c) s c).store
   unfolding whole
   whole_room =
-      room-built (left s built).answer (left s built).records (left s built).literals (left s built).names
+      room-built (left s built).answer (left s built).store
       (whole_tells p rank ranked s c formed h) (left-fits built always-fits)
       (λ s' g k. left-full s' built (never-full s' g k))

@@ -2,9 +2,11 @@
 use Prim.Native.Nat.{ℕ}
 use mathlib.Core.Path.{◌≡◌, sym, ◌∙◌, subst}
 use lib.ListN.{get_or}
-use Rattle.term_rules.specs.Lent.{store}
+use Rattle.term_add.specs.Held.{held}
 use Rattle.price_passes.specs.Flat.{FlatOk}
-use Rattle.build.specs.declared.Built.{Built}
+use Rattle.std.specs.Prelude.{Option, Some, None}
+use Rattle.std.proofs.lemmas.Result.{err_from_is_err_and}
+use Rattle.build.proofs.AnswerLaws.{refused_of}
 use Rattle.build.specs.Plan.{plan_of}
 use Rattle.build.specs.Whole.{whole}
 use Rattle.price.specs.Solved.{Solved}
@@ -31,8 +33,8 @@ bounds-ranks-c c =
     let a = c.requires.rows_ready.is in
     omega (arith, a.class, c.solve-run.auto.ranks)
 
-pub returns-then-rank-eq0 : goal.returns-then-rank-eq0
-returns-then-rank-eq0 c =
+pub returns-then-rank-eq0-clause-best : goal.returns-then-rank-eq0-clause-best
+returns-then-rank-eq0-clause-best c =
     λ order functions pk t root ft e.
     let g = c.args in
     let q = c.solve-run in
@@ -42,7 +44,7 @@ returns-then-rank-eq0 c =
     Solved n q.result.passes q.result.last g.outputs.now g.heads.now g.starts.now
     g.children.now q.new.costs q.new.ranks q.new.edges)
     e q.ensures in
-    let s = store g.records.now g.literals.now g.names.now g.terms g.symbols in
+    let s = held g.store.now in
     decide-unranked t root g.outputs.now g.heads.now g.starts.now g.children.now order functions g.labels.now
     g.values.now ft q.new.costs q.new.ranks q.new.edges q.result.passes q.result.last (q.auto.ranks ∙ e) w
     g.rows.now pk g.c s c.if-rank-eq0.true
@@ -61,8 +63,8 @@ bounds-costs-c c =
       c.solve-run.auto.costs,
     )
 
-pub returns-then-cost-ge18446744073709551615 : goal.returns-then-cost-ge18446744073709551615
-returns-then-cost-ge18446744073709551615 c =
+pub returns-then-cost-ge18446744073709551615-clause-best : goal.returns-then-cost-ge18446744073709551615-clause-best
+returns-then-cost-ge18446744073709551615-clause-best c =
     λ order functions pk t root ft e.
     let g = c.args in
     let q = c.solve-run in
@@ -72,13 +74,13 @@ returns-then-cost-ge18446744073709551615 c =
     Solved n q.result.passes q.result.last g.outputs.now g.heads.now g.starts.now
     g.children.now q.new.costs q.new.ranks q.new.edges)
     e q.ensures in
-    let s = store g.records.now g.literals.now g.names.now g.terms g.symbols in
+    let s = held g.store.now in
     decide-dear t root g.outputs.now g.heads.now g.starts.now g.children.now order functions g.labels.now
     g.values.now ft q.new.costs q.new.ranks q.new.edges q.result.passes q.result.last (q.auto.ranks ∙ e) w
     g.rows.now pk g.c s (omega (arith, c.if-rank-eq0.false)) c.if-cost-ge18446744073709551615.true
 
-pub term-built-requires : goal.term-built-requires
-term-built-requires c =
+pub term-requires : goal.term-requires
+term-requires c =
     let a = c.requires.rows_ready.is in
     let g = c.args in
     let q = c.solve-run in
@@ -88,7 +90,7 @@ term-built-requires c =
     Solved n q.result.passes q.result.last g.outputs.now g.heads.now g.starts.now
     g.children.now q.new.costs q.new.ranks q.new.edges)
     a.classes q.ensures in
-    let s = store g.records.now g.literals.now g.names.now g.terms g.symbols in
+    let s = held g.store.now in
     let r = c.requires.rows_ready in
     ready a.table a.root g.outputs.now g.heads.now g.starts.now g.children.now r.order
     r.functions g.labels.now g.values.now a.is q.new.costs q.new.ranks q.new.edges q.result.passes
@@ -98,8 +100,8 @@ term-built-requires c =
       below = c.if-cost-ge18446744073709551615.false;
     })
 
-pub returns-in_default : goal.returns-in_default
-returns-in_default c =
+pub returns-in_err-term-clause-best : goal.returns-in_err-term-clause-best
+returns-in_err-term-clause-best c =
     λ order functions pk t root ft e.
     let g = c.args in
     let q = c.solve-run in
@@ -109,28 +111,24 @@ returns-in_default c =
     Solved n q.result.passes q.result.last g.outputs.now g.heads.now g.starts.now
     g.children.now q.new.costs q.new.ranks q.new.edges)
     e q.ensures in
-    let x = c.term-built in
-    let s = store g.records.now g.literals.now g.names.now g.terms g.symbols in
-    decide-full t root g.outputs.now g.heads.now g.starts.now g.children.now order functions g.labels.now
+    let x = c.term in
+    let h : ◌≡◌ {A = Option ℕ} x.result None = grind arith in
+    let r = err_from_is_err_and c.from_residual.result c.from_residual.ensures.1 in
+    let s = held g.store.now in
+    rw (refused_of x.result c.ok_or.ensures.value c.in_err-term.was r.1 r.2) (decide-full t root g.outputs.now g.heads.now g.starts.now g.children.now order functions g.labels.now
     g.values.now ft q.new.costs q.new.ranks q.new.edges q.result.passes q.result.last (q.auto.ranks ∙ e) w
     g.rows.now pk g.c s (omega (
       arith,
       c.if-rank-eq0.false,
-    )) c.if-cost-ge18446744073709551615.false x.new.records x.new.literals
-    x.new.names
+    )) c.if-cost-ge18446744073709551615.false (held x.new.store)
     (subst
-    (λ (b : Built).
-    record {
-      answer = b;
-      records = x.new.records;
-      literals = x.new.literals;
-      names = x.new.names;
-    }
+    (λ (b : Option ℕ).
+    record { answer = b; store = held x.new.store }
     ≡ whole (plan_of g.rows.now q.new.edges g.labels.now g.values.now) (get_or q.new.ranks g.c 0) s g.c)
-    c.in_default.is x.ensures)
+    h x.ensures.whole))
 
-pub returns : goal.returns
-returns c =
+pub returns-clause-best : goal.returns-clause-best
+returns-clause-best c =
     λ order functions pk t root ft e.
     let g = c.args in
     let q = c.solve-run in
@@ -140,22 +138,17 @@ returns c =
     Solved n q.result.passes q.result.last g.outputs.now g.heads.now g.starts.now
     g.children.now q.new.costs q.new.ranks q.new.edges)
     e q.ensures in
-    let x = c.term-built in
-    let s = store g.records.now g.literals.now g.names.now g.terms g.symbols in
+    let x = c.term in
+    let h : ◌≡◌ {A = Option ℕ} x.result (Some c.in_ok-term.term) = grind arith in
+    let s = held g.store.now in
     decide-found t root g.outputs.now g.heads.now g.starts.now g.children.now order functions g.labels.now
     g.values.now ft q.new.costs q.new.ranks q.new.edges q.result.passes q.result.last (q.auto.ranks ∙ e) w
     g.rows.now pk g.c s (omega (
       arith,
       c.if-rank-eq0.false,
-    )) c.if-cost-ge18446744073709551615.false _ _ _ x.new.records x.new.literals
-    x.new.names
+    )) c.if-cost-ge18446744073709551615.false _ (held x.new.store)
     (subst
-    (λ (b : Built).
-    record {
-      answer = b;
-      records = x.new.records;
-      literals = x.new.literals;
-      names = x.new.names;
-    }
+    (λ (b : Option ℕ).
+    record { answer = b; store = held x.new.store }
     ≡ whole (plan_of g.rows.now q.new.edges g.labels.now g.values.now) (get_or q.new.ranks g.c 0) s g.c)
-    c.in-Done.is x.ensures)
+    h x.ensures.whole)

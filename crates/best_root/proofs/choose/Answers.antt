@@ -3,10 +3,9 @@ use Prim.Native.Nat.{ℕ}
 use mathlib.Core.Path.{refl, sym, ◌∙◌}
 use native.Mathlib.Omega.{arith}
 use lib.ListN.{length-replicate}
-use Rattle.term_rules.specs.Lent.{store}
 use Rattle.price.proofs.ZeroLaws.{take-zeros-length, blank-lists}
 use Rattle.best_class.proofs.SolvedLaws.{pack-ready}
-use Rattle.best_root.proofs.SingleLaws.{few_classes, ready_with, choice-seen}
+use Rattle.best_root.proofs.SingleLaws.{few_classes, ready_with}
 use Rattle.best_root.proofs.choose.Goals as goal
 
 pub fill-requires : goal.fill-requires
@@ -42,11 +41,9 @@ decide-choice-requires c =
       blank = blank-lists c.args.w 512 _ refl l;
     }
 
-pub returns : goal.returns
-returns c t root v e =
+pub returns-clause-best : goal.returns-clause-best
+returns-clause-best c t root v e =
     let l = few_classes c.requires in
     let d = c.decide-choice in
-    let s = store c.args.records.now c.args.literals.now c.args.names.now c.args.terms c.args.symbols in
-    choice-seen s d.result c.answer_from.result _ _ _ _ c.answer_from.ensures
-    (d.ensures c.args.order.now c.args.functions.now c.fill.ensures t root v
-    (sym (take-zeros-length c.args.w 512 l) ∙ e))
+    d.ensures.best c.args.order.now c.args.functions.now c.fill.ensures t root v
+    (sym (take-zeros-length c.args.w 512 l) ∙ e)

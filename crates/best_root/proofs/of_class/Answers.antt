@@ -4,15 +4,15 @@ use mathlib.Core.Path.{sym, ◌∙◌}
 use native.Mathlib.Omega.{arith}
 use borrow.Author.Tests.{not-true, not-false}
 use lib.Seq.{length-take-le}
-use Rattle.term_rules.specs.Lent.{store}
+use Rattle.term_add.specs.Held.{held}
 use Rattle.best_root.proofs.SingleLaws.{unformed-refuses, formed-is}
 use Rattle.best_root.proofs.of_class.Goals as goal
 
-pub returns-then-not-check : goal.returns-then-not-check
-returns-then-not-check c t root v =
+pub returns-then-not-check-clause-best : goal.returns-then-not-check-clause-best
+returns-then-not-check-clause-best c t root v =
     let a = c.args in
-    unformed-refuses (store a.records.now a.literals.now a.names.now a.terms a.symbols) _
-    (sym c.check.ensures ∙ not-true _ c.if-not-check.true-raw)
+    unformed-refuses (held a.store.now) _
+    (sym (rw c.lent.ensures at c.check.ensures) ∙ not-true _ c.if-not-check.true-raw)
 
 pub slice_bounds-choose-end : goal.slice_bounds-choose-end
 slice_bounds-choose-end c = sym (length-take-le c.args.n c.args.flat.now c.requires.is.flattened.flat_room)
@@ -43,13 +43,13 @@ choose-requires c =
       is = p.is.is;
       classes = p.is.flattened.classes_are;
       class = p.is.class;
-      formed = sym c.check.ensures ∙
+      formed = sym (rw c.lent.ensures at c.check.ensures) ∙
           not-false _ c.if-not-check.false-raw;
     }
 
-pub returns : goal.returns
-returns c t root v =
+pub returns-clause-best : goal.returns-clause-best
+returns-clause-best c t root v =
     let a = c.args in
-    c.choose.ensures t root v.is v.flattened.classes_are
-    ∙ formed-is (store a.records.now a.literals.now a.names.now a.terms a.symbols) _
-    (sym c.check.ensures ∙ not-false _ c.if-not-check.false-raw)
+    c.choose.ensures.best t root v.is v.flattened.classes_are
+    ∙ formed-is (held a.store.now) _
+    (sym (rw c.lent.ensures at c.check.ensures) ∙ not-false _ c.if-not-check.false-raw)

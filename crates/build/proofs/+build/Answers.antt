@@ -5,13 +5,14 @@ use native.Mathlib.Omega.{arith}
 use Prim.Native.Nat.{ℕ, ◌-◌, ◌<◌, ◌≤◌}
 use mathlib.Core.Path.{◌≡◌, refl, sym, ap, ◌∙◌}
 use mathlib.Core.List.{List}
-use lib.ListN.{length, get_or}
+use lib.ListN.{length, get_or, take}
 use lib.Seq.{length-take-le, get_or-take}
 use lib.IntN.{pos}
 use Rattle.table_layout.specs.Rows.{children_at}
-use Rattle.term_rules.specs.Lent.{store}
-use Rattle.build.specs.Plan.{Plan, child_of, plan_of}
+use Rattle.term_add.specs.Held.{held, SameLoans}
+use Rattle.build.specs.Plan.{Plan, child_of, plan_in}
 use Rattle.build.specs.Building.{State, state}
+use Rattle.build.proofs.OwnLaws.{added-of-gains, same-loans}
 use Rattle.build.proofs.PlanLaws.{child_of-class, child_of-value, children-few, ranked-of-planned}
 use Rattle.build.proofs.TurnLaws.{Arrives, exact-of-kept, made-of-class, made-of-value, turn-go, turn-stop, turn_end}
 use Rattle.build.proofs.+build.Goals as goal
@@ -22,54 +23,65 @@ build-child :
     (t : ℕ) (c : Joined-x-lt512 t) →
     let a = c.args in
     let l = c.loop-j in
-    Arrives (plan_of a.rows.now a.edges.now a.labels.now a.values.now) a.level
-    (state l.memo (store l.records l.literals l.names l.n l.k))
-    (child_of a.values.now (get_or (children_at a.rows.now (get_or a.edges.now a.c 0)) l.j 0)) c.if-x-lt512.r
-    c.if-x-lt512.memo c.if-x-lt512.records c.if-x-lt512.literals c.if-x-lt512.names
+    Arrives (plan_in a.plan.now) a.level
+    (state l.memo (held l.store))
+    (child_of a.plan.now.values.now
+    (get_or (children_at a.plan.now.rows.now (get_or a.plan.now.edges.now a.c 0)) l.j 0)) c.if-x-lt512.built
+    c.if-x-lt512.memo (held c.if-x-lt512.store)
 build-child t c =
     let a = c.args in
     let ready = c.requires in
     let p = ready.planned _ ready.ranked in
     let l = c.loop-j in
-    let at : State = state l.memo (store l.records l.literals l.names l.n l.k) in
-    let q : Plan = plan_of a.rows.now a.edges.now a.labels.now a.values.now in
-    let x : ℕ = get_or (children_at a.rows.now (get_or a.edges.now a.c 0)) l.j 0 in
-    let h : l.j < length (children_at a.rows.now (get_or a.edges.now a.c 0)) = omega (
+    let at : State = state l.memo (held l.store) in
+    let q : Plan = plan_in a.plan.now in
+    let x : ℕ = get_or (children_at a.plan.now.rows.now (get_or a.plan.now.edges.now a.c 0)) l.j 0 in
+    let h : l.j < length (children_at a.plan.now.rows.now (get_or a.plan.now.edges.now a.c 0)) = omega (
       arith,
       c.loop-j-test.true,
       ap length l.invariant.1.0,
     ) in
-    let e : c.wide-x.result ≡ x = c.wide-x.ensures ∙ ap (λ (ks : List ℕ). get_or ks l.j 0) l.invariant.1.0 in
+    let e : c.from-x.result ≡ x = c.from-x.ensures ∙ ap (λ (ks : List ℕ). get_or ks l.j 0) l.invariant.1.0 in
     let d = p.child l.j h in
     let ranked =
-    ranked-of-planned ready.rank a.rows.now a.edges.now a.labels.now a.values.now ready.planned
+    ranked-of-planned ready.rank a.plan.now.rows.now a.plan.now.edges.now a.plan.now.labels.now
+    a.plan.now.values.now ready.planned
     in
     elim c.if-x-lt512.branch [
       | then-x-lt512 w ↦
           let u : x < 512 = rw e at w.if-x-lt512.true in
-          rw (w.r-is, w.memo-is, w.records-is, w.literals-is, w.names-is, child_of-class a.values.now x u)
+          rw (w.built-is, w.memo-is, w.store-is, child_of-class a.plan.now.values.now x u)
           (record {
             made =
-                made-of-class q ready.rank ranked a.level at l.invariant.1.1.tracks _ x (d.ranked u)
-                (omega (arith, d.falls u, ready.enough)) (rw e at w.build-r.ensures);
-            memo = w.build-r.auto.memo;
-            records = w.build-r.auto.records;
-            literals = w.build-r.auto.literals;
-            names = w.build-r.auto.names;
+                made-of-class q ready.rank ranked a.level at l.invariant.1.1.1.tracks _ x (d.ranked u)
+                (omega (arith, d.falls u, ready.enough)) (rw e at w.build-built.ensures.built);
+            memo = w.build-built.auto.memo;
           })
       | else-x-lt512 w ↦
           let u : 512 ≤ x = rw e at w.if-x-lt512.false in
-          rw (w.r-is, w.memo-is, w.records-is, w.literals-is, w.names-is, child_of-value a.values.now x u)
+          rw (w.built-is, w.memo-is, w.store-is, child_of-value a.plan.now.values.now x u)
           (record {
             made =
-                made-of-value q ready.rank ranked a.level at l.invariant.1.1.tracks _
-                (get_or a.values.now (x - 512) (pos 0)) (rw e at (w.literal_term-r.ensures l.memo));
+                made-of-value q ready.rank ranked a.level at l.invariant.1.1.1.tracks _
+                (get_or a.plan.now.values.now (x - 512) (pos 0))
+                (added-of-gains l.memo (held l.store) _ _ _ (rw e at w.literal_term-built.ensures.gains));
             memo = refl;
-            records = w.literal_term-r.auto.records;
-            literals = w.literal_term-r.auto.literals;
-            names = refl;
           })
     ]
+
+-- the same slices are lent after it
+child-loans : (t : ℕ) (c : Joined-x-lt512 t) → SameLoans c.loop-j.store c.if-x-lt512.store
+child-loans t c = elim c.if-x-lt512.branch [
+  | then-x-lt512 w ↦ rw w.store-is w.build-built.ensures.loans
+  | else-x-lt512 w ↦ rw w.store-is w.literal_term-built.ensures.loans
+]
+
+pub returns-in_err-term-clause-loans : goal.returns-in_err-term-clause-loans
+returns-in_err-term-clause-loans t c =
+    same-loans c.loop-j.invariant.1.1.0 (child-loans t (goal.at.returns-in_err-term-clause-loans t c).Joined-x-lt512)
+
+pub returns-clause-loans : goal.returns-clause-loans
+returns-clause-loans t c = same-loans c.loop-j.invariant.1.1.0 c.own_term.ensures.loans
 
 pub offset_bounds-memo-c : goal.offset_bounds-memo-c
 offset_bounds-memo-c t c = omega (arith, c.requires.inside _ c.requires.ranked)
@@ -77,42 +89,42 @@ offset_bounds-memo-c t c = omega (arith, c.requires.inside _ c.requires.ranked)
 pub bounds-memo-c : goal.bounds-memo-c
 bounds-memo-c t c = c.requires.inside _ c.requires.ranked
 
-pub returns-then-m-gt0 : goal.returns-then-m-gt0
-returns-then-m-gt0 t c =
+pub returns-then-m-gt0-clause-built : goal.returns-then-m-gt0-clause-built
+returns-then-m-gt0-clause-built t c =
     let a = c.args in
-    rw c.wide.ensures
-    (exact-of-kept (plan_of a.rows.now a.edges.now a.labels.now a.values.now)
-    (state a.memo.now (store a.records.now a.literals.now a.names.now a.terms a.symbols))
+    rw c.from.ensures
+    (exact-of-kept (plan_in a.plan.now)
+    (state a.memo.now (held a.store.now))
     a.c a.level c.if-m-gt0.true)
 
-pub offset_bounds-edges-c : goal.offset_bounds-edges-c
-offset_bounds-edges-c t c = omega (arith, (c.requires.planned _ c.requires.ranked).place)
+pub offset_bounds-plan-c : goal.offset_bounds-plan-c
+offset_bounds-plan-c t c = omega (arith, (c.requires.planned _ c.requires.ranked).place)
 
-pub bounds-edges-c : goal.bounds-edges-c
-bounds-edges-c t c = (c.requires.planned _ c.requires.ranked).place
+pub bounds-plan-c : goal.bounds-plan-c
+bounds-plan-c t c = (c.requires.planned _ c.requires.ranked).place
 
 pub children_of-kids-requires : goal.children_of-kids-requires
 children_of-kids-requires t c =
     let p = c.requires.planned _ c.requires.ranked in
-    record { has_row = rw c.wide-i.ensures p.whole; i_bound = rw c.wide-i.ensures p.few }
+    record { has_row = rw c.from-i.ensures p.whole; i_bound = rw c.from-i.ensures p.few }
 
 pub loop-j-init : goal.loop-j-init
 loop-j-init t c =
-    let e = c.wide-i.ensures in (
+    let e = c.from-i.ensures in (
       e,
       (
         rw e at c.children_of-kids.ensures,
-        record {
-          within = omega arith;
-          long = refl;
-          memo = refl;
-          records = refl;
-          literals = refl;
-          names = refl;
-          tracks = c.requires.tracks;
-          below = λ i l. absurd (omega arith);
-          same = λ f l. refl;
-        },
+        (
+          record { records = refl; literals = refl; names = refl },
+          record {
+            within = omega arith;
+            long = refl;
+            memo = refl;
+            tracks = c.requires.tracks;
+            below = λ i l. absurd (omega arith);
+            same = λ f l. refl;
+          },
+        ),
       ),
     )
 
@@ -124,7 +136,7 @@ offset_bounds-kids-j t c =
       arith,
       c.loop-j-test.true,
       ap length l.invariant.1.0,
-      children-few c.args.rows.now (get_or c.args.edges.now c.args.c 0),
+      children-few c.args.plan.now.rows.now (get_or c.args.plan.now.edges.now c.args.c 0),
       p.few,
     )
 
@@ -136,27 +148,27 @@ overflow_sub-level t c =
     let a = c.args in
     let p = c.requires.planned _ c.requires.ranked in
     let l = c.loop-j in
-    let h : l.j < length (children_at a.rows.now (get_or a.edges.now a.c 0)) = omega (
+    let h : l.j < length (children_at a.plan.now.rows.now (get_or a.plan.now.edges.now a.c 0)) = omega (
       arith,
       c.loop-j-test.true,
       ap length l.invariant.1.0,
     ) in
-    let e = c.wide-x.ensures ∙ ap (λ (ks : List ℕ). get_or ks l.j 0) l.invariant.1.0 in
+    let e = c.from-x.ensures ∙ ap (λ (ks : List ℕ). get_or ks l.j 0) l.invariant.1.0 in
     let d = p.child l.j h in
     let u = rw e at c.if-x-lt512.true in
     omega (arith, d.falls u, c.requires.enough)
 
-pub build-r-requires : goal.build-r-requires
-build-r-requires t c =
+pub build-built-requires : goal.build-built-requires
+build-built-requires t c =
     let a = c.args in
     let p = c.requires.planned _ c.requires.ranked in
     let l = c.loop-j in
-    let h : l.j < length (children_at a.rows.now (get_or a.edges.now a.c 0)) = omega (
+    let h : l.j < length (children_at a.plan.now.rows.now (get_or a.plan.now.edges.now a.c 0)) = omega (
       arith,
       c.loop-j-test.true,
       ap length l.invariant.1.0,
     ) in
-    let e = c.wide-x.ensures ∙ ap (λ (ks : List ℕ). get_or ks l.j 0) l.invariant.1.0 in
+    let e = c.from-x.ensures ∙ ap (λ (ks : List ℕ). get_or ks l.j 0) l.invariant.1.0 in
     let d = p.child l.j h in
     let u = rw e at c.if-x-lt512.true in (
       omega (arith, d.falls u, c.requires.enough),
@@ -164,70 +176,58 @@ build-r-requires t c =
           (record {
             rank = c.requires.rank;
             planned = c.requires.planned;
-            inside = λ i q. rw l.invariant.1.1.memo (c.requires.inside i q);
-            tracks = l.invariant.1.1.tracks;
+            inside = λ i q. rw l.invariant.1.1.1.memo (c.requires.inside i q);
+            tracks = l.invariant.1.1.1.tracks;
             ranked = d.ranked u;
             enough = omega (arith, d.falls u, c.requires.enough);
           }),
     )
 
-pub literal_term-r-requires : goal.literal_term-r-requires
-literal_term-r-requires t c =
+pub literal_term-built-requires : goal.literal_term-built-requires
+literal_term-built-requires t c =
     let a = c.args in
     let p = c.requires.planned _ c.requires.ranked in
     let l = c.loop-j in
-    let h : l.j < length (children_at a.rows.now (get_or a.edges.now a.c 0)) = omega (
+    let h : l.j < length (children_at a.plan.now.rows.now (get_or a.plan.now.edges.now a.c 0)) = omega (
       arith,
       c.loop-j-test.true,
       ap length l.invariant.1.0,
     ) in
-    let e = c.wide-x.ensures ∙ ap (λ (ks : List ℕ). get_or ks l.j 0) l.invariant.1.0 in
+    let e = c.from-x.ensures ∙ ap (λ (ks : List ℕ). get_or ks l.j 0) l.invariant.1.0 in
     let d = p.child l.j h in
     record {
-      symbols_value = l.invariant.1.1.tracks.formed;
+      sound = l.invariant.1.1.1.tracks.formed;
       i_in_bounds = rw e (d.known (rw e at c.if-x-lt512.false));
     }
 
-pub shape_of-memo-in_default : goal.shape_of-memo-in_default
-shape_of-memo-in_default t c = (build-child t (goal.at.shape_of-memo-in_default t c).Joined-x-lt512).memo ∙ c.loop-j.invariant.1.1.memo
-
-pub shape_of-records-in_default : goal.shape_of-records-in_default
-shape_of-records-in_default t c = (build-child t (goal.at.shape_of-records-in_default t c).Joined-x-lt512).records ∙ c.loop-j.invariant.1.1.records
-
-pub shape_of-literals-in_default : goal.shape_of-literals-in_default
-shape_of-literals-in_default t c = (build-child t (goal.at.shape_of-literals-in_default t c).Joined-x-lt512).literals ∙ c.loop-j.invariant.1.1.literals
-
-pub shape_of-names-in_default : goal.shape_of-names-in_default
-shape_of-names-in_default t c = (build-child t (goal.at.shape_of-names-in_default t c).Joined-x-lt512).names ∙ c.loop-j.invariant.1.1.names
-
-pub returns-in_default : goal.returns-in_default
-returns-in_default t c =
+pub returns-in_err-term-clause-built : goal.returns-in_err-term-clause-built
+returns-in_err-term-clause-built t c =
     let a = c.args in
     let p = c.requires.planned _ c.requires.ranked in
     let l = c.loop-j in
-    let few : length (children_at a.rows.now (get_or a.edges.now a.c 0)) ≤ 8 = omega (
+    let few : length (children_at a.plan.now.rows.now (get_or a.plan.now.edges.now a.c 0)) ≤ 8 = omega (
       arith,
-      children-few a.rows.now (get_or a.edges.now a.c 0),
+      children-few a.plan.now.rows.now (get_or a.plan.now.edges.now a.c 0),
       p.few,
     ) in
-    let h : l.j < length (children_at a.rows.now (get_or a.edges.now a.c 0)) = omega (
+    let h : l.j < length (children_at a.plan.now.rows.now (get_or a.plan.now.edges.now a.c 0)) = omega (
       arith,
       c.loop-j-test.true,
       ap length l.invariant.1.0,
     ) in
-    let w = rw c.in_default.is at (build-child t (goal.at.returns-in_default t c).Joined-x-lt512) in
-    turn-stop (plan_of a.rows.now a.edges.now a.labels.now a.values.now) a.level a.values.now
-    (children_at a.rows.now (get_or a.edges.now a.c 0)) few
-    _ _ l.children l.j l.invariant.1.1 a.c refl c.if-m-gt0.false h _ _ _ _ w.made
+    let w = rw c.in_err-term.was at (build-child t (goal.at.returns-in_err-term-clause-built t c).Joined-x-lt512) in
+    rw c.from_residual.ensures (turn-stop (plan_in a.plan.now) a.level a.plan.now.values.now
+    (children_at a.plan.now.rows.now (get_or a.plan.now.edges.now a.c 0)) few
+    _ _ l.children l.j l.invariant.1.1.1 a.c refl c.if-m-gt0.false h _ _ _ _ w.made)
 
 pub offset_bounds-children-j : goal.offset_bounds-children-j
 offset_bounds-children-j t c =
     let a = c.args in
     let p = c.requires.planned _ c.requires.ranked in
     let l = c.loop-j in
-    let few : length (children_at a.rows.now (get_or a.edges.now a.c 0)) ≤ 8 = omega (
+    let few : length (children_at a.plan.now.rows.now (get_or a.plan.now.edges.now a.c 0)) ≤ 8 = omega (
       arith,
-      children-few a.rows.now (get_or a.edges.now a.c 0),
+      children-few a.plan.now.rows.now (get_or a.plan.now.edges.now a.c 0),
       p.few,
     ) in
     omega (arith, few, c.loop-j-test.true, ap length l.invariant.1.0)
@@ -237,21 +237,9 @@ bounds-children-j t c =
     let a = c.args in
     let p = c.requires.planned _ c.requires.ranked in
     let l = c.loop-j in
-    let few : length (children_at a.rows.now (get_or a.edges.now a.c 0)) ≤ 8 = omega (
+    let few : length (children_at a.plan.now.rows.now (get_or a.plan.now.edges.now a.c 0)) ≤ 8 = omega (
       arith,
-      children-few a.rows.now (get_or a.edges.now a.c 0),
-      p.few,
-    ) in
-    omega (arith, few, c.loop-j-test.true, ap length l.invariant.1.0)
-
-pub overflow_add-j : goal.overflow_add-j
-overflow_add-j t c =
-    let a = c.args in
-    let p = c.requires.planned _ c.requires.ranked in
-    let l = c.loop-j in
-    let few : length (children_at a.rows.now (get_or a.edges.now a.c 0)) ≤ 8 = omega (
-      arith,
-      children-few a.rows.now (get_or a.edges.now a.c 0),
+      children-few a.plan.now.rows.now (get_or a.plan.now.edges.now a.c 0),
       p.few,
     ) in
     omega (arith, few, c.loop-j-test.true, ap length l.invariant.1.0)
@@ -261,23 +249,26 @@ loop-j-preserved t c =
     let a = c.args in
     let p = c.requires.planned _ c.requires.ranked in
     let l = c.loop-j in
-    let few : length (children_at a.rows.now (get_or a.edges.now a.c 0)) ≤ 8 = omega (
+    let few : length (children_at a.plan.now.rows.now (get_or a.plan.now.edges.now a.c 0)) ≤ 8 = omega (
       arith,
-      children-few a.rows.now (get_or a.edges.now a.c 0),
+      children-few a.plan.now.rows.now (get_or a.plan.now.edges.now a.c 0),
       p.few,
     ) in
-    let h : l.j < length (children_at a.rows.now (get_or a.edges.now a.c 0)) = omega (
+    let h : l.j < length (children_at a.plan.now.rows.now (get_or a.plan.now.edges.now a.c 0)) = omega (
       arith,
       c.loop-j-test.true,
       ap length l.invariant.1.0,
     ) in
-    let w = rw c.in-Done.is at (build-child t (goal.at.loop-j-preserved t c).Joined-x-lt512) in (
+    let w = rw c.in_ok-term.was at (build-child t (goal.at.loop-j-preserved t c).Joined-x-lt512) in (
       l.invariant.0,
       (
         l.invariant.1.0,
-        turn-go (plan_of a.rows.now a.edges.now a.labels.now a.values.now) a.level a.values.now
-            (children_at a.rows.now (get_or a.edges.now a.c 0)) few
-            _ _ l.children l.j l.invariant.1.1 h _ _ w.made w.memo w.records w.literals w.names,
+        (
+          same-loans l.invariant.1.1.0 (child-loans t (goal.at.loop-j-preserved t c).Joined-x-lt512),
+          turn-go (plan_in a.plan.now) a.level a.plan.now.values.now
+              (children_at a.plan.now.rows.now (get_or a.plan.now.edges.now a.c 0)) few
+              _ _ l.children l.j l.invariant.1.1.1 h _ _ w.made w.memo,
+        ),
       ),
     )
 
@@ -289,68 +280,71 @@ slice_bounds-children-end t c =
     let a = c.args in
     let p = c.requires.planned _ c.requires.ranked in
     let l = c.loop-j in
-    let few : length (children_at a.rows.now (get_or a.edges.now a.c 0)) ≤ 8 = omega (
+    let few : length (children_at a.plan.now.rows.now (get_or a.plan.now.edges.now a.c 0)) ≤ 8 = omega (
       arith,
-      children-few a.rows.now (get_or a.edges.now a.c 0),
+      children-few a.plan.now.rows.now (get_or a.plan.now.edges.now a.c 0),
       p.few,
     ) in
-    omega (arith, few, l.invariant.1.1.within, l.invariant.1.1.long)
+    omega (arith, few, l.invariant.1.1.1.within, l.invariant.1.1.1.long)
 
 pub slice_bounds-own_term-end : goal.slice_bounds-own_term-end
 slice_bounds-own_term-end t c =
     let a = c.args in
     let p = c.requires.planned _ c.requires.ranked in
     let l = c.loop-j in
-    let few : length (children_at a.rows.now (get_or a.edges.now a.c 0)) ≤ 8 = omega (
+    let few : length (children_at a.plan.now.rows.now (get_or a.plan.now.edges.now a.c 0)) ≤ 8 = omega (
       arith,
-      children-few a.rows.now (get_or a.edges.now a.c 0),
+      children-few a.plan.now.rows.now (get_or a.plan.now.edges.now a.c 0),
       p.few,
     ) in
-    sym (length-take-le l.j l.children (omega (arith, few, l.invariant.1.1.within, l.invariant.1.1.long)))
+    let n : l.j ≡ length c.children_of-kids.result.now = omega (arith, l.invariant.1.1.1.within, c.loop-j-test.false, ap length l.invariant.1.0) in
+    rw (← n) (sym (length-take-le l.j l.children (omega (arith, few, l.invariant.1.1.1.within, l.invariant.1.1.1.long))))
 
 pub own_term-requires : goal.own_term-requires
 own_term-requires t c =
     let a = c.args in
     let p = c.requires.planned _ c.requires.ranked in
     let l = c.loop-j in
-    let few : length (children_at a.rows.now (get_or a.edges.now a.c 0)) ≤ 8 = omega (
+    let few : length (children_at a.plan.now.rows.now (get_or a.plan.now.edges.now a.c 0)) ≤ 8 = omega (
       arith,
-      children-few a.rows.now (get_or a.edges.now a.c 0),
+      children-few a.plan.now.rows.now (get_or a.plan.now.edges.now a.c 0),
       p.few,
     ) in
-    let e = length-take-le l.j l.children (omega (arith, few, l.invariant.1.1.within, l.invariant.1.1.long)) in
+    let n : l.j ≡ length c.children_of-kids.result.now = omega (arith, l.invariant.1.1.1.within, c.loop-j-test.false, ap length l.invariant.1.0) in
+    let e : length (take (length c.children_of-kids.result.now) l.children) ≡ l.j = rw (← n) (length-take-le l.j l.children (omega (arith, few, l.invariant.1.1.1.within, l.invariant.1.1.1.long))) in
     let g = c.function_of-f.ensures in
     let k = l.invariant.0 in
     record {
       entry = rw (g, k) p.label.entry;
       short = rw (g, k) p.label.short;
       named = rw (g, k) p.label.named;
-      few = omega (arith, few, e, l.invariant.1.1.within);
+      few = omega (arith, few, e, l.invariant.1.1.1.within);
       below = λ j h.
-          let i : j < l.j = omega (arith, e) in rw (get_or-take l.j l.children j 0 i) (l.invariant.1.1.below j i);
-      memo = rw l.invariant.1.1.memo (c.requires.inside _ c.requires.ranked);
-      formed = l.invariant.1.1.tracks.formed;
+          let i : j < l.j = omega (arith, e) in rw (← n, get_or-take l.j l.children j 0 i) (l.invariant.1.1.1.below j i);
+      memo = rw l.invariant.1.1.1.memo (c.requires.inside _ c.requires.ranked);
+      formed = l.invariant.1.1.1.tracks.formed;
     }
 
-pub returns : goal.returns
-returns t c =
+pub returns-clause-built : goal.returns-clause-built
+returns-clause-built t c =
     let a = c.args in
     let p = c.requires.planned _ c.requires.ranked in
     let l = c.loop-j in
-    let few : length (children_at a.rows.now (get_or a.edges.now a.c 0)) ≤ 8 = omega (
+    let few : length (children_at a.plan.now.rows.now (get_or a.plan.now.edges.now a.c 0)) ≤ 8 = omega (
       arith,
-      children-few a.rows.now (get_or a.edges.now a.c 0),
+      children-few a.plan.now.rows.now (get_or a.plan.now.edges.now a.c 0),
       p.few,
     ) in
     let g = c.function_of-f.ensures in
     let k = l.invariant.0 in
     let e =
-    turn_end (plan_of a.rows.now a.edges.now a.labels.now a.values.now) a.level a.values.now
-    (children_at a.rows.now (get_or a.edges.now a.c 0)) few
-    _ _ l.children l.j l.invariant.1.1 a.c refl c.if-m-gt0.false
+    turn_end (plan_in a.plan.now) a.level a.plan.now.values.now
+    (children_at a.plan.now.rows.now (get_or a.plan.now.edges.now a.c 0)) few
+    _ _ l.children l.j l.invariant.1.1.1 a.c refl c.if-m-gt0.false
     (omega (
       arith,
       c.loop-j-test.false,
       ap length l.invariant.1.0,
     )) in
-    λ f h. e f h ∙ rw (g, k) at c.own_term.ensures
+    let n : l.j ≡ length c.children_of-kids.result.now = omega (arith, l.invariant.1.1.1.within, c.loop-j-test.false, ap length l.invariant.1.0) in
+    λ f h. e f h ∙ rw (g, k, ← n) at c.own_term.ensures.built

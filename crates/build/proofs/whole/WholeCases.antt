@@ -14,7 +14,7 @@ use Rattle.term_rules.specs.Adding.{first_from, find_term, symbol_for, with_name
 use Rattle.build.specs.Plan.{child_of, plan_of}
 use Rattle.build.specs.Building.{added, kept, child_in, children_in, own_in, build_in}
 use Rattle.build.specs.Whole.{left, whole}
-use Rattle.build.specs.declared.Built.TheVariants.{Full}
+use Rattle.std.specs.Prelude.{None}
 
 -- `Num` is function 0, `Add` function 1
 abbrev labels : List ℕ
@@ -34,7 +34,7 @@ abbrev empty : ℕ → Store
 empty n = store (replicate (records_length n) 0) (replicate n (pos 0)) (replicate 64 0) 0 0
 
 -- three places are one too few
-no_room : (whole (plan_of rows edges labels (pos 5 ∷ [])) 3 (empty 3) 2).answer ≡ Full
+no_room : (whole (plan_of rows edges labels (pos 5 ∷ [])) 3 (empty 3) 2).answer ≡ None
 unfolding whole left build_in own_in children_in child_in kept added add room_for room_for_name append with_record with_name
     symbol_for find_term first_from record_of same_node node_at node_of same_int by_kind symbol_room term_room record_in find_name
     find_from put_name entry name_at same child_of

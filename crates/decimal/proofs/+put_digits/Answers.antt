@@ -24,10 +24,6 @@ bounds-out-n t c =
       c.put_digits-n.ensures.long,
     )
 
-pub overflow_add-result : goal.overflow_add-result
-overflow_add-result t c =
-    omega (arith, c.requires, digits-length-more c.args.x c.if-x-lt10.false, c.put_digits-n.ensures.long)
-
 pub returns-then-x-lt10 : goal.returns-then-x-lt10
 returns-then-x-lt10 t c =
     let a = c.args in

@@ -8,8 +8,8 @@ use native.Mathlib.Decide.{dec_lt}
 use native.Mathlib.Omega.{arith}
 use lib.ListN.{length, get_or, length-take}
 use lib.Seq.{get_or-take}
-use Rattle.order.specs.declared.Ordering.{Ordering}
-use Rattle.order.specs.declared.Ordering.TheVariants.{Less, Same, More}
+use Rattle.std.specs.declared.cmp.Ordering.{Ordering}
+use Rattle.std.specs.declared.cmp.Ordering.TheVariants.{Less, Equal, Greater}
 use Rattle.order.specs.Compare.{then_by, numbers, lists, up_to}
 use Rattle.order.proofs.OrderLaws.{numbers_more}
 use Rattle.order.specs.Sort.{count, Sorted, none, more, sorted}
@@ -103,8 +103,8 @@ not-in-get z (x ∷ l) n (suc j) h e = not-in-get z l n.1 j (omega arith) e
 -- What comes no later comes first by its key, and costs no more.
 first-decides : (o p : Ordering) → up_to (then_by o p) ≡ true → up_to o ≡ true
 first-decides Less p e = refl
-first-decides Same p e = refl
-first-decides More p e = e
+first-decides Equal p e = refl
+first-decides Greater p e = e
 
 by_key : (key : ℕ → Key) (a b : ℕ) → no_later key a b ≡ true → up_to (compare_keys (key a) (key b)) ≡ true
 unfolding compare_rows
@@ -120,7 +120,7 @@ first-cheaper a b e = go (dec_lt b.cost a.cost)
     go : Dec (b.cost < a.cost) → a.cost ≤ b.cost
     go (no l) = omega arith
     go (yes l) =
-        let n : numbers a.cost b.cost ≡ More = numbers_more a.cost b.cost l in
+        let n : numbers a.cost b.cost ≡ Greater = numbers_more a.cost b.cost l in
         let o : up_to (numbers a.cost b.cost) ≡ true =
         first-decides (numbers a.cost b.cost) (then_by (lists a.name b.name) (lists a.cells b.cells))
         e in

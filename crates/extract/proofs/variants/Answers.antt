@@ -1,85 +1,58 @@
 -- `extract::variants` meets its contract: the table is loaded, then a literal or a class answered. Assumes nothing.
-use mathlib.Core.Path.{refl}
-use Rattle.term_rules.specs.Lent.{store}
+use mathlib.Core.Path.{ap, ◌∙◌}
+use Rattle.std.specs.Prelude.{Ok}
+use Rattle.std.proofs.lemmas.Result.{err_from_is_err_and}
+use Rattle.term_add.specs.Held.{held}
 use Rattle.variant_answers.specs.Kept.{lending}
-use Rattle.extract.proofs.CallLaws.{space-of, literal-values, literal-inside, class-functions, class-labels, class-values}
-use Rattle.extract.proofs.VariantCallLaws.{refused-variants, variant-of-literal, class-cells, some-table, variants-of-class}
+use Rattle.extract.proofs.CallLaws.{space-of, literal-inside}
+use Rattle.extract.proofs.VariantCallLaws.{refused-variants, variant-of-literal, some-table, variants-of-class}
 use native.Mathlib.Omega.{arith}
 use Rattle.extract.proofs.variants.Goals as goal
 
-pub load-loaded-requires : goal.load-loaded-requires
-load-loaded-requires c =
+pub load-requires : goal.load-requires
+load-requires c =
     record {
-      literals_value = refl;
-      blank = record { names_zero = refl; arities_zero = refl; row_functions_zero = refl; cells_zero = refl };
+      table_value = c.empty-table.ensures;
       space = space-of 1024 1025 8192 (omega arith) (omega arith) (omega arith);
     }
-
-pub slice_bounds-of_literal-end : goal.slice_bounds-of_literal-end
-slice_bounds-of_literal-end c =
-    let a = c.args in
-    let d = c.load-loaded in
-    literal-values a.file.now a.sort a.value d.result _ _ _ _ _ _ _ _ _ _ d.ensures _ c.in-Literal.is
 
 pub of_literal-requires : goal.of_literal-requires
 of_literal-requires c =
     let a = c.args in
-    let d = c.load-loaded in
-    literal-inside a.file.now a.sort a.value d.result _ _ _ _ _ _ _ _ _ _ d.ensures _ c.in-Literal.is
-
-pub slice_bounds-of_class-end-in-Class-5 : goal.slice_bounds-of_class-end-in-Class-5
-slice_bounds-of_class-end-in-Class-5 c =
-    let a = c.args in
-    let d = c.load-loaded in
-    class-functions a.file.now a.sort a.value d.result _ _ _ _ _ _ _ _ _ _ d.ensures _ _ _ _ c.in-Class.is
-
-pub slice_bounds-of_class-end-in-Class-6 : goal.slice_bounds-of_class-end-in-Class-6
-slice_bounds-of_class-end-in-Class-6 c =
-    let a = c.args in
-    let d = c.load-loaded in
-    class-labels a.file.now a.sort a.value d.result _ _ _ _ _ _ _ _ _ _ d.ensures _ _ _ _ c.in-Class.is
-
-pub slice_bounds-of_class-end-in-Class-7 : goal.slice_bounds-of_class-end-in-Class-7
-slice_bounds-of_class-end-in-Class-7 c =
-    let a = c.args in
-    let d = c.load-loaded in
-    class-values a.file.now a.sort a.value d.result _ _ _ _ _ _ _ _ _ _ d.ensures _ _ _ _ c.in-Class.is
-
-pub slice_bounds-of_class-end-in-Class-8 : goal.slice_bounds-of_class-end-in-Class-8
-slice_bounds-of_class-end-in-Class-8 c =
-    let a = c.args in
-    let d = c.load-loaded in
-    class-cells a.file.now a.sort a.value d.result _ _ _ _ _ _ _ _ _ _ d.ensures _ _ _ _ c.in-Class.is
+    let d = c.load in
+    literal-inside a.file.now a.sort a.value d.result _ _ _ _ _ _ _ _ _ _ d.ensures _ (c.in_ok-loaded.was ∙ ap Ok c.in-Literal.is)
 
 pub of_class-requires : goal.of_class-requires
 of_class-requires c =
     let a = c.args in
-    let d = c.load-loaded in
-    some-table a.file.now a.sort a.value d.result _ _ _ _ _ _ _ _ _ _ d.ensures _ _ _ _ c.in-Class.is
+    let d = c.load in
+    some-table a.file.now a.sort a.value d.result _ _ _ _ _ _ _ _ _ _ d.ensures _ _ _ _ (c.in_ok-loaded.was ∙ ap Ok c.in-Class.is)
 
-pub returns-in-Refused : goal.returns-in-Refused
-returns-in-Refused c =
+pub returns-in_err-loaded-clause-variants : goal.returns-in_err-loaded-clause-variants
+returns-in_err-loaded-clause-variants c =
     let a = c.args in
-    let d = c.load-loaded in
-    refused-variants a.file.now a.sort a.value d.result _ _ _ _ _ _ _ _ _ _ d.ensures _ c.in-Refused.is
+    let d = c.load in
+    let p = err_from_is_err_and c.from_residual.result c.from_residual.ensures.1 in
+    rw (p.1, p.2)
+    (refused-variants a.file.now a.sort a.value d.result _ _ _ _ _ _ _ _ _ _ d.ensures _ c.in_err-loaded.was
     a.most
-    (lending (store a.records.now a.literals.now a.names.now a.terms a.symbols) a.costs.now
-    a.found.now)
+    (lending (held a.store.now) a.costs.now
+    a.found.now))
 
-pub returns-in-Literal : goal.returns-in-Literal
-returns-in-Literal c =
+pub returns-in-Literal-clause-variants : goal.returns-in-Literal-clause-variants
+returns-in-Literal-clause-variants c =
     let a = c.args in
-    let d = c.load-loaded in
-    variant-of-literal a.file.now a.sort a.value d.result _ _ _ _ _ _ _ _ _ _ d.ensures _ c.in-Literal.is
+    let d = c.load in
+    variant-of-literal a.file.now a.sort a.value d.result _ _ _ _ _ _ _ _ _ _ d.ensures _ (c.in_ok-loaded.was ∙ ap Ok c.in-Literal.is)
     a.most
-    (lending (store a.records.now a.literals.now a.names.now a.terms a.symbols) a.costs.now
-    a.found.now) _ c.of_literal.ensures
+    (lending (held a.store.now) a.costs.now
+    a.found.now) _ c.of_literal.ensures.variants
 
-pub returns-in-Class : goal.returns-in-Class
-returns-in-Class c =
+pub returns-in-Class-clause-variants : goal.returns-in-Class-clause-variants
+returns-in-Class-clause-variants c =
     let a = c.args in
-    let d = c.load-loaded in
+    let d = c.load in
     variants-of-class a.file.now a.sort a.value d.result _ _ _ _ _ _ _ _ _ _ d.ensures _ _ _ _
-    c.in-Class.is a.most
-    (lending (store a.records.now a.literals.now a.names.now a.terms a.symbols) a.costs.now
-    a.found.now) _ c.of_class.ensures
+    (c.in_ok-loaded.was ∙ ap Ok c.in-Class.is) a.most
+    (lending (held a.store.now) a.costs.now
+    a.found.now) _ c.of_class.ensures.variants

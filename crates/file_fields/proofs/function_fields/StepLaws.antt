@@ -5,16 +5,17 @@ use mathlib.Core.Path.{◌≡◌}
 use lib.ListN.{length, get_or, take}
 use lib.Seq.{length-take-le, get_or-take}
 use borrow.Author.Tests.{lt-ltb, le-ltb, le-leb, lt-leb, eq-eqb, ne_eqb}
-use Rattle.refusal.specs.declared.Refusal.TheVariants.{Short, BadSize, BadSort}
+use Rattle.refusal.specs.declared.Refusal.{Refusal}
+use Rattle.refusal.specs.declared.Refusal.TheVariants.{BadSize, BadSort}
 use Rattle.bits.specs.Got.{got, refused, then, must, pick, many}
 use Rattle.bits.specs.Field.{field}
 use Rattle.file_rules.specs.Functions.{cost_at, flags_at, output_at, argument_at, arguments_at}
 use Rattle.file_fields.specs.Put.{argument_of}
 
 module _ (s : List ℕ) (at : ℕ) where
-  pub cost-short : field s at 1 ≡ refused Short → cost_at s at ≡ refused Short
+  pub cost-refused : {r : Refusal} → field s at 1 ≡ refused r → cost_at s at ≡ refused r
   unfolding cost_at then
-  cost-short e = rw e
+  cost-refused e = rw e
 
   module _ {has p : ℕ} (e : field s at 1 ≡ got has p) where
     pub cost-none : has ≡ 0 → cost_at s at ≡ got (record { has_cost = 0; cost = 0 }) p
@@ -22,7 +23,7 @@ module _ (s : List ℕ) (at : ℕ) where
     cost-none z = rw (e, eq-eqb _ _ z)
 
     module _ (o : has ≡ 0 → ⊥) where
-      pub cost-cut : field s p 64 ≡ refused Short → cost_at s at ≡ refused Short
+      pub cost-cut : {r : Refusal} → field s p 64 ≡ refused r → cost_at s at ≡ refused r
       unfolding cost_at then pick
       cost-cut d = rw (e, ne_eqb _ _ o, d)
 
@@ -31,12 +32,12 @@ module _ (s : List ℕ) (at : ℕ) where
       unfolding cost_at then pick
       cost-some d = rw (e, ne_eqb _ _ o, d)
 
-  pub flags-short : field s at 1 ≡ refused Short → flags_at s at ≡ refused Short
+  pub flags-refused : {r : Refusal} → field s at 1 ≡ refused r → flags_at s at ≡ refused r
   unfolding flags_at then
-  flags-short e = rw e
+  flags-refused e = rw e
 
   module _ {u p : ℕ} (e : field s at 1 ≡ got u p) where
-    pub flags-cut : field s p 1 ≡ refused Short → flags_at s at ≡ refused Short
+    pub flags-cut : {r : Refusal} → field s p 1 ≡ refused r → flags_at s at ≡ refused r
     unfolding flags_at then
     flags-cut d = rw (e, d)
 
@@ -45,9 +46,9 @@ module _ (s : List ℕ) (at : ℕ) where
     unfolding flags_at then
     flags-both d = rw (e, d)
 
-  pub output-short : (kinds : List ℕ) → field s at 5 ≡ refused Short → output_at s kinds at ≡ refused Short
+  pub output-refused : (kinds : List ℕ) → {r : Refusal} → field s at 5 ≡ refused r → output_at s kinds at ≡ refused r
   unfolding output_at then
-  output-short kinds e = rw e
+  output-refused kinds e = rw e
 
   -- The n sorts have the first kinds of an array.
   module _ (n : ℕ) (kinds : List ℕ) where
@@ -65,9 +66,9 @@ module _ (s : List ℕ) (at : ℕ) where
       output_eq h o = rw (e, length-take-le n kinds b, lt-ltb _ _ h, get_or-take n kinds k 0 h, eq-eqb _ _ o)
 
   module _ (n : ℕ) where
-    pub argument-short : field s at 5 ≡ refused Short → argument_at s n at ≡ refused Short
+    pub argument-refused : {r : Refusal} → field s at 5 ≡ refused r → argument_at s n at ≡ refused r
     unfolding argument_at then
-    argument-short e = rw e
+    argument-refused e = rw e
 
     module _ {k p : ℕ} (e : field s at 5 ≡ got k p) where
       pub argument-over : n ≤ k → argument_at s n at ≡ refused BadSort
@@ -78,9 +79,9 @@ module _ (s : List ℕ) (at : ℕ) where
       unfolding argument_at then must
       argument-in h = rw (e, lt-ltb _ _ h)
 
-    pub arguments-short : field s at 4 ≡ refused Short → arguments_at s n at ≡ refused Short
+    pub arguments-refused : {r : Refusal} → field s at 4 ≡ refused r → arguments_at s n at ≡ refused r
     unfolding arguments_at then
-    arguments-short e = rw e
+    arguments-refused e = rw e
 
     module _ {m p : ℕ} (e : field s at 4 ≡ got m p) where
       pub arguments-over : 8 < m → arguments_at s n at ≡ refused BadSize

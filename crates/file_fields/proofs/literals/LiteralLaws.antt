@@ -7,7 +7,7 @@ use lib.IntN.{ℤ, pos}
 use lib.ListN.{replicate, set}
 use mir.Syntax.{w64}
 use mir.Val.{to_z, of_z}
-use Rattle.refusal.specs.declared.Refusal.TheVariants.{Short}
+use Rattle.refusal.specs.declared.Refusal.{Refusal}
 use Rattle.bits.specs.Got.{got, refused, then}
 use Rattle.bits.specs.Field.{field}
 use Rattle.bits.proofs.FieldLaws.{field-read}
@@ -18,9 +18,9 @@ use Rattle.file_rules.proofs.SignedLaws.{signed-kept}
 use Rattle.file_rules.proofs.ArraysLaws.{pad_with-nil, pad_with-set}
 
 module _ (s : List ℕ) (at : ℕ) where
-  pub literal-short : field s at 64 ≡ refused Short → literal_at s at ≡ refused Short
+  pub literal-refused : {r : Refusal} → field s at 64 ≡ refused r → literal_at s at ≡ refused r
   unfolding literal_at then
-  literal-short e = rw e
+  literal-refused e = rw e
 
   pub literal-value : {v q : ℕ} → field s at 64 ≡ got v q → literal_at s at ≡ got (signed v) q
   unfolding literal_at then
@@ -61,9 +61,9 @@ module _ {s : List ℕ} {at n : ℕ} {literals : List ℤ} where
               };
         }
 
-    pub literals-refuse : i < n → field s p 64 ≡ refused Short → literals_at s n at ≡ refused Short
+    pub literals-refuse : {r : Refusal} → i < n → field s p 64 ≡ refused r → literals_at s n at ≡ refused r
     unfolding literals_at
-    literals-refuse h e = loop-refuses l.loop h (literal-short s p e)
+    literals-refuse h e = loop-refuses l.loop h (literal-refused s p e)
 
     pub literals_end : n ≤ i → literals_at s n at ≡ got l.xs p
     unfolding literals_at

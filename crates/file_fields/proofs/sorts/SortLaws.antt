@@ -8,7 +8,7 @@ use lib.Dec.{leb}
 use lib.ListN.{replicate, set}
 use borrow.Author.Tests.{le-leb, lt-leb, ne_eqb, eq-eqb}
 use Rattle.refusal.specs.declared.Refusal.{Refusal}
-use Rattle.refusal.specs.declared.Refusal.TheVariants.{Short, BadSize}
+use Rattle.refusal.specs.declared.Refusal.TheVariants.{BadSize}
 use Rattle.bits.specs.Got.{Got, got, refused, then, must, pick}
 use Rattle.bits.specs.Field.{field}
 use Rattle.bits.proofs.GotLaws.{all-at, Loop, loop-start, loop-more, loop-refuses, loop-ends}
@@ -25,9 +25,9 @@ large-by false g = refl
 
 -- One more of the sort's fields.
 module _ (s : List ℕ) (at t : ℕ) where
-  pub sort-short : field s at 1 ≡ refused Short → sort_at s at t ≡ refused Short
+  pub sort-refused : {r : Refusal} → field s at 1 ≡ refused r → sort_at s at t ≡ refused r
   unfolding sort_at then
-  sort-short e = rw e
+  sort-refused e = rw e
 
   module _ {kind p : ℕ} (e : field s at 1 ≡ got kind p) where
     pub sort-base : kind ≡ 0 → sort_at s at t ≡ got (record { kind = 0; classes = 0 }) p
@@ -35,9 +35,9 @@ module _ (s : List ℕ) (at t : ℕ) where
     sort-base z = rw (e, eq-eqb _ _ z)
 
     module _ (o : kind ≡ 0 → ⊥) where
-      pub sort-count-short : field s p 10 ≡ refused Short → sort_at s at t ≡ refused Short
+      pub sort-count-refused : {r : Refusal} → field s p 10 ≡ refused r → sort_at s at t ≡ refused r
       unfolding sort_at then pick
-      sort-count-short d = rw (e, ne_eqb _ _ o, d)
+      sort-count-refused d = rw (e, ne_eqb _ _ o, d)
 
       module _ {n q : ℕ} (d : field s p 10 ≡ got n q) where
         pub sort-large : 512 < t + n → sort_at s at t ≡ refused BadSize

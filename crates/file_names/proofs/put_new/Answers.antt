@@ -4,21 +4,21 @@ use Rattle.bits.specs.Got.{pick}
 use Rattle.file_names.specs.Name.{is_free, is_missing}
 use Rattle.file_names.proofs.put_new.Goals as goal
 
-pub returns-in-At : goal.returns-in-At
+pub returns-in-Some : goal.returns-in-Some
 unfolding is_free is_missing pick
-returns-in-At c =
+returns-in-Some c =
     record {
-      value = rw (← c.find-found.ensures, c.in-At.is);
+      value = rw (← c.find.ensures, c.in-Some.is);
       entries_after = refl;
     }
 
-pub returns-in-Missing : goal.returns-in-Missing
+pub returns-in-None : goal.returns-in-None
 unfolding is_free is_missing pick
-returns-in-Missing c =
+returns-in-None c =
     record {
       value = rw (
-        ← c.find-found.ensures,
-        c.in-Missing.is,
+        ← c.find.ensures,
+        c.in-None.is,
       );
       entries_after = c.put.ensures;
     }

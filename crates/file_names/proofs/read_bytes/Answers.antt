@@ -1,6 +1,6 @@
 -- `file_names::read_bytes` meets its contract: the front of the buffer is the bytes read so far. Assumes nothing.
 use Prim.Native.Nat.{◌≤◌, ◌<◌, ◌+◌, ◌*◌}
-use mathlib.Core.Path.{◌≡◌, refl}
+use mathlib.Core.Path.{refl}
 use native.Mathlib.Omega.{arith}
 use lib.ListN.{length, length-set}
 use Rattle.bits.proofs.BitsLaws.{number_lt}
@@ -24,12 +24,3 @@ loop-j-preserved c =
     let l = c.loop-j in
     let h : l.j < length l.buffer = omega arith in
     (omega arith, (simp length-set l.invariant.1.0, bytes-more _ _ _ _ h l.invariant.1.1 c.gather.ensures))
-
-pub shape_of-buffer : goal.shape_of-buffer
-shape_of-buffer c = c.loop-j.invariant.1.0
-
-pub returns : goal.returns
-returns c =
-    let l = c.loop-j in
-    let e : l.j ≡ c.args.n = omega arith in
-    rw e at l.invariant.1.1

@@ -1,5 +1,5 @@
 -- `file_names::read_bytes` meets its contract: the front of the buffer is the bytes read so far. Assumes nothing.
-use Prim.Native.Nat.{◌≤◌, ◌-◌}
+use Prim.Native.Nat.{◌≤◌}
 use mathlib.Core.Path.{◌≡◌}
 use lib.ListN.{length, take}
 use Rattle.file_rules.specs.Functions.{bytes_at}
@@ -7,6 +7,3 @@ use Rattle.file_names.proofs.read_bytes.Given as goal
 
 abbrev pub invariant-loop-j : goal.invariant-loop-j
 invariant-loop-j l = (l.j ≤ l.n) × ((length l.buffer ≡ length l.initial.buffer) × (take l.j l.buffer ≡ bytes_at l.s l.at l.j))
-
-abbrev pub decreases-loop-j : goal.decreases-loop-j
-decreases-loop-j l = l.n - l.j

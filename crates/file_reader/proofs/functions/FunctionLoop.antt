@@ -10,15 +10,17 @@ use Rattle.name.specs.Entries.{entry_width, entries_length, table_length, Entrie
 use Rattle.name.proofs.EntryLaws.{entry_length}
 use Rattle.bits.specs.Got.{got, refused}
 use Rattle.bits.proofs.GotLaws.{all-at, Loop, loop-start, loop-more, loop-refuses, loop-ends}
+use Rattle.file_rules.specs.declared.Functions.{Functions}
 use Rattle.file_rules.specs.Table.{Function}
 use Rattle.file_rules.specs.Every.{Every, every-nil}
 use Rattle.file_rules.specs.Functions.{function_at, functions_at}
 use Rattle.file_rules.specs.Arrays.{pad, blocks, HoldsFunctions}
+use Rattle.file_rules.specs.Held.{empty}
 use Rattle.file_rules.proofs.ArraysLaws.{pad_with-nil, pad_with-length, pad-set-map}
 use Rattle.file_rules.proofs.BlockLaws.{every-snoc, every_map, blocks-snoc, blocks-length, pad-block, pad-of-pad}
 use Rattle.file_rules.proofs.FunctionLaws.{function-kept}
 use Rattle.file_names.specs.Name.{HoldsNames}
-use Rattle.file_names.proofs.EntriesLaws.{entry_of, names-length, held-length, held-entries}
+use Rattle.file_names.proofs.EntriesLaws.{entry_of, names-length, held-entries}
 use Rattle.file_reader.specs.Put.{PutFunction, Zeros}
 
 -- The name of one function more.
@@ -54,6 +56,22 @@ arguments-more fs f i h c b l =
     ∙ pad-block 1024 (blocks places_of fs) xs (i * 8) (i * 8 + length xs) n refl (omega arith)
     ∙ sym (pad-of-pad 1024 8 (blocks places_of fs) xs l (omega arith))
     ∙ ap (pad 1024) (sym (blocks-snoc places_of fs f))
+
+-- Functions of which none is read.
+pub zeros-of : {f : Functions} → f ≡ empty.functions
+    → Zeros f.names f.declared f.costs f.unextractable f.hidden f.outputs f.arities f.arguments
+zeros-of e =
+    rw e
+    (record {
+      names_zero = refl;
+      declared_zero = refl;
+      costs_zero = refl;
+      unextractable_zero = refl;
+      hidden_zero = refl;
+      outputs_zero = refl;
+      arities_zero = refl;
+      arguments_zero = refl;
+    })
 
 -- The loop over count functions from at.
 pub record Functions-read (s kinds : List ℕ) (at count : ℕ)
@@ -97,9 +115,6 @@ module _ {s kinds : List ℕ} {at count : ℕ}
 
     pub functions-entries : i < 128 → Entries names i
     functions-entries b = held-entries functions-names (omega arith)
-
-    pub functions-room : i < 128 → length names ≡ table_length
-    functions-room b = held-length functions-names (omega arith)
 
     pub functions_more : {names' declared' costs' unextractable' hidden' outputs' arities' arguments' : List ℕ}
         {f : Function} {q : ℕ}

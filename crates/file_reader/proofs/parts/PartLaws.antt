@@ -5,7 +5,8 @@ use mathlib.Core.Path.{◌≡◌}
 use native.Mathlib.Omega.{arith}
 use lib.ListN.{length}
 use borrow.Author.Tests.{leb-true, le-leb, lt-leb, eq-eqb, ne_eqb}
-use Rattle.refusal.specs.declared.Refusal.TheVariants.{Short, BadVersion, BadSize, Trailing}
+use Rattle.refusal.specs.declared.Refusal.{Refusal}
+use Rattle.refusal.specs.declared.Refusal.TheVariants.{BadVersion, BadSize, Trailing}
 use Rattle.bits.specs.Got.{Got, got, refused, then, must}
 use Rattle.bits.specs.Field.{field}
 use Rattle.bits.proofs.FieldLaws.{field-read}
@@ -15,20 +16,21 @@ use Rattle.file_rules.specs.Sorts.{sorts_at}
 use Rattle.file_rules.specs.Literals.{literals_at}
 use Rattle.file_rules.specs.Functions.{functions_at}
 use Rattle.file_rules.specs.File.{version_at, sorts_part, literals_part, functions_part, pad_bits, end_at}
-use Rattle.file_rules.specs.declared.Part.{Part}
+use Rattle.std.specs.Prelude.{Result}
+use Rattle.file_rules.specs.declared.Counted.{Counted}
 use Rattle.file_rules.specs.Reading.{Counts}
 use Rattle.file_rows.specs.In.{rows_in, Sound}
 use Rattle.file_rows.proofs.RowLaws.{rows_in-near}
 use Rattle.file_reader.specs.Parts.{rows_part_in}
 
-pub counts-along : {A : Type 0} {P : List A → Type 0} {g h : Got (List A)} {r : Part} → h ≡ g → Counts g r P
+pub counts-along : {A : Type 0} {P : List A → Type 0} {g h : Got (List A)} {r : Result Counted Refusal} → h ≡ g → Counts g r P
     → Counts h r P
 counts-along e c = rw e c
 
 module _ (s : List ℕ) (at : ℕ) where
-  pub version-short : field s at 4 ≡ refused Short → version_at s at ≡ refused Short
+  pub version-refused : {r : Refusal} → field s at 4 ≡ refused r → version_at s at ≡ refused r
   unfolding version_at then
-  version-short e = rw e
+  version-refused e = rw e
 
   module _ {v p : ℕ} (e : field s at 4 ≡ got v p) where
     pub version-other : (v ≡ 1 → ⊥) → version_at s at ≡ refused BadVersion
@@ -39,25 +41,26 @@ module _ (s : List ℕ) (at : ℕ) where
     unfolding version_at then must
     version-one o = rw (e, eq-eqb _ _ o)
 
-  pub sorts-short : field s at 5 ≡ refused Short → sorts_part s at ≡ refused Short
+  pub sorts-refused : {r : Refusal} → field s at 5 ≡ refused r → sorts_part s at ≡ refused r
   unfolding sorts_part then
-  sorts-short e = rw e
+  sorts-refused e = rw e
 
   pub sorts-from : {n p : ℕ} → field s at 5 ≡ got n p → sorts_part s at ≡ sorts_at s n p
   unfolding sorts_part then
   sorts-from e = rw e
 
-  pub literals-short : field s at 9 ≡ refused Short → literals_part s at ≡ refused Short
+  pub literals-refused : {r : Refusal} → field s at 9 ≡ refused r → literals_part s at ≡ refused r
   unfolding literals_part then
-  literals-short e = rw e
+  literals-refused e = rw e
 
   pub literals-from : {n p : ℕ} → field s at 9 ≡ got n p → literals_part s at ≡ literals_at s n p
   unfolding literals_part then
   literals-from e = rw e
 
-  pub functions-short : (kinds : List ℕ) → field s at 7 ≡ refused Short → functions_part s kinds at ≡ refused Short
+  pub functions-refused : (kinds : List ℕ) {r : Refusal} → field s at 7 ≡ refused r
+      → functions_part s kinds at ≡ refused r
   unfolding functions_part then
-  functions-short kinds e = rw e
+  functions-refused kinds e = rw e
 
   pub functions-from : (kinds : List ℕ) {n p : ℕ} → field s at 7 ≡ got n p
       → functions_part s kinds at ≡ functions_at s kinds n p
@@ -65,10 +68,10 @@ module _ (s : List ℕ) (at : ℕ) where
   functions-from kinds e = rw e
 
   module _ (kinds classes : List ℕ) (l count : ℕ) (outputs arities arguments : List ℕ) where
-    pub rows_short : field s at 11 ≡ refused Short
-        → rows_part_in s kinds classes l count outputs arities arguments at ≡ refused Short
+    pub rows_refused : {r : Refusal} → field s at 11 ≡ refused r
+        → rows_part_in s kinds classes l count outputs arities arguments at ≡ refused r
     unfolding rows_part_in then
-    rows_short e = rw e
+    rows_refused e = rw e
 
     module _ {n p : ℕ} (e : field s at 11 ≡ got n p) where
       pub rows-over : 1024 < n → rows_part_in s kinds classes l count outputs arities arguments at ≡ refused BadSize
@@ -81,9 +84,9 @@ module _ (s : List ℕ) (at : ℕ) where
       unfolding rows_part_in then must
       rows-from h = rw (e, le-leb _ _ h)
 
-  pub end_short : field s at (pad_bits at) ≡ refused Short → end_at s at ≡ refused Short
+  pub end_refused : {r : Refusal} → field s at (pad_bits at) ≡ refused r → end_at s at ≡ refused r
   unfolding end_at then
-  end_short e = rw e
+  end_refused e = rw e
 
   module _ {v p : ℕ} (e : field s at (pad_bits at) ≡ got v p) where
     pub end-set : (v ≡ 0 → ⊥) → end_at s at ≡ refused Trailing

@@ -3,8 +3,8 @@ use mathlib.Core.Path.{sym}
 use Rattle.file_rows.proofs.CellLaws.{column-when-argument, column-when-output}
 use Rattle.file_rows.proofs.column_of.Goals as goal
 
-pub returns-then-j-arities : goal.returns-then-j-arities
-returns-then-j-arities c = sym (column-when-argument _ _ _ _ _ c.if-j-arities.true)
+pub returns-then-j-functions : goal.returns-then-j-functions
+returns-then-j-functions c = sym (column-when-argument _ _ _ _ _ c.if-j-functions.true)
 
 pub returns : goal.returns
-returns c = sym (column-when-output _ _ _ _ _ c.if-j-arities.false)
+returns c = sym (column-when-output _ _ _ _ _ c.if-j-functions.false)

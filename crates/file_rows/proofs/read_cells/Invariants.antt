@@ -1,11 +1,9 @@
 -- `file_rows::read_cells` meets its contract: the cells read so far stand in their places, and the rest of the reading is
 -- that of the whole. Assumes nothing.
-use Prim.Native.Nat.{◌-◌}
 use Rattle.file_rows.proofs.CellLaws.{Cells-read}
 use Rattle.file_rows.proofs.read_cells.Given as goal
 
 abbrev pub invariant-loop-j : goal.invariant-loop-j
-invariant-loop-j l = Cells-read l.s l.kinds l.classes l.literals l.outputs l.arities l.arguments l.f l.at l.from l.initial.cells l.cells l.p l.j
-
-abbrev pub decreases-loop-j : goal.decreases-loop-j
-decreases-loop-j l = l.n - l.j
+invariant-loop-j l =
+    Cells-read l.s l.sorts.kinds l.sorts.classes l.literals l.functions.outputs l.functions.arities l.functions.arguments
+    l.f l.at l.from l.initial.cells l.cells l.p l.j

@@ -5,11 +5,7 @@ use Rattle.lent.proofs.CopyLaws.{put_to, put_to-none, put_to-more}
 use Rattle.lent.proofs.unload.Goals as goal
 
 pub loop-i-init : goal.loop-i-init
-loop-i-init c =
-    record {
-      within = omega arith;
-      put = put_to-none c.args.ts.now c.args.f.records c.args.f.literals;
-    }
+loop-i-init c = put_to-none c.args.ts.now c.args.f.records c.args.f.literals
 
 pub loop-i-preserved : goal.loop-i-preserved
 loop-i-preserved c =
@@ -17,7 +13,4 @@ loop-i-preserved c =
     ≡ set (put_to c.args.ts.now c.args.f.records c.args.f.literals c.loop-i.i) c.loop-i.i
     (record_in c.args.f.records c.args.f.literals c.loop-i.i)
     = cc in
-    record {
-      within = omega arith;
-      put = put ∙ put_to-more c.args.ts.now c.args.f.records c.args.f.literals c.loop-i.i (omega arith);
-    }
+    put ∙ put_to-more c.args.ts.now c.args.f.records c.args.f.literals c.loop-i.i (omega arith)

@@ -1,37 +1,19 @@
 -- `lent_entries::unload_names` meets its contract. Assumes nothing.
-use Prim.Native.Nat.{ℕ}
-use mathlib.Core.Path.{◌≡◌, refl, ap, ◌∙◌}
-use mathlib.Core.List.{List}
-use lib.ListN.{set, length-set}
+use Rattle.std.proofs.Common.{◌≡◌, ℕ, ap, ◌∙◌, List, set, arith}
 use Rattle.lent_entries.proofs.EntriesLaws.{put_to, put_to-none, put_to-more, put_to-whole}
-use native.Mathlib.Omega.{arith}
 use Rattle.lent_entries.proofs.unload_names.Goals as goal
 
 pub loop-k-init : goal.loop-k-init
-loop-k-init c =
-    let g = c.args in
-    (c.room_of-n.ensures, (omega arith, (refl, put_to-none g.ns.now g.names.now)))
+loop-k-init c = put_to-none c.args.ns.now c.args.names.now
 
 pub loop-k-preserved : goal.loop-k-preserved
 loop-k-preserved c =
-    let g = c.args in
-    let l = c.loop-k in (
-      l.invariant.0,
-      (
-        omega arith,
-        (
-          length-set l.ns l.k c.entry_of-e.result ∙ l.invariant.1.1.0,
-          ap (λ (t : List (List ℕ)). set t l.k c.entry_of-e.result) l.invariant.1.1.1
-              ∙ put_to-more g.ns.now g.names.now c.entry_of-e.result l.k (omega arith) c.entry_of-e.ensures,
-        ),
-      ),
-    )
+    ap (λ (t : List (List ℕ)). set t c.loop-k.k c.entry_of.result) c.loop-k.invariant
+    ∙ put_to-more c.args.ns.now c.args.names.now c.entry_of.result c.loop-k.k (omega arith) c.entry_of.ensures
 
 pub returns : goal.returns
 returns c =
-    let g = c.args in
-    let l = c.loop-k in
-    let all : l.k ≡ c.room_of-n.result = omega arith in
-    l.invariant.1.1.1
-    ∙ ap (put_to g.ns.now g.names.now) all
-    ∙ put_to-whole g.ns.now g.names.now c.room_of-n.result l.invariant.0
+    let all : c.loop-k.k ≡ c.min-n.result = omega arith in
+    c.loop-k.invariant
+    ∙ ap (put_to c.args.ns.now c.args.names.now) all
+    ∙ put_to-whole c.args.ns.now c.args.names.now c.min-n.result (omega arith)

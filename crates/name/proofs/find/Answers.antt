@@ -1,13 +1,12 @@
 -- `name::find` meets its contract. The entries are passed in order. Assumes nothing.
 use mathlib.Core.Path.{sym, ◌∙◌}
+use Rattle.name.proofs.NameLaws.{same-eq}
 use Rattle.name.proofs.EntryLaws.{find_from-here, find_from-more, find_from-end, find_from-start}
 use native.Mathlib.Omega.{arith}
 use Rattle.name.proofs.find.Goals as goal
 
 pub loop-k-init : goal.loop-k-init
-loop-k-init c =
-    let g = c.args in
-    (omega arith, find_from-start g.table.now g.name.now g.n)
+loop-k-init c = find_from-start c.args.table.now c.args.name.now c.args.n
 
 pub name_of-requires : goal.name_of-requires
 name_of-requires c =
@@ -15,26 +14,24 @@ name_of-requires c =
     let pre = c.requires in
     record { long = omega (arith, pre.long); short = pre.short k (omega arith) }
 
-pub returns-then-are_same : goal.returns-then-are_same
-returns-then-are_same c =
+pub returns-then-eq : goal.returns-then-eq
+returns-then-eq c =
     let g = c.args in
     let l = c.loop-k in
     sym (find_from-here g.table.now g.name.now l.k g.n (omega arith)
-    (rw c.name_of.ensures at (sym c.are_same.ensures) ∙ c.if-are_same.true))
-    ∙ l.invariant.1
+    (rw (← c.name_of.ensures, ← same-eq, ← c.eq.ensures) c.if-eq.true))
+    ∙ l.invariant
 
 pub loop-k-preserved : goal.loop-k-preserved
 loop-k-preserved c =
     let g = c.args in
-    let l = c.loop-k in (
-      omega arith,
-      find_from-more g.table.now g.name.now l.k g.n (omega arith)
-          (rw c.name_of.ensures at (sym c.are_same.ensures) ∙ c.if-are_same.false)
-          ∙ l.invariant.1,
-    )
+    let l = c.loop-k in
+    find_from-more g.table.now g.name.now l.k g.n (omega arith)
+    (rw (← c.name_of.ensures, ← same-eq, ← c.eq.ensures) c.if-eq.false)
+    ∙ l.invariant
 
 pub returns : goal.returns
 returns c =
     let g = c.args in
     let l = c.loop-k in
-    sym (find_from-end g.table.now g.name.now l.k g.n (omega arith)) ∙ l.invariant.1
+    sym (find_from-end g.table.now g.name.now l.k g.n (omega arith)) ∙ l.invariant

@@ -1,11 +1,8 @@
 -- `name::find` meets its contract. The entries are passed in order. Assumes nothing.
-use Prim.Native.Nat.{◌≤◌, ◌-◌}
+use Prim.Native.Nat.{◌-◌}
 use mathlib.Core.Path.{◌≡◌}
 use Rattle.name.specs.Entries.{find_from, find_name}
 use Rattle.name.proofs.find.Given as goal
 
 abbrev pub invariant-loop-k : goal.invariant-loop-k
-invariant-loop-k l = (l.k ≤ l.n) × (find_from l.table l.name l.k (l.n - l.k) ≡ find_name l.table l.n l.name)
-
-abbrev pub decreases-loop-k : goal.decreases-loop-k
-decreases-loop-k l = l.n - l.k
+invariant-loop-k l = find_from l.table l.name l.k (l.n - l.k) ≡ find_name l.table l.n l.name

@@ -1,8 +1,7 @@
 -- `name::name_of` meets its contract. A name is a part of the table. Assumes nothing.
-use mathlib.Core.Path.{refl}
 use Rattle.name.specs.Entries.{name_at}
 use Rattle.name.proofs.name_of.Goals as goal
 
 pub returns : goal.returns
 unfolding name_at
-returns c = refl
+returns c = rw c.length_of.ensures

@@ -11,4 +11,4 @@ returns c =
     let g = c.args in
     let n : ℕ = length_at g.table.now g.k in
     let e : g.k * 32 + 32 - (g.k * 32 + 1 + n) ≡ 31 - n = omega arith in
-    ap (λ (m : ℕ). take m (drop (g.k * 32 + 1 + n) g.table.now)) e
+    rw c.length_of.ensures (ap (λ (m : ℕ). take m (drop (g.k * 32 + 1 + n) g.table.now)) e)

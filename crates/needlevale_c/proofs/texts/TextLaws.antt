@@ -23,7 +23,7 @@ use Rattle.text.specs.Told.{plain_told}
 use Rattle.text_whole.specs.LetPlaced as lets
 use Rattle.text_whole.specs.LetPlaced.{LetAnswer, let_answer_of, valid_prefix}
 use Rattle.text.specs.LetTold.{let_told}
-use Rattle.text_whole.specs.declared.Text.{Text}
+use Rattle.std.specs.Prelude.{Result}
 use Rattle.text_whole.specs.declared.LetText.{LetText}
 use Rattle.text.proofs.Promises.{promises}
 use Rattle.c_told.specs.Texts.{coded_text, let_coded, TextFits, LetFits}
@@ -62,7 +62,7 @@ module _ (s : Store) (t : ℕ) (out : List ℕ) where
           let f : length (plain_text s t) ≤ length out = omega arith in
           inl (_, (f, ap answer (promises.plain_written s t out (record { formed = e; known = l }) f)))
 
-  module _ (after : List ℕ) (r : Text) (e : told (answer_of r) after ≡ plain_told s t out) where
+  module _ (after : List ℕ) (r : Result ℕ Refusal) (e : told (answer_of r) after ≡ plain_told s t out) where
     pub plain_fits : length out * 1 < 2 ^ 63 → TextFits r
     unfolding long
     plain_fits l n h = by plain_known
@@ -148,20 +148,20 @@ module _ (s : Store) (nm : Naming) (t : ℕ) (out : List ℕ) where
           named-known e l (valid_prefix nm.prefix) (valid nm.hint) refl refl (dec_lt 4294966271 nm.start)
           (dec_lt (length out) (length (let_text s nm t)))
 
-  module _ (after : List ℕ) (r : LetText) (e : told (let_answer_of r) after ≡ let_told s nm t out) where
+  module _ (after : List ℕ) (r : Result LetText Refusal) (e : told (let_answer_of r) after ≡ let_told s nm t out) where
     pub let-fits : length out * 1 < 2 ^ 63 → LetFits r
     unfolding let-long
-    let-fits l n next h = by let-known
+    let-fits l text h = by let-known
       where
-        same : (let_told s nm t out).answer ≡ lets.written n next
+        same : (let_told s nm t out).answer ≡ lets.written text.length text.next
         same = sym (ap let-answer e) ∙ ap let_answer_of h
 
-        by : Known → n < 2 ^ 63
+        by : Known → text.length < 2 ^ 63
         by (inl k) =
-            let m : n ≡ k.0 = ap let-long (sym same ∙ k.1.1.1) in
+            let m : text.length ≡ k.0 = ap let-long (sym same ∙ k.1.1.1) in
             omega (arith, m, k.1.0, l)
         by (inr k) =
-            let m : n ≡ 0 = ap let-long (sym same ∙ k.1) in
+            let m : text.length ≡ 0 = ap let-long (sym same ∙ k.1) in
             omega (arith, m)
 
     pub let-writes : (z : LetLength) → z ≡ let_coded (let_answer_of r) → WritesLets (let_told s nm t out) z after

@@ -14,7 +14,8 @@ use Rattle.choice_rules.specs.Rows.{Row, row_at, tabulate}
 use Rattle.choice_rules.specs.Edges.{first_row, is_edge}
 use Rattle.choice_rules.proofs.ListLaws.{tabulate-length, tabulate-get}
 use Rattle.choice_rules.proofs.EdgeLaws.{first-row-head, first-row-tail}
-use Rattle.price_passes.specs.Flat.{top, row_of, part_of, rows_of, FlatOk}
+use Rattle.price_passes.specs.declared.flat.Rows.{Rows}
+use Rattle.price_passes.specs.Flat.{top, row_of, part_of, flat_of, FlatIn}
 use Rattle.price.specs.Marks.{marked}
 use Rattle.price_passes.proofs.FlatLaws.{rows-length, rows_get}
 use Rattle.price_passes.proofs.PassLaws.{rows_drop}
@@ -160,35 +161,35 @@ module _ (p : ℕ → Row → Bool) (rows : List Row) where
         go true e true f = rw (e, f) (walk-takes (eqb-true (get_or edges row.output 0) (length rows) e) f)
 
 -- the walk over flat rows
-module _ (costs ranks outputs heads starts children : List ℕ) where
+module _ (costs ranks : List ℕ) (r : Rows) where
   abbrev flat : List Row
-  flat = rows_of outputs heads starts children
+  flat = flat_of r
 
   abbrev is : ℕ → Row → Bool
   is = is_edge top costs ranks
 
-  pub flat-walk-begins : (edges : List ℕ) (n none : ℕ) → none ≡ length outputs → n ≡ length ranks
+  pub flat-walk-begins : (edges : List ℕ) (n none : ℕ) → none ≡ length r.outputs.now → n ≡ length ranks
       → edges ≡ replicate n none
       → Walked is flat (length ranks) edges 0
   flat-walk-begins edges n none a b e =
-      let c : none ≡ length flat = a ∙ sym (rows-length outputs heads starts children) in
+      let c : none ≡ length flat = a ∙ sym (rows-length r.outputs.now r.heads.now r.starts.now r.children.now) in
       rw (e, b, c) (walk_begins is flat (length ranks))
 
   module _ (edges : List ℕ) (i : ℕ) (v : Walked is flat (length ranks) edges i) where
-    pub flat-walk-goes-on : (none : ℕ) → none ≡ length outputs → i < length outputs
-        → FlatOk (length ranks) outputs heads starts children
+    pub flat-walk-goes-on : (none : ℕ) → none ≡ length r.outputs.now → i < length r.outputs.now
+        → FlatIn (length ranks) r
         → (after : List ℕ)
-        → after ≡ marked is none i (row_of (get_or outputs i 0) (get_or heads i 0) (part_of starts children i)) edges
+        → after ≡ marked is none i (row_of (get_or r.outputs.now i 0) (get_or r.heads.now i 0) (part_of r.starts.now r.children.now i)) edges
         → Walked is flat (length ranks) after (i + 1)
     flat-walk-goes-on none a h ok after e =
-        let l = rows-length outputs heads starts children in
-        let g = rows_get outputs heads starts children i h in
+        let l = rows-length r.outputs.now r.heads.now r.starts.now r.children.now in
+        let g = rows_get r.outputs.now r.heads.now r.starts.now r.children.now i h in
         let c : none ≡ length flat = a ∙ sym l in
-        let o = ap (λ (r : Row). r.output) g in
+        let o = ap (λ (q : Row). q.output) g in
         let w = walk-goes-on is flat (edge-of-other costs ranks) (length ranks) edges i (omega arith) v
         (omega (arith, ok.outputs_in i h)) in
         rw (e, c, ← g) w
 
-    pub flat-walk-ends : length outputs ≤ i → edges ≡ tabulate (λ c. first_row (is c) flat) (length ranks)
+    pub flat-walk-ends : length r.outputs.now ≤ i → edges ≡ tabulate (λ c. first_row (is c) flat) (length ranks)
     flat-walk-ends h = walk_ends is flat (length ranks) edges i
-        (omega (arith, rows-length outputs heads starts children)) v
+        (omega (arith, rows-length r.outputs.now r.heads.now r.starts.now r.children.now)) v

@@ -65,12 +65,16 @@ placed-written text out after n e = by (leb (length text) (length out)) refl e
         let n : ⊥ = omega (arith, z) in
         absurd n
 
--- a refusal tells that it does not fit and that nothing changed
+number_in : Answer → ℕ
+number_in (written n) = n
+number_in (refusal k) = k
+
+-- a refusal tells that it does not fit and that nothing changed, and it is NoRoom
 pub placed-refused :
     (text out after : List ℕ) (k : ℕ) →
     told (refusal k) after ≡ placed text (written (length text)) (refusal 13) out →
-    (length out < length text) × (after ≡ out)
-unfolding placed is_written
+    (length out < length text) × ((after ≡ out) × (k ≡ 13))
+unfolding placed is_written number_in
 placed-refused text out after k e = by (leb (length text) (length out)) refl e
   where
     by :
@@ -79,12 +83,15 @@ placed-refused text out after k e = by (leb (length text) (length out)) refl e
         told (refusal k) after
         ≡ elim b
         [ true ↦ told (written (length text)) (text ++ drop (length text) out) | false ↦ told (refusal 13) out ] →
-        (length out < length text) × (after ≡ out)
+        (length out < length text) × ((after ≡ out) × (k ≡ 13))
     by true t h =
         let z : ◌≡◌ {A = ℕ} 0 1 = ap (λ (x : Told Answer). is_written x.answer) h in
         let n : ⊥ = omega (arith, z) in
         absurd n
-    by false t h = (leb-false (length text) (length out) t, ap (λ (x : Told Answer). x.out) h)
+    by false t h = (
+      leb-false (length text) (length out) t,
+      (ap (λ (x : Told Answer). x.out) h, ap (λ (x : Told Answer). number_in x.answer) h),
+    )
 
 module _ (s : Store) (t : ℕ) (out after : List ℕ) where
   pub plain-case :

@@ -1,5 +1,6 @@
 -- The whole text of an answer of best: the term's text in its place, the newline, then the line before it. Assumes
 -- nothing.
+use Rattle.std.specs.Prelude.{Ok, Err}
 use mathlib.Core.Path.{◌≡◌, refl, sym, ap, subst, ◌∙◌}
 use mathlib.Core.Bool.{Bool, true, false}
 use mathlib.Core.List.{List, [], ◌∷◌, ◌++◌}
@@ -8,20 +9,25 @@ use native.Mathlib.Omega.{arith}
 use lib.ListN.{length, set, take, drop, length-append, length-drop}
 use lib.Seq.{length-take-le}
 use borrow.Rule.Slice.PartMut.{put_mid, put_same}
+use Rattle.refusal.specs.declared.Refusal.{Refusal}
 use Rattle.refusal.specs.declared.Refusal.TheVariants.{NoRoom}
+use Rattle.refusal.specs.Numbers.{refusal_no}
 use Rattle.term_rules.specs.Lent.{Store}
-use Rattle.text_whole.specs.Placed.{written, refusal, told}
-use Rattle.answer_rules.specs.Answers.{value}
+use Rattle.text_whole.specs.Placed.{written, answer_of, told}
+use Rattle.answer_rules.specs.Answers.{value, refusal as denied}
 use Rattle.answer_rules.specs.Best.{best_term}
 use Rattle.program_rules.specs.Lines.{best_line}
 use Rattle.program_rules.specs.Step.{Step}
 use Rattle.program_rules.proofs.headlines.StepLaws.{step-of-middle, step-byte, step-length, step_then, step-front, step-whole}
-use Rattle.program_rules.specs.Reply.{best_reply, in_room, put_in}
+use Rattle.program_rules.specs.Reply.{best_reply, in_room, put_in, Replied}
 use Rattle.program_rules.specs.Seen.{seen}
-use Rattle.program_rules.specs.declared.replies.Answered.TheVariants.{Written, Refused}
-use Rattle.program_rules.proofs.replies.RoomLaws.{fits, no_room}
+use Rattle.program_rules.proofs.Replies.RoomLaws.{fits, no_room}
 use Rattle.program.specs.BestReply.Text.{best_text, best_placed}
 use Rattle.program.proofs.best_reply.PlacedLaws.{placed-written, placed-refused}
+
+-- what a refusal of number k tells
+as_told : ℕ → List ℕ → Replied
+as_told k out = record { answer = denied k; out = out }
 
 module _ (plain : Bool) (s : Store) (cost term passes : ℕ) where
   abbrev pub line : List ℕ
@@ -42,7 +48,7 @@ module _ (plain : Bool) (s : Store) (cost term passes : ℕ) where
     -- no place for a text after the line
     pub no_line :
         length out ≤ h →
-        seen (Refused NoRoom) out
+        seen (Err NoRoom) out
         ≡ put_in (in_room (length out) (value (best_reply plain s (best_term cost term passes)))) out
     no_line l = no_room (best_reply plain s (best_term cost term passes)) out (omega (arith, l, eh, long))
 
@@ -52,15 +58,17 @@ module _ (plain : Bool) (s : Store) (cost term passes : ℕ) where
 
       -- the text does not fit between the line and the newline
       pub no_text :
-          (after : List ℕ) (k : ℕ) →
-          told (refusal k) after ≡ best_placed plain s term (take (e - h) (drop h out)) →
-          seen (Refused NoRoom) (put_mid h (e - h) out after)
+          (after : List ℕ) (r : Refusal) →
+          told (answer_of (Err r)) after ≡ best_placed plain s term (take (e - h) (drop h out)) →
+          seen (Err r) (put_mid h (e - h) out after)
           ≡ put_in (in_room (length out) (value (best_reply plain s (best_term cost term passes)))) out
-      no_text after k t =
-          let p = placed-refused (best_text plain s term) (take (e - h) (drop h out)) after k t in
+      unfolding as_told put_in
+      no_text after r t =
+          let p = placed-refused (best_text plain s term) (take (e - h) (drop h out)) after (refusal_no r) t in
           let same : put_mid h (e - h) out after ≡ out =
-          ap (put_mid h (e - h) out) p.1 ∙ put_same h (e - h) out in
-          ap (seen (Refused NoRoom)) same
+          ap (put_mid h (e - h) out) p.1.0 ∙ put_same h (e - h) out in
+          ap (seen (Err r)) same
+          ∙ ap (λ (k : ℕ). as_told k out) p.1.1
           ∙ no_room (best_reply plain s (best_term cost term passes)) out (omega (arith, p.0, mid, ee, eh, long, l))
 
       module _
@@ -101,7 +109,7 @@ module _ (plain : Bool) (s : Store) (cost term passes : ℕ) where
           pub writes :
               (z : ℕ) (o₂ : List ℕ) →
               Step line 0 z (set (put_mid h (e - h) out after) (h + n) 10) o₂ →
-              seen (Written (h + n + 1)) o₂
+              seen (Ok (h + n + 1)) o₂
               ≡ put_in (in_room (length out) (value (best_reply plain s (best_term cost term passes)))) out
           writes z o₂ u =
               let w = step-whole out (line ++ (best_text plain s term ++ (10 ∷ []))) o₂ (h + n + 1)
@@ -109,7 +117,7 @@ module _ (plain : Bool) (s : Store) (cost term passes : ℕ) where
               h
               (h + n + 1) z eh (rw length-append (omega (arith, fit, ee, l))) end_step u) in
               subst
-              (λ (x : List ℕ). seen (Written (h + n + 1)) o₂ ≡ put_in (in_room (length out) (value x)) out)
+              (λ (x : List ℕ). seen (Ok (h + n + 1)) o₂ ≡ put_in (in_room (length out) (value x)) out)
               (sym reply-is)
               (fits (line ++ (best_text plain s term ++ (10 ∷ []))) out o₂ (h + n + 1)
               (omega (arith, fit, ee, l, eh, ap length reply-is, long)) w.0 w.1)

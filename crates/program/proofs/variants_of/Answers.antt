@@ -1,73 +1,40 @@
 -- `program::variants_of` meets its contract: the call's refusal, or the texts of what it kept. Assumes nothing.
-use Prim.Native.Nat.{ℕ}
-use mathlib.Core.Path.{◌≡◌, subst}
-use mathlib.Core.List.{List}
-use lib.IntN.{ℤ}
-use Rattle.answer_rules.specs.Variants.{variants_at}
-use Rattle.variants_root.specs.declared.VariantsAnswer.{VariantsAnswer}
-use Rattle.variants_root.specs.declared.VariantsAnswer.TheVariants.{Kept, Refused}
-use Rattle.variants_root.specs.Several.{seen_variants}
-use Rattle.program.proofs.VariantLaws.{lendings, variants-refused, variants_kept, variants-return}
-use Rattle.program.proofs.variants_of.Goals.{Start}
+use mathlib.Core.Path.{ap, ◌∙◌}
+use lib.ListN.{length}
+use Rattle.std.proofs.lemmas.Result.{err_from_is_err_and}
+use Rattle.refusal.specs.Answer.{value}
+use Rattle.term_rules.specs.Lent.{Store}
+use Rattle.program_rules.specs.Reply.{variants_text, in_room, put_in}
+use Rattle.program.proofs.VariantLaws.{variants-refused, variants_kept, variants-return}
 use Rattle.program.proofs.variants_of.Goals as goal
 
--- what the call's answer tells, by its case
-by_case :
-    (s : Start) (rs : List ℕ) (ls : List ℤ) (ns ws ts : List ℕ) (r x : VariantsAnswer) →
-    seen_variants r 0 0 rs ls ns ws ts
-    ≡ variants_at s.args.file.now s.args.sort s.args.value s.args.most lendings →
-    r ≡ x →
-    seen_variants x 0 0 rs ls ns ws ts
-    ≡ variants_at s.args.file.now s.args.sort s.args.value s.args.most lendings
-by_case s rs ls ns ws ts r x t e =
-    subst
-    (λ (y : VariantsAnswer).
-    seen_variants y 0 0 rs ls ns ws ts
-    ≡ variants_at s.args.file.now s.args.sort s.args.value s.args.most lendings)
-    e
-    t
+pub read-requires : goal.read-requires
+read-requires c =
+    (variants-return c.args.file.now c.args.sort c.args.value c.args.most _ _ _
+    c.variants.new.costs c.variants.new.found c.in_ok-kept.ensures.variants).0
 
 pub put-requires : goal.put-requires
 put-requires c =
-    let all-asked = variants-return c.args.file.now c.args.sort c.args.value c.args.most
-    c.in-Kept.count
-    c.in-Kept.passes _
-    c.variants-variants.new.costs
-    c.variants-variants.new.found
-    (by_case (goal.at.put-requires c).Start c.variants-variants.new.records c.variants-variants.new.literals
-    c.variants-variants.new.names c.variants-variants.new.costs
-    c.variants-variants.new.found
-    c.variants-variants.result (Kept c.in-Kept.count c.in-Kept.passes
-    c.in-Kept.terms
-    c.in-Kept.symbols)
-    c.variants-variants.ensures
-    c.in-Kept.is) in
-    record { symbols_value = all-asked.0; within = all-asked.1 }
+    let all-asked = variants-return c.args.file.now c.args.sort c.args.value c.args.most _ _ _
+    c.variants.new.costs c.variants.new.found c.in_ok-kept.ensures.variants in
+    let n = ap (λ (s : Store). s.terms) c.read.ensures in
+    record { within = rw (← n) at all-asked.1 }
 
-pub returns-in-Refused : goal.returns-in-Refused
-returns-in-Refused c =
-    variants-refused c.args.file.now c.args.sort c.args.value c.args.most c.args.out.now
-    c.in-Refused.r _ c.variants-variants.new.costs c.variants-variants.new.found
-    (by_case (goal.at.returns-in-Refused c).Start c.variants-variants.new.records
-    c.variants-variants.new.literals
-    c.variants-variants.new.names
-    c.variants-variants.new.costs c.variants-variants.new.found c.variants-variants.result
-    (Refused c.in-Refused.r) c.variants-variants.ensures c.in-Refused.is)
+pub returns-in_err-kept : goal.returns-in_err-kept
+returns-in_err-kept c =
+    let p = err_from_is_err_and c.from_residual.result c.from_residual.ensures.1 in
+    rw (p.1, p.2)
+    (variants-refused c.args.file.now c.args.sort c.args.value c.args.most c.args.out.now _ _ c.variants.new.costs
+    c.variants.new.found c.in_err-kept.ensures.variants)
 
-pub returns-in-Kept : goal.returns-in-Kept
-returns-in-Kept c =
-    variants_kept c.args.file.now c.args.sort c.args.value c.args.most c.args.out.now
-    c.in-Kept.count
-    c.in-Kept.passes _ c.variants-variants.new.costs
-    c.variants-variants.new.found
-    c.put.result c.put.new.out
-    (by_case (goal.at.returns-in-Kept c).Start c.variants-variants.new.records
-    c.variants-variants.new.literals
-    c.variants-variants.new.names
-    c.variants-variants.new.costs
-    c.variants-variants.new.found
-    c.variants-variants.result (Kept
-    c.in-Kept.count
-    c.in-Kept.passes c.in-Kept.terms c.in-Kept.symbols) c.variants-variants.ensures
-    c.in-Kept.is)
-    c.put.ensures
+pub returns : goal.returns
+returns c =
+    let g = c.args in
+    let k = c.in_ok-kept.kept in
+    let paid = c.variants.new.costs in
+    let found = c.variants.new.found in
+    variants_kept g.file.now g.sort g.value g.most g.out.now _ _ _ paid found c.put.result c.put.new.out
+    c.in_ok-kept.ensures.variants
+    (c.put.ensures
+    ∙ ap (λ (s : Store). put_in (in_room (length g.out.now) (value (variants_text s paid found k.count k.passes))) g.out.now)
+    c.read.ensures)

@@ -1,4 +1,5 @@
 -- Whether the text fits, by its length cut at 2^63; and that it stands. Assumes nothing.
+use Rattle.std.specs.Prelude.{Ok, Err}
 use mathlib.Core.Path.{◌≡◌}
 use mathlib.Core.List.{List, ◌++◌}
 use Prim.Native.Nat.{ℕ, ◌+◌, ◌^◌, ◌<◌, ◌≤◌}
@@ -14,8 +15,7 @@ use Rattle.program_rules.proofs.headlines.StepLaws.{step_then, step-whole}
 use Rattle.program.specs.Replies.{reply_texts}
 use Rattle.program_rules.specs.Reply.{in_room, put_in}
 use Rattle.program_rules.specs.Seen.{seen}
-use Rattle.program_rules.specs.declared.replies.Answered.TheVariants.{Written, Refused}
-use Rattle.program_rules.proofs.replies.RoomLaws.{fits, no_room}
+use Rattle.program_rules.proofs.Replies.RoomLaws.{fits, no_room}
 use Rattle.program.specs.VariantsReply.Text.{lines_text}
 
 module _ (node : ℕ → Node) (n : ℕ) (costs terms : List ℕ) (k p : ℕ) where
@@ -33,7 +33,7 @@ module _ (node : ℕ → Node) (n : ℕ) (costs terms : List ℕ) (k p : ℕ) wh
       pub refuses :
           (out : List ℕ) →
           length out < long →
-          seen (Refused NoRoom) out ≡ put_in (in_room (length out) (value (lines_text node n costs terms k p))) out
+          seen (Err NoRoom) out ≡ put_in (in_room (length out) (value (lines_text node n costs terms k p))) out
       refuses out l =
           no_room (lines_text node n costs terms k p) out
           (by (length out) (length (variants_line k p)) (length (reply_texts node n costs terms k))
@@ -54,7 +54,7 @@ module _ (node : ℕ → Node) (n : ℕ) (costs terms : List ℕ) (k p : ℕ) wh
       length (variants_line k p) + length (reply_texts node n costs terms k) ≤ length out →
       Step (variants_line k p) 0 a out o₁ →
       Step (reply_texts node n costs terms k) a e o₁ o₂ →
-      seen (Written e) o₂ ≡ put_in (in_room (length out) (value (lines_text node n costs terms k p))) out
+      seen (Ok e) o₂ ≡ put_in (in_room (length out) (value (lines_text node n costs terms k p))) out
   unfolding lines_text
   writes out o₁ o₂ a e l s t =
       let w = step-whole out (variants_line k p ++ reply_texts node n costs terms k) o₂ e

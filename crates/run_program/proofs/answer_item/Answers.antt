@@ -4,10 +4,9 @@ use Rattle.program.proofs.RespondLaws.{response-inside}
 use Rattle.run_program.proofs.answer_item.Goals as goal
 
 pub slice_bounds-out-end : goal.slice_bounds-out-end
-slice_bounds-out-end g c = response-inside _ _ _ _ _ c.respond-answered.ensures c.in-Written.is
+slice_bounds-out-end g c = response-inside _ _ _ _ _ c.respond.ensures c.in-Ok.is
 
-pub slice_bounds-write_all-end : goal.slice_bounds-write_all-end
-slice_bounds-write_all-end g c =
-    let inside : c.in-Written.k ≤ length c.respond-answered.new.out =
-    response-inside _ _ _ _ _ c.respond-answered.ensures c.in-Written.is in
+pub slice_bounds-write_all-end-then-is_ok : goal.slice_bounds-write_all-end-then-is_ok
+slice_bounds-write_all-end-then-is_ok g c =
+    let inside : c.in-Ok.k ≤ length c.respond.new.out = response-inside _ _ _ _ _ c.respond.ensures c.in-Ok.is in
     search rules

@@ -1,48 +1,25 @@
--- `term::add_literal` meets its contract. The store is checked, then the literal is interned. Assumes nothing.
-use mathlib.Core.Path.{sym, ◌∙◌}
-use borrow.Author.Tests.{not-true, not-false}
-use Rattle.refusal.specs.declared.Refusal.TheVariants.{BadStore}
-use Rattle.term_rules.specs.Lent.{store}
-use Rattle.term_rules.specs.Nodes.{literal}
-use Rattle.term.specs.Calls.{literal_faults, add_literal}
-use Rattle.term.proofs.CallLaws.{literal-store, literal-fine, adding-refuses, adding-room, adding-given}
+-- `term::add_literal` meets its contract. The tests, and then the literal is interned. Assumes nothing.
 use mir.Syntax.{w64}
 use mir.ValLaws.{to_z-of_z}
+use Rattle.std.proofs.lemmas.Result.{err_from_is_err_and}
+use Rattle.term_rules.specs.Nodes.{literal}
+use Rattle.term_add.specs.Held.{held}
+use Rattle.term.specs.Calls.{literal_faults, add_literal}
+use Rattle.term.proofs.CallLaws.{adding-refuses, adding-gains}
 use Rattle.term.proofs.add_literal.Goals as goal
 
-pub returns-then-not-check : goal.returns-then-not-check
+pub returns-in_err-check_store-clause-added : goal.returns-in_err-check_store-clause-added
 unfolding add_literal
-returns-then-not-check c =
+returns-in_err-check_store-clause-added c =
     let g = c.args in
-    let s = store g.records.now g.literals.now g.names.now g.terms g.symbols in
-    adding-refuses s (literal g.literal) (literal_faults s) BadStore
-    (literal-store s (sym c.check.ensures ∙ not-true _ c.if-not-check.true-raw))
+    let p = err_from_is_err_and c.from_residual.result c.from_residual.ensures.1 in
+    rw (p.1, p.2) (adding-refuses (held g.store.now) (literal g.literal) (literal_faults (held g.store.now)) _
+    (rw c.lent.ensures at c.in_err-check_store.ensures.faults))
 
-pub intern_literal-requires : goal.intern_literal-requires
-intern_literal-requires c = (sym c.check.ensures ∙ not-false _ c.if-not-check.false-raw)
-
-pub returns-in_default : goal.returns-in_default
+pub returns-clause-added : goal.returns-clause-added
 unfolding add_literal
-returns-in_default c =
+returns-clause-added c =
     let g = c.args in
-    let s = store g.records.now g.literals.now g.names.now g.terms g.symbols in
-    adding-room s (literal g.literal) (literal_faults s)
-    (literal-fine s
-    (sym c.check.ensures ∙ not-false _
-    c.if-not-check.false-raw)) _ _ _ _
-    (rw (to_z-of_z w64 g.literal
-    c.ranges.literal) at c.intern_literal.ensures)
-    c.in_default.is
-
-pub returns : goal.returns
-unfolding add_literal
-returns c =
-    let g = c.args in
-    let s = store g.records.now g.literals.now g.names.now g.terms g.symbols in
-    adding-given s (literal g.literal) (literal_faults s)
-    (literal-fine s
-    (sym c.check.ensures ∙
-    not-false _ c.if-not-check.false-raw)) _ _ _ _ _
-    _ _
-    (rw (to_z-of_z w64 g.literal
-    c.ranges.literal) at c.intern_literal.ensures) c.in-Term.is
+    rw c.ok_or.ensures.value (
+    adding-gains (held g.store.now) (literal g.literal) (literal_faults (held g.store.now)) _ _
+    (rw c.lent.ensures at c.in_ok-check_store.ensures.faults) (rw (to_z-of_z w64 g.literal c.ranges.literal) at c.intern_literal.ensures.gains))

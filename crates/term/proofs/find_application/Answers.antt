@@ -1,98 +1,30 @@
--- `term::find_application` meets its contract. The store, the name and the children are checked, then the application
--- is looked for. Assumes nothing.
-use mathlib.Core.Path.{sym, ◌∙◌}
-use borrow.Author.Tests.{not-true, not-false}
-use Rattle.refusal.specs.declared.Refusal.TheVariants.{BadStore, BadName, BadSize, BadTerm}
-use Rattle.term_rules.specs.Lent.{store}
+-- `term::find_application` meets its contract. The tests, and then the application is looked for. Assumes nothing.
+use Rattle.std.proofs.lemmas.Result.{err_from_is_err_and}
+use Rattle.term_rules.specs.Lent.{Store}
 use Rattle.term_rules.specs.Nodes.{application}
+use Rattle.term_rules.specs.Adding.{find_term}
+use Rattle.term_layout.specs.Sound.{lent_of}
 use Rattle.term.specs.Calls.{application_faults, find_application}
-use Rattle.term.proofs.CallLaws.{application-store, application-name, application-size, application-term, application-fine, finding-refuses, finding-absent, finding-given}
+use Rattle.term.proofs.CallLaws.{application-fits, of-lent, finding-refuses, finding-told}
 use Rattle.term.proofs.find_application.Goals as goal
 
-pub returns-then-not-check : goal.returns-then-not-check
+pub returns-in_err-store : goal.returns-in_err-store
 unfolding find_application
-returns-then-not-check c =
+returns-in_err-store c =
     let g = c.args in
-    let s = store g.records.now g.literals.now g.names.now g.terms g.symbols in
-    finding-refuses s (application g.name.now g.children.now)
-    (application_faults s g.name.now g.children.now) BadStore
-    (application-store s g.name.now g.children.now
-    (sym c.check.ensures ∙ not-true _ c.if-not-check.true-raw))
-
-pub returns-then-not-is_valid : goal.returns-then-not-is_valid
-unfolding find_application
-returns-then-not-is_valid c =
-    let g = c.args in
-    let s = store g.records.now g.literals.now g.names.now g.terms g.symbols in
-    finding-refuses s (application g.name.now g.children.now)
-    (application_faults s g.name.now g.children.now) BadName
-    (application-name s g.name.now g.children.now
-    (sym c.check.ensures ∙ not-false _ c.if-not-check.false-raw)
-    (sym c.is_valid.ensures ∙ not-true _ c.if-not-is_valid.true-raw))
-
-pub returns-then-children-gt8 : goal.returns-then-children-gt8
-unfolding find_application
-returns-then-children-gt8 c =
-    let g = c.args in
-    let s = store g.records.now g.literals.now g.names.now g.terms g.symbols in
-    finding-refuses s (application g.name.now g.children.now)
-    (application_faults s g.name.now g.children.now) BadSize
-    (application-size s g.name.now g.children.now
-    (sym c.check.ensures ∙ not-false _ c.if-not-check.false-raw)
-    (sym c.is_valid.ensures ∙ not-false _ c.if-not-is_valid.false-raw) c.if-children-gt8.true)
-
-pub returns-then-not-all_below : goal.returns-then-not-all_below
-unfolding find_application
-returns-then-not-all_below c =
-    let g = c.args in
-    let s = store g.records.now g.literals.now g.names.now g.terms g.symbols in
-    finding-refuses s (application g.name.now g.children.now)
-    (application_faults s g.name.now g.children.now) BadTerm
-    (application-term s g.name.now g.children.now
-    (sym c.check.ensures ∙ not-false _
-    c.if-not-check.false-raw)
-    (sym c.is_valid.ensures ∙ not-false _
-    c.if-not-is_valid.false-raw) c.if-children-gt8.false (sym c.all_below.ensures
-    ∙ not-true _ c.if-not-all_below.true-raw))
+    let p = err_from_is_err_and c.from_residual.result c.from_residual.ensures.1 in
+    rw (p.1, p.2) (finding-refuses (lent_of g.lent.now) (application g.name.now g.children.now) (application_faults (lent_of g.lent.now) g.name.now g.children.now) _ c.in_err-store.ensures.faults)
 
 pub find_application-requires : goal.find_application-requires
 find_application-requires c =
-    record {
-      symbols_value = (sym c.check.ensures ∙ not-false _
-          c.if-not-check.false-raw);
-      children_len_bound = c.if-children-gt8.false;
-    }
-
-pub returns-in_default : goal.returns-in_default
-unfolding find_application
-returns-in_default c =
     let g = c.args in
-    let s = store g.records.now g.literals.now g.names.now g.terms g.symbols in
-    finding-absent s (application g.name.now g.children.now)
-    (application_faults s g.name.now g.children.now)
-    (application-fine s g.name.now g.children.now
-    (sym c.check.ensures ∙ not-false _
-    c.if-not-check.false-raw)
-    (sym c.is_valid.ensures ∙ not-false _
-    c.if-not-is_valid.false-raw)
-    c.if-children-gt8.false
-    (sym c.all_below.ensures ∙ not-false _
-    c.if-not-all_below.false-raw))
-    (sym c.find_application.ensures ∙ c.in_default.is)
+    let f = application-fits (lent_of g.lent.now) g.name.now g.children.now c.in_ok-store.ensures.faults in
+    record { children_len_bound = f.1.1 }
 
 pub returns : goal.returns
 unfolding find_application
 returns c =
     let g = c.args in
-    let s = store g.records.now g.literals.now g.names.now g.terms g.symbols in
-    finding-given s (application g.name.now g.children.now)
-    (application_faults s g.name.now g.children.now) _
-    (application-fine s g.name.now g.children.now
-    (sym c.check.ensures ∙
-    not-false _ c.if-not-check.false-raw)
-    (sym c.is_valid.ensures ∙ not-false _
-    c.if-not-is_valid.false-raw)
-    c.if-children-gt8.false
-    (sym c.all_below.ensures ∙ not-false _
-    c.if-not-all_below.false-raw))
-    (sym c.find_application.ensures ∙ c.in-At.is)
+    rw c.ok_or.ensures.value (
+    finding-told (lent_of g.lent.now) (application g.name.now g.children.now) (application_faults (lent_of g.lent.now) g.name.now g.children.now) _ c.in_ok-store.ensures.faults
+    (of-lent (λ (s : Store). find_term s (application g.name.now g.children.now)) c.find_application.ensures c.in_ok-store.ensures.same))

@@ -1,57 +1,24 @@
--- `term::find_variable` meets its contract. The store and the name are checked, then the variable is looked for.
--- Assumes nothing.
-use mathlib.Core.Path.{sym, ◌∙◌}
-use borrow.Author.Tests.{not-true, not-false}
-use Rattle.refusal.specs.declared.Refusal.TheVariants.{BadStore, BadName}
-use Rattle.term_rules.specs.Lent.{store}
+-- `term::find_variable` meets its contract. The tests, and then the variable is looked for. Assumes nothing.
+use Rattle.std.proofs.lemmas.Result.{err_from_is_err_and}
+use Rattle.term_rules.specs.Lent.{Store}
 use Rattle.term_rules.specs.Nodes.{variable}
+use Rattle.term_rules.specs.Adding.{find_term}
+use Rattle.term_layout.specs.Sound.{lent_of}
 use Rattle.term.specs.Calls.{variable_faults, find_variable}
-use Rattle.term.proofs.CallLaws.{variable-store, variable-name, variable-fine, finding-refuses, finding-absent, finding-given}
+use Rattle.term.proofs.CallLaws.{of-lent, finding-refuses, finding-told}
 use Rattle.term.proofs.find_variable.Goals as goal
 
-pub returns-then-not-check : goal.returns-then-not-check
+pub returns-in_err-store : goal.returns-in_err-store
 unfolding find_variable
-returns-then-not-check c =
+returns-in_err-store c =
     let g = c.args in
-    let s = store g.records.now g.literals.now g.names.now g.terms g.symbols in
-    finding-refuses s (variable g.name.now) (variable_faults s g.name.now) BadStore
-    (variable-store s g.name.now (sym c.check.ensures ∙ not-true _ c.if-not-check.true-raw))
-
-pub returns-then-not-is_valid : goal.returns-then-not-is_valid
-unfolding find_variable
-returns-then-not-is_valid c =
-    let g = c.args in
-    let s = store g.records.now g.literals.now g.names.now g.terms g.symbols in
-    finding-refuses s (variable g.name.now) (variable_faults s g.name.now) BadName
-    (variable-name s g.name.now
-    (sym c.check.ensures ∙ not-false _ c.if-not-check.false-raw)
-    (sym c.is_valid.ensures ∙ not-true _ c.if-not-is_valid.true-raw))
-
-pub find_variable-requires : goal.find_variable-requires
-find_variable-requires c = (sym c.check.ensures ∙ not-false _ c.if-not-check.false-raw)
-
-pub returns-in_default : goal.returns-in_default
-unfolding find_variable
-returns-in_default c =
-    let g = c.args in
-    let s = store g.records.now g.literals.now g.names.now g.terms g.symbols in
-    finding-absent s (variable g.name.now) (variable_faults s g.name.now)
-    (variable-fine s g.name.now
-    (sym c.check.ensures ∙ not-false _
-    c.if-not-check.false-raw)
-    (sym c.is_valid.ensures ∙ not-false _
-    c.if-not-is_valid.false-raw))
-    (sym c.find_variable.ensures ∙ c.in_default.is)
+    let p = err_from_is_err_and c.from_residual.result c.from_residual.ensures.1 in
+    rw (p.1, p.2) (finding-refuses (lent_of g.lent.now) (variable g.name.now) (variable_faults (lent_of g.lent.now) g.name.now) _ c.in_err-store.ensures.faults)
 
 pub returns : goal.returns
 unfolding find_variable
 returns c =
     let g = c.args in
-    let s = store g.records.now g.literals.now g.names.now g.terms g.symbols in
-    finding-given s (variable g.name.now) (variable_faults s g.name.now) _
-    (variable-fine s g.name.now
-    (sym c.check.ensures ∙ not-false _
-    c.if-not-check.false-raw)
-    (sym c.is_valid.ensures ∙ not-false _
-    c.if-not-is_valid.false-raw))
-    (sym c.find_variable.ensures ∙ c.in-At.is)
+    rw c.ok_or.ensures.value (
+    finding-told (lent_of g.lent.now) (variable g.name.now) (variable_faults (lent_of g.lent.now) g.name.now) _ c.in_ok-store.ensures.faults
+    (of-lent (λ (s : Store). find_term s (variable g.name.now)) c.find_variable.ensures c.in_ok-store.ensures.same))

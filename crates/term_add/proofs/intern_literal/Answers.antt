@@ -27,4 +27,4 @@ returns c =
     let e =
     to_z-of_z w64 g.literal c.ranges.literal in
     add-there g.records.now g.literals.now g.names.now g.terms g.symbols (literal g.literal) _
-    (sym (rw e at c.find_literal.ensures) ∙ c.in-At.is)
+    (sym (rw e at c.find_literal.ensures) ∙ c.in-Some.is)

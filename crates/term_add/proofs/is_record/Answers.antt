@@ -3,6 +3,7 @@ use mathlib.Core.Path.{sym, ◌∙◌}
 use lib.ListN.{get_or}
 use lib.IntN.{pos}
 use Rattle.term_rules.proofs.SignLaws.{bits-same, bits-apart}
+use Rattle.name.proofs.NameLaws.{same-eq}
 use Rattle.term_add.proofs.MatchLaws.{kind-refuses, symbol-refuses, count-refuses, literal-refuses, children-rest}
 use native.Mathlib.Omega.{arith}
 use Rattle.term_add.proofs.is_record.Goals as goal
@@ -49,10 +50,10 @@ returns c =
     let g = c.args in
     let e =
     bits-same (get_or g.literals.now g.i (pos 0)) g.literal
-    (record { sfits = c.t13-1.given })
+    (record { sfits = c.t14-1.given })
     c.ranges.literal
     c.if-literals-i.false in
-    rw c.children_of.ensures at c.are_equal.ensures
+    rw c.children_of.ensures at (c.eq.ensures ∙ same-eq c.children_of.result.now g.children.now)
     ∙ children-rest g.records.now g.literals.now g.i g.kind g.symbol g.literal g.children.now
     (sym c.kind_of.ensures ∙ c.if-kind_of-kind.false)
     (sym c.symbol_of.ensures ∙ c.if-symbol_of-symbol.false) (sym c.count_of.ensures ∙ c.if-count_of-children.false)

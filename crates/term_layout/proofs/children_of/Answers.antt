@@ -12,5 +12,6 @@ returns c =
     let g = c.args in
     let n : ℕ = arity_at g.records.now g.i in
     let e : g.i * width + 3 + n - (g.i * width + 3) ≡ n = omega arith in
-    ap (λ (m : ℕ). take m (drop (g.i * width + 3) g.records.now)) e
-    ∙ sym (take-take n 8 (drop (g.i * width + 3) g.records.now) c.requires.i_bound)
+    rw c.count_of.ensures
+    (ap (λ (m : ℕ). take m (drop (g.i * width + 3) g.records.now)) e
+    ∙ sym (take-take n 8 (drop (g.i * width + 3) g.records.now) c.requires.i_bound))

@@ -13,6 +13,7 @@ returns c =
     let g = c.args in
     let n : ℕ = arity_at g.records.now g.i in
     let e : g.i * width + 3 + 8 - (g.i * width + 3 + n) ≡ 8 - n = omega arith in
-    ap (λ (m : ℕ). take m (drop (g.i * width + 3 + n) g.records.now)) e
+    rw c.count_of.ensures
+    (ap (λ (m : ℕ). take m (drop (g.i * width + 3 + n) g.records.now)) e
     ∙ sym (drop-take n 8 (drop (g.i * width + 3) g.records.now)
-    ∙ ap (take (8 - n)) (drop-drop n (g.i * width + 3) g.records.now))
+    ∙ ap (take (8 - n)) (drop-drop n (g.i * width + 3) g.records.now)))

@@ -1,45 +1,40 @@
 -- `term_many::add_many` meets its contract. Where an add is refused, the three lists are put back from what was saved:
 -- past the saved places nothing can have changed. Assumes nothing.
-use Prim.Native.Nat.{ℕ}
-use mathlib.Core.Path.{sym, ◌∙◌}
+use Prim.Native.Nat.{ℕ, min}
+use mathlib.Core.Path.{◌≡◌, sym, ap, ◌∙◌}
+use mathlib.Core.Bool.{Bool}
 use native.Mathlib.Omega.{arith}
-use borrow.Author.Tests.{not-true, not-false}
 use lib.IntN.{pos}
-use lib.ListN.{length-replicate}
+use lib.ListN.{length, length-replicate}
 use lib.Seq.{length-take-le}
 use Rattle.name.specs.Entries.{table_length}
 use Rattle.copies.proofs.CopiedLaws.{saved-back}
-use Rattle.term_rules.specs.Lent.{store, records_length}
-use Rattle.term_one.specs.Wanted.{wanted}
+use Rattle.term_rules.specs.Lent.{Store, records_length}
+use Rattle.term_rules.specs.WellFormed.{well_formed}
+use Rattle.term_add.specs.Held.{held}
+use Rattle.term_one.specs.Wanted.{wanted_of}
 use Rattle.term_many.proofs.ManyLaws.{many-bad, many-refused, many-places, many-added}
 use Rattle.term_many.proofs.add_many.Goals as goal
 
-pub returns-then-not-check : goal.returns-then-not-check
-returns-then-not-check c =
-    let g = c.args in
-    many-bad (wanted g.adds.now g.values.now g.labels.now)
-    (store g.records.now g.literals.now g.names.now g.terms g.symbols) g.numbers.now
-    (sym c.check.ensures ∙ not-true _ c.if-not-check.true-raw)
+-- what was found of the store that was read
+read-as : {b v : Bool} {t u : Store} → b ≡ well_formed t → t ≡ u → b ≡ v → well_formed u ≡ v
+read-as e d h = sym (e ∙ ap well_formed d) ∙ h
 
-pub add_all-r-requires : goal.add_all-r-requires
-add_all-r-requires c =
-    record {
-      symbols_value = sym c.check.ensures ∙ not-false _ c.if-not-check.false-raw;
-      room_in_bounds = omega (arith, c.shorter-room.ensures, length-replicate {A = ℕ} 1024 0);
-    }
+pub returns-then-not-check-clause-added : goal.returns-then-not-check-clause-added
+returns-then-not-check-clause-added c =
+    let g = c.args in
+    many-bad (wanted_of g.list.now) (held g.store.now) g.numbers.now
+    (read-as c.check.ensures c.lent-old.ensures c.if-not-check.true)
 
 pub slice_bounds-got-end : goal.slice_bounds-got-end
 slice_bounds-got-end c =
     let g = c.args in
     let b = c.add_all-r in
-    let made = rw (
-      c.in-Added.is,
-      c.shorter-room.ensures,
-    ) at b.ensures in
+    let fit : c.min-room.result ≡ min 1024 (length g.numbers.now) = omega (arith, c.min-room.ensures) in
+    let made = rw fit at c.in-Ok.ensures.made in
     let places =
-    many-places (wanted g.adds.now g.values.now g.labels.now)
-    (store g.records.now g.literals.now g.names.now g.terms g.symbols) g.numbers.now
-    (sym c.check.ensures ∙ not-false _ c.if-not-check.false-raw) _ _ made.same in
+    many-places (wanted_of g.list.now) (held g.store.now) g.numbers.now
+    (read-as c.check.ensures c.lent-old.ensures c.if-not-check.false) _ _ made.same in
     omega (
       arith,
       places,
@@ -48,18 +43,15 @@ slice_bounds-got-end c =
       length-replicate {A = ℕ} 1024 0,
     )
 
-pub slice_bounds-numbers-end-in-Added : goal.slice_bounds-numbers-end-in-Added
-slice_bounds-numbers-end-in-Added c =
+pub slice_bounds-over-end-in-Ok : goal.slice_bounds-over-end-in-Ok
+slice_bounds-over-end-in-Ok c =
     let g = c.args in
     let b = c.add_all-r in
-    let made = rw (
-      c.in-Added.is,
-      c.shorter-room.ensures,
-    ) at b.ensures in
+    let fit : c.min-room.result ≡ min 1024 (length g.numbers.now) = omega (arith, c.min-room.ensures) in
+    let made = rw fit at c.in-Ok.ensures.made in
     let places =
-    many-places (wanted g.adds.now g.values.now g.labels.now)
-    (store g.records.now g.literals.now g.names.now g.terms g.symbols) g.numbers.now
-    (sym c.check.ensures ∙ not-false _ c.if-not-check.false-raw) _ _ made.same in
+    many-places (wanted_of g.list.now) (held g.store.now) g.numbers.now
+    (read-as c.check.ensures c.lent-old.ensures c.if-not-check.false) _ _ made.same in
     sym (length-take-le c.record_room-count.result b.new.got (omega (
       arith,
       places,
@@ -68,36 +60,31 @@ slice_bounds-numbers-end-in-Added c =
       length-replicate {A = ℕ} 1024 0,
     )))
 
-pub returns-in-Refused : goal.returns-in-Refused
-returns-in-Refused c =
+pub returns-in-Err-clause-added : goal.returns-in-Err-clause-added
+returns-in-Err-clause-added c =
     let g = c.args in
-    let b = c.add_all-r in
-    let made = rw (
-      c.in-Refused.is,
-      c.shorter-room.ensures,
-    ) at b.ensures in
+    let s = g.store.now in
+    let b = c.add_all-r.new.store in
+    let fit : c.min-room.result ≡ min 1024 (length g.numbers.now) = omega (arith, c.min-room.ensures) in
+    let made = rw fit at c.in-Err.ensures.made in
     let er =
-    rw c.numbers.ensures at c.numbers-in-Refused.ensures
-    ∙ saved-back (records_length 1024) 0 g.records.now b.new.records b.auto.records made.beyond.records in
+    rw (c.over.ensures, ap (λ (x : Store). x.records) c.lent-old.ensures) at c.over-in-Err.ensures
+    ∙ saved-back (records_length 1024) 0 s.records.now b.records.now made.long.records made.beyond.records in
     let el =
-    rw c.literals.ensures at c.literals-in-Refused.ensures
-    ∙ saved-back 1024 (pos 0) g.literals.now b.new.literals b.auto.literals made.beyond.literals in
+    rw (c.over-2.ensures, ap (λ (x : Store). x.literals) c.lent-old.ensures) at c.over-in-Err-2.ensures
+    ∙ saved-back 1024 (pos 0) s.literals.now b.literals.now made.long.literals made.beyond.literals in
     let en =
-    rw c.bytes.ensures at c.bytes-in-Refused.ensures
-    ∙ saved-back table_length 0 g.names.now b.new.names b.auto.names made.beyond.names in
-    many-refused (wanted g.adds.now g.values.now g.labels.now)
-    (store g.records.now g.literals.now g.names.now g.terms g.symbols) g.numbers.now
-    (sym c.check.ensures ∙ not-false _ c.if-not-check.false-raw) c.in-Refused.why made.same _ _ _ er el en
+    rw (c.over-3.ensures, ap (λ (x : Store). x.names) c.lent-old.ensures) at c.over-in-Err-3.ensures
+    ∙ saved-back table_length 0 s.names.now b.names.now made.long.names made.beyond.names in
+    many-refused (wanted_of g.list.now) (held s) g.numbers.now
+    (read-as c.check.ensures c.lent-old.ensures c.if-not-check.false) c.in-Err.why made.same _ _ _ er el en
 
-pub returns-in-Added : goal.returns-in-Added
-returns-in-Added c =
+pub returns-in-Ok-clause-added : goal.returns-in-Ok-clause-added
+returns-in-Ok-clause-added c =
     let g = c.args in
     let b = c.add_all-r in
-    let made = rw (
-      c.in-Added.is,
-      c.shorter-room.ensures,
-    ) at b.ensures in
-    many-added (wanted g.adds.now g.values.now g.labels.now)
-    (store g.records.now g.literals.now g.names.now g.terms g.symbols) g.numbers.now
-    (sym c.check.ensures ∙ not-false _ c.if-not-check.false-raw) _ _ made.same c.record_room-count.result _
-    c.record_room-count.ensures c.numbers-in-Added.ensures
+    let fit : c.min-room.result ≡ min 1024 (length g.numbers.now) = omega (arith, c.min-room.ensures) in
+    let made = rw fit at c.in-Ok.ensures.made in
+    many-added (wanted_of g.list.now) (held g.store.now) g.numbers.now
+    (read-as c.check.ensures c.lent-old.ensures c.if-not-check.false) _ _ made.same
+    c.record_room-count.result _ c.record_room-count.ensures c.over-in-Ok.ensures

@@ -1,41 +1,28 @@
--- `term_one::applied` meets its contract: the children are checked, then the application is interned. Assumes nothing.
+-- `term_one::applied` meets its contract. The children are checked, then the application is interned. Assumes nothing.
 use mathlib.Core.Path.{sym, ◌∙◌}
-use borrow.Author.Tests.{not-true, not-false}
-use Rattle.refusal.specs.declared.Refusal.TheVariants.{BadTerm}
-use Rattle.term_rules.specs.Lent.{store}
+use Rattle.term_add.specs.Held.{held}
 use Rattle.term_rules.specs.Nodes.{application}
 use Rattle.term.specs.Calls.{application_faults, add_application}
-use Rattle.term.proofs.CallLaws.{application-term, application-fine, adding-refuses, adding-room, adding-given}
+use Rattle.term.proofs.CallLaws.{adding-refuses, adding-gains}
+use Rattle.term_one.proofs.AskedLaws.{applied-fails, applied-passes}
 use Rattle.term_one.proofs.applied.Goals as goal
 
-pub returns-then-not-all_below : goal.returns-then-not-all_below
+pub returns-then-not-all_below-clause-added : goal.returns-then-not-all_below-clause-added
 unfolding add_application
-returns-then-not-all_below c =
+returns-then-not-all_below-clause-added c =
     let g = c.args in
-    let s = store g.records.now g.literals.now g.names.now g.terms g.symbols in
-    adding-refuses s (application g.name.now g.children.now)
-    (application_faults s g.name.now g.children.now) BadTerm
-    (application-term s g.name.now g.children.now c.requires.symbols_value c.requires.name_value c.requires.children_len_bound
-    (sym c.all_below.ensures ∙ not-true _ c.if-not-all_below.true-raw))
+    let s = held g.store.now in
+    adding-refuses s (application g.name.now g.children.now) (application_faults s g.name.now g.children.now) _
+    (applied-fails s c.requires.sound g.name.now g.children.now c.requires.name_value
+    c.requires.children_len_bound (sym c.all_below.ensures ∙ c.if-not-all_below.true))
 
-pub returns-in_default : goal.returns-in_default
+pub returns-clause-added : goal.returns-clause-added
 unfolding add_application
-returns-in_default c =
+returns-clause-added c =
     let g = c.args in
-    let s = store g.records.now g.literals.now g.names.now g.terms g.symbols in
-    adding-room s (application g.name.now g.children.now)
-    (application_faults s g.name.now g.children.now)
-    (application-fine s g.name.now g.children.now c.requires.symbols_value c.requires.name_value c.requires.children_len_bound
-    (sym c.all_below.ensures ∙ not-false _ c.if-not-all_below.false-raw))
-    _ _ _ _ c.intern_application.ensures c.in_default.is
-
-pub returns : goal.returns
-unfolding add_application
-returns c =
-    let g = c.args in
-    let s = store g.records.now g.literals.now g.names.now g.terms g.symbols in
-    adding-given s (application g.name.now g.children.now)
-    (application_faults s g.name.now g.children.now)
-    (application-fine s g.name.now g.children.now c.requires.symbols_value c.requires.name_value c.requires.children_len_bound
-    (sym c.all_below.ensures ∙ not-false _ c.if-not-all_below.false-raw))
-    _ _ _ _ _ _ _ c.intern_application.ensures c.in-Term.is
+    let s = held g.store.now in
+    rw c.ok_or.ensures.value
+    (adding-gains s (application g.name.now g.children.now) (application_faults s g.name.now g.children.now) _ _
+    (applied-passes s c.requires.sound g.name.now g.children.now c.requires.name_value
+    c.requires.children_len_bound (sym c.all_below.ensures ∙ c.if-not-all_below.false))
+    c.intern_application.ensures.gains)

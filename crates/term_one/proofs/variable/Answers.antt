@@ -1,42 +1,26 @@
--- `term_one::variable` meets its contract: the name is checked, then the variable is interned. Assumes nothing.
+-- `term_one::variable` meets its contract. The name is checked, then the variable is interned. Assumes nothing.
 use mathlib.Core.Path.{sym, ◌∙◌}
-use borrow.Author.Tests.{not-true, not-false}
-use Rattle.refusal.specs.declared.Refusal.TheVariants.{BadName}
-use Rattle.term_rules.specs.Lent.{store}
+use Rattle.term_add.specs.Held.{held}
 use Rattle.term_rules.specs.Nodes.{variable}
 use Rattle.term.specs.Calls.{variable_faults, add_variable}
-use Rattle.term.proofs.CallLaws.{variable-name, variable-fine, adding-refuses, adding-room, adding-given}
+use Rattle.term.proofs.CallLaws.{adding-refuses, adding-gains}
+use Rattle.term_one.proofs.AskedLaws.{name-fails, name-passes}
 use Rattle.term_one.proofs.variable.Goals as goal
 
-pub returns-then-not-is_valid : goal.returns-then-not-is_valid
+pub returns-then-not-is_valid-clause-added : goal.returns-then-not-is_valid-clause-added
 unfolding add_variable
-returns-then-not-is_valid c =
+returns-then-not-is_valid-clause-added c =
     let g = c.args in
-    let s = store g.records.now g.literals.now g.names.now g.terms g.symbols in
-    adding-refuses s (variable g.name.now) (variable_faults s g.name.now) BadName
-    (variable-name s g.name.now c.requires (sym c.is_valid.ensures ∙ not-true _ c.if-not-is_valid.true-raw))
+    let s = held g.store.now in
+    adding-refuses s (variable g.name.now) (variable_faults s g.name.now) _
+    (name-fails s c.requires g.name.now (sym c.is_valid.ensures ∙ c.if-not-is_valid.true))
 
-pub intern_variable-requires : goal.intern_variable-requires
-intern_variable-requires c =
-    record {
-      symbols_value = c.requires;
-      name_value = sym c.is_valid.ensures ∙ not-false _ c.if-not-is_valid.false-raw;
-    }
-
-pub returns-in_default : goal.returns-in_default
+pub returns-clause-added : goal.returns-clause-added
 unfolding add_variable
-returns-in_default c =
+returns-clause-added c =
     let g = c.args in
-    let s = store g.records.now g.literals.now g.names.now g.terms g.symbols in
-    adding-room s (variable g.name.now) (variable_faults s g.name.now)
-    (variable-fine s g.name.now c.requires (sym c.is_valid.ensures ∙ not-false _ c.if-not-is_valid.false-raw))
-    _ _ _ _ c.intern_variable.ensures c.in_default.is
-
-pub returns : goal.returns
-unfolding add_variable
-returns c =
-    let g = c.args in
-    let s = store g.records.now g.literals.now g.names.now g.terms g.symbols in
-    adding-given s (variable g.name.now) (variable_faults s g.name.now)
-    (variable-fine s g.name.now c.requires (sym c.is_valid.ensures ∙ not-false _ c.if-not-is_valid.false-raw))
-    _ _ _ _ _ _ _ c.intern_variable.ensures c.in-Term.is
+    let s = held g.store.now in
+    rw c.ok_or.ensures.value
+    (adding-gains s (variable g.name.now) (variable_faults s g.name.now) _ _
+    (name-passes s c.requires g.name.now (sym c.is_valid.ensures ∙ c.if-not-is_valid.false))
+    c.intern_variable.ensures.gains)

@@ -1,23 +1,13 @@
--- `term_record::all_below` meets its contract. The walk stops at the first number that is not below. Assumes nothing.
-use mathlib.Core.Path.{sym, ◌∙◌}
-use Rattle.term_record.proofs.WalkLaws.{all_below-refuses, all_below-more, all_below-end}
-use native.Mathlib.Omega.{arith}
+-- `term_record::all_below` meets its contract: std's `all` asks of each number what the definition asks. Assumes nothing.
+use mathlib.Core.Path.{◌∙◌}
+use Rattle.std.proofs.Common.{rules, tests}
+use Rattle.std.proofs.lemmas.Iterator.{YieldsList-from_slice}
+use Rattle.std.proofs.lemmas.Iterator.Search.{all_from_yields_List}
+use Rattle.term_record.proofs.WalkLaws.{all_below-all}
 use Rattle.term_record.proofs.all_below.Goals as goal
-
-pub returns-then-s-i : goal.returns-then-s-i
-returns-then-s-i c =
-    let g = c.args in
-    let l = c.loop-i in
-    sym (all_below-refuses g.s.now l.i g.n (omega arith) c.if-s-i.true) ∙ l.invariant.1
-
-pub loop-i-preserved : goal.loop-i-preserved
-loop-i-preserved c =
-    let g = c.args in
-    let l = c.loop-i in
-    (omega arith, all_below-more g.s.now l.i g.n (omega arith) c.if-s-i.false ∙ l.invariant.1)
 
 pub returns : goal.returns
 returns c =
-    let g = c.args in
-    let l = c.loop-i in
-    sym (all_below-end g.s.now l.i g.n (omega arith) (omega arith)) ∙ l.invariant.1
+    all_from_yields_List _ _ _ _ c.all.ensures.ran (YieldsList-from_slice c.args.s.now cc)
+    (λ x b q k. search (rules, tests))
+    ∙ all_below-all c.args.n c.args.s.now

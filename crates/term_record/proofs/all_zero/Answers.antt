@@ -1,22 +1,13 @@
--- `term_record::all_zero` meets its contract. The walk stops at the first number that is not zero. Assumes nothing.
-use mathlib.Core.Path.{sym, ◌∙◌}
-use Rattle.term_record.proofs.WalkLaws.{all_zero-refuses, all_zero-more, all_zero-end}
-use native.Mathlib.Omega.{arith}
+-- `term_record::all_zero` meets its contract: std's `all` asks of each number what the definition asks. Assumes nothing.
+use mathlib.Core.Path.{◌∙◌}
+use Rattle.std.proofs.Common.{rules, tests}
+use Rattle.std.proofs.lemmas.Iterator.{YieldsList-from_slice}
+use Rattle.std.proofs.lemmas.Iterator.Search.{all_from_yields_List}
+use Rattle.term_record.proofs.WalkLaws.{all_zero-all}
 use Rattle.term_record.proofs.all_zero.Goals as goal
-
-pub returns-then-s-i-ne0 : goal.returns-then-s-i-ne0
-returns-then-s-i-ne0 c =
-    let g = c.args in
-    let l = c.loop-i in
-    sym (all_zero-refuses g.s.now l.i (omega arith) c.if-s-i-ne0.true) ∙ l.invariant.1
-
-pub loop-i-preserved : goal.loop-i-preserved
-loop-i-preserved c =
-    let g = c.args in
-    let l = c.loop-i in
-    (omega arith, all_zero-more g.s.now l.i (omega arith) c.if-s-i-ne0.false ∙ l.invariant.1)
 
 pub returns : goal.returns
 returns c =
-    let l = c.loop-i in
-    sym (all_zero-end c.args.s.now l.i (omega arith) (omega arith)) ∙ l.invariant.1
+    all_from_yields_List _ _ _ _ c.all.ensures.ran (YieldsList-from_slice c.args.s.now cc)
+    (λ x b q k. search (rules, tests))
+    ∙ all_zero-all c.args.s.now

@@ -1,5 +1,4 @@
 -- `term_record::are_names_new` meets its contract. The walk stops at the first name that is not new. Assumes nothing.
-use Prim.Native.Nat.{◌≤◌, ◌-◌}
 use mathlib.Core.Path.{◌≡◌}
 use mathlib.Core.Bool.{true}
 use Rattle.term_rules.specs.WellFormed.{every}
@@ -7,7 +6,4 @@ use Rattle.term_record.specs.Flat.{fresh_name}
 use Rattle.term_record.proofs.are_names_new.Given as goal
 
 abbrev pub invariant-loop-k : goal.invariant-loop-k
-invariant-loop-k l = (l.k ≤ l.symbols) × (every l.k (fresh_name l.names) ≡ true)
-
-abbrev pub decreases-loop-k : goal.decreases-loop-k
-decreases-loop-k l = l.symbols - l.k
+invariant-loop-k l = every l.k (fresh_name l.names) ≡ true

@@ -9,7 +9,7 @@ use Rattle.term_record.proofs.are_names_sound.Goals as goal
 pub loop-k-init : goal.loop-k-init
 loop-k-init c =
     let g = c.args in
-    (omega arith, every-start (sound_name g.names.now))
+    every-start (sound_name g.names.now)
 
 pub returns-then-not-is_sound_name : goal.returns-then-not-is_sound_name
 returns-then-not-is_sound_name c =
@@ -21,14 +21,12 @@ returns-then-not-is_sound_name c =
 pub loop-k-preserved : goal.loop-k-preserved
 loop-k-preserved c =
     let g = c.args in
-    let l = c.loop-k in (
-      omega arith,
-      every_more (sound_name g.names.now) l.k l.invariant.1 (sym c.is_sound_name.ensures ∙
-          not-false _ c.if-not-is_sound_name.false-raw),
-    )
+    let l = c.loop-k in
+    every_more (sound_name g.names.now) l.k l.invariant (sym c.is_sound_name.ensures ∙
+    not-false _ c.if-not-is_sound_name.false-raw)
 
 pub returns : goal.returns
 returns c =
     let g = c.args in
     let l = c.loop-k in
-    sym (every-end (sound_name g.names.now) l.k g.symbols (omega arith) (omega arith) l.invariant.1)
+    sym (every-end (sound_name g.names.now) l.k g.symbols (omega arith) (omega arith) l.invariant)

@@ -10,7 +10,7 @@ use Rattle.term_record.proofs.are_records_sound.Goals as goal
 pub loop-i-init : goal.loop-i-init
 loop-i-init c =
     let g = c.args in
-    (omega arith, every-start (sound_record_at g.records.now g.literals.now g.symbols))
+    every-start (sound_record_at g.records.now g.literals.now g.symbols)
 
 pub returns-then-not-is_sound_record : goal.returns-then-not-is_sound_record
 returns-then-not-is_sound_record c =
@@ -22,15 +22,13 @@ returns-then-not-is_sound_record c =
 pub loop-i-preserved : goal.loop-i-preserved
 loop-i-preserved c =
     let g = c.args in
-    let l = c.loop-i in (
-      omega arith,
-      every_more (sound_record_at g.records.now g.literals.now
-          g.symbols) l.i l.invariant.1 (sym c.is_sound_record.ensures ∙ not-false _ c.if-not-is_sound_record.false-raw),
-    )
+    let l = c.loop-i in
+    every_more (sound_record_at g.records.now g.literals.now
+    g.symbols) l.i l.invariant (sym c.is_sound_record.ensures ∙ not-false _ c.if-not-is_sound_record.false-raw)
 
 pub returns : goal.returns
 returns c =
     let g = c.args in
     let l = c.loop-i in
     sym (every-end (sound_record_at g.records.now g.literals.now g.symbols) l.i g.terms (omega arith)
-    (omega arith) l.invariant.1)
+    (omega arith) l.invariant)

@@ -9,7 +9,7 @@ returns c =
     let g = c.args in
     record {
       value = bucket-is g.records.now g.literals.now g.i c.digest-h.result
-          c.absolute-m.result (rw (c.symbol_of.ensures, c.places_of.ensures) at c.digest-h.ensures.value)
-          (rw (to_z-of_z (record { sfits = c.absolute-arg-1.given })) at c.absolute-m.ensures);
+          c.unsigned_abs-m.result (rw (c.symbol_of.ensures, c.places_of.ensures) at c.digest-h.ensures.value)
+          (rw (to_z-of_z (record { sfits = c.unsigned_abs-arg-1.given })) at c.unsigned_abs-m.ensures.value);
       upper_bound = omega arith;
     }

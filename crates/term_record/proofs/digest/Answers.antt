@@ -1,20 +1,18 @@
--- `term_record::digest` meets its contract. Assumes nothing.
+-- `term_record::digest` meets its contract. The numbers are taken in order. Assumes nothing.
 use mathlib.Core.Path.{sym, ◌∙◌}
 use Rattle.term_record.proofs.BucketLaws.{digest-more, digest-end}
 use native.Mathlib.Omega.{arith}
 use Rattle.term_record.proofs.digest.Goals as goal
 
-pub loop-i-preserved : goal.loop-i-preserved
-loop-i-preserved c =
-    let g = c.args in
-    let l = c.loop-i in
-    (omega arith, (omega arith, digest-more g.s.now l.h l.i (omega arith) ∙ l.invariant.1.1))
+pub loop-x-preserved : goal.loop-x-preserved
+loop-x-preserved c =
+    let l = c.loop-x in
+    (omega arith, digest-more c.args.s.now l.h l.x-index (omega arith) ∙ l.invariant.1)
 
 pub returns : goal.returns
 returns c =
-    let g = c.args in
-    let l = c.loop-i in
+    let l = c.loop-x in
     record {
-      value = sym (digest-end g.s.now l.h l.i (omega arith) (omega arith)) ∙ l.invariant.1.1;
-      upper_bound = l.invariant.1.0;
+      value = sym (digest-end c.args.s.now l.h l.x-index (omega arith) (omega arith)) ∙ l.invariant.1;
+      upper_bound = l.invariant.0;
     }

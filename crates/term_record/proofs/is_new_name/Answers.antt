@@ -1,6 +1,6 @@
 -- `term_record::is_new_name` meets its contract. The name is looked for among the entries before it. Assumes nothing.
-use mathlib.Core.Path.{sym, ◌∙◌}
-use Rattle.term_record.proofs.CheckLaws.{name_new, name-old}
+use mathlib.Core.Path.{sym}
+use Rattle.term_record.proofs.CheckLaws.{name_none}
 use native.Mathlib.Omega.{arith}
 use Rattle.term_record.proofs.is_new_name.Goals as goal
 
@@ -14,12 +14,7 @@ find-requires c =
     let pre = c.requires in
     record { long = omega (arith, pre.long); short = λ j h. pre.short j (omega arith) }
 
-pub returns-in_default : goal.returns-in_default
-returns-in_default c =
-    let g = c.args in
-    sym (name_new g.names.now g.k (sym ((rw c.name_of.ensures at c.find.ensures)) ∙ c.in_default.is))
-
 pub returns : goal.returns
 returns c =
-    let g = c.args in
-    sym (name-old g.names.now g.k _ (sym ((rw c.name_of.ensures at c.find.ensures)) ∙ c.in-At.is))
+    name_none c.args.names.now c.args.k c.find.result c.is_none.result (sym (rw c.name_of.ensures at c.find.ensures))
+    c.is_none.ensures

@@ -3,6 +3,7 @@ use mathlib.Core.Path.{sym, ◌∙◌}
 use lib.ListN.{get_or}
 use lib.IntN.{pos}
 use Rattle.term_rules.proofs.SignLaws.{bits-same, bits-apart}
+use Rattle.name.proofs.NameLaws.{same-eq}
 use Rattle.term_record.proofs.CheckLaws.{same-kind-refuses, same-symbol-refuses, same-count-refuses, same-literal-refuses, same_rest}
 use Rattle.term_record.proofs.is_same_record.Goals as goal
 
@@ -45,7 +46,7 @@ returns c =
     bits-same (get_or g.literals.now g.j (pos 0)) (get_or g.literals.now g.i (pos 0))
     (record { sfits = c.t10-1.given })
     (record { sfits = c.t13-1.given }) c.if-literals-j.false in
-    (rw (c.places_of.ensures, c.places_of-2.ensures) at c.are_equal.ensures)
+    (rw (c.places_of.ensures, c.places_of-2.ensures) at (c.eq.ensures ∙ same-eq c.places_of.result.now c.places_of-2.result.now))
     ∙ same_rest g.records.now g.literals.now g.j g.i
     (sym c.kind_of.ensures ∙ c.if-kind_of.false ∙ c.kind_of-2.ensures)
     (sym c.symbol_of.ensures ∙ c.if-symbol_of.false ∙ c.symbol_of-2.ensures)

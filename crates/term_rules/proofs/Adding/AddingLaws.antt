@@ -7,8 +7,7 @@ use mathlib.Core.List.{List}
 use native.Mathlib.Omega.{arith}
 use lib.ListN.{length}
 use lib.Dec.{ltb}
-use Rattle.name.specs.declared.Found.{Found}
-use Rattle.name.specs.declared.Found.TheVariants.{At, Missing}
+use Rattle.std.specs.Prelude.{Option, Some, None}
 use Rattle.term_rules.specs.declared.Term.{Term}
 use Rattle.term_rules.specs.Lent.{Store, record_in, record_at, term_room}
 use Rattle.term_rules.specs.WellFormed.{well_formed}
@@ -55,7 +54,7 @@ grows-trans g h = record {
   };
 }
 
-module _ (s : Store) (node : Node) (sound : Sound s) (fit : Fit s node) (missing : find_term s node ≡ Missing) where
+module _ (s : Store) (node : Node) (sound : Sound s) (fit : Fit s node) (missing : find_term s node ≡ None) where
   -- no term of the store is the node
   absent : (i : ℕ) → i < s.terms → node_at s i ≡ node → ⊥
   unfolding find_term
@@ -144,7 +143,7 @@ module _ (s : Store) (name : List ℕ) (sound : Sound s) (s₁ : Store) (k : ℕ
   named-takes :
       (node : Node) →
       Fit s node →
-      find_term s node ≡ Missing →
+      find_term s node ≡ None →
       Symbol s₁ k node →
       Room s →
       Beyond s (with_record s₁ (record_of k node)).records (with_record s₁ (record_of k node)).literals
@@ -160,7 +159,7 @@ module _ (s : Store) (sound : Sound s) where
   append-takes :
       (node : Node) →
       Fit s node →
-      find_term s node ≡ Missing →
+      find_term s node ≡ None →
       room_for s node ≡ true →
       Beyond s (append s node).records (append s node).literals (append s node).names →
       Takes s node s.terms (append s node)
@@ -180,7 +179,7 @@ module _ (s : Store) (sound : Sound s) where
 -- "give the number of the term if it is already there, needing no room; else append it"
 module _ (s : Store) (node : Node) (formed : well_formed s ≡ true) (fit : Fit s node) where
   room-gives :
-      find_term s node ≡ Missing →
+      find_term s node ≡ None →
       (b : Bool) →
       room_for s node ≡ b →
       (a : Adds) →
@@ -194,17 +193,17 @@ module _ (s : Store) (node : Node) (formed : well_formed s ≡ true) (fit : Fit 
   room-gives missing false r a e q = subst (Gives s node) e tt
 
   found-gives :
-      (f : Found) →
+      (f : Option ℕ) →
       find_term s node ≡ f →
       (a : Adds) →
       elim f as (λ _. Adds) [
-        | At i ↦ at i s
-        | Missing ↦ elim (room_for s node) [ true ↦ at s.terms (append s node) | false ↦ no_room ]
+        | Some i ↦ at i s
+        | None ↦ elim (room_for s node) [ true ↦ at s.terms (append s node) | false ↦ no_room ]
       ] ≡ a →
       (add s node ≡ a) →
       Gives s node a
   unfolding find_term
-  found-gives (At i) f a e q =
+  found-gives (Some i) f a e q =
       let r = first-at (λ (j : ℕ). same_node (node_at s j) node) s.terms 0 i f in
       subst (Gives s node) e
       (record {
@@ -212,7 +211,7 @@ module _ (s : Store) (node : Node) (formed : well_formed s ≡ true) (fit : Fit 
         below = omega (arith, r.1);
         is = same_node-tells.eq (node_at s i) node r.2;
       })
-  found-gives Missing f a e q = room-gives f (room_for s node) refl a e q
+  found-gives None f a e q = room-gives f (room_for s node) refl a e q
 
   pub add-gives : Gives s node (add s node)
   unfolding add

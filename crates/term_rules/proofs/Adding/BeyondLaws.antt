@@ -10,8 +10,7 @@ use lib.Dec.{ltb}
 use borrow.Author.Tests.{ltb-true}
 use Rattle.name.specs.Entries.{entries_length, entry_room, put_name}
 use Rattle.name.proofs.PutLaws.{put_name-past}
-use Rattle.name.specs.declared.Found.{Found}
-use Rattle.name.specs.declared.Found.TheVariants.{At, Missing}
+use Rattle.std.specs.Prelude.{Option, Some, None}
 use Rattle.term_rules.specs.declared.Term.{Term}
 use Rattle.term_rules.proofs.TestLaws.{and_first, and_second}
 use Rattle.term_rules.specs.Lent.{Store, store, records_length, record_room, term_room, symbol_room}
@@ -83,20 +82,20 @@ module _ (s : Store) where
   named-beyond name t r e wide = by (find_symbol s name) r
     where
       by :
-          (f : Found) →
-          elim f as (λ _. Bool) [ At k ↦ true | Missing ↦ ltb s.symbols (symbol_room s) ] ≡ true →
+          (f : Option ℕ) →
+          elim f as (λ _. Bool) [ Some k ↦ true | None ↦ ltb s.symbols (symbol_room s) ] ≡ true →
           Same s
           (with_record
           (elim f as (λ _. Store) [
-            | At k ↦ s
-            | Missing ↦ store s.records s.literals (put_name s.names s.symbols name)
+            | Some k ↦ s
+            | None ↦ store s.records s.literals (put_name s.names s.symbols name)
                 s.terms (s.symbols + 1)
           ])
           t)
-      by (At k) r =
+      by (Some k) r =
           record-beyond s t (record { records = refl; literals = refl; names = refl }) (room-terms e).0
           (room-terms e).1 wide
-      by Missing r =
+      by None r =
           record-beyond (store s.records s.literals (put_name s.names s.symbols name)
           s.terms (s.symbols + 1)) t
           (record { records = refl; literals = refl; names = put-beyond name r }) (room-terms e).0
@@ -127,14 +126,14 @@ module _ (s : Store) where
   room-beyond node false e = tt
 
   found-beyond :
-      (node : Node) (f : Found) →
+      (node : Node) (f : Option ℕ) →
       SameAfter
       (elim f as (λ _. Adds) [
-        | At i ↦ at i s
-        | Missing ↦ elim (room_for s node) [ true ↦ at s.terms (append s node) | false ↦ no_room ]
+        | Some i ↦ at i s
+        | None ↦ elim (room_for s node) [ true ↦ at s.terms (append s node) | false ↦ no_room ]
       ])
-  found-beyond node (At i) = record { records = refl; literals = refl; names = refl }
-  found-beyond node Missing = room-beyond node (room_for s node) refl
+  found-beyond node (Some i) = record { records = refl; literals = refl; names = refl }
+  found-beyond node None = room-beyond node (room_for s node) refl
 
   pub add-beyond : (node : Node) (t : ℕ) (s' : Store) → add s node ≡ at t s' → Same s s'
   unfolding add

@@ -11,8 +11,7 @@ use lib.Dec.{ltb}
 use borrow.Author.Tests.{ltb-true}
 use Rattle.name.specs.Name.{valid, same}
 use Rattle.name.specs.Entries.{entries_length, entry_room, HasEntry, name_at, put_name}
-use Rattle.name.specs.declared.Found.{Found}
-use Rattle.name.specs.declared.Found.TheVariants.{At, Missing}
+use Rattle.std.specs.Prelude.{Option, Some, None}
 use Rattle.term_rules.specs.Lent.{Store, store, symbol_at, symbol_room}
 use Rattle.term_rules.specs.Facts.{SoundName, Sound}
 use Rattle.term_rules.specs.Adding.{find_symbol, symbol_for, with_name, room_for_name}
@@ -34,7 +33,7 @@ pub record Named (s : Store) (name : List ℕ) (s' : Store) (k : ℕ) : Type 0 w
   pub old : (j : ℕ) → j < s.symbols → symbol_at s' j ≡ symbol_at s j
 
 module _ (s : Store) (name : List ℕ) (sound : Sound s) (v : valid name ≡ true) where
-  here : (k : ℕ) → find_symbol s name ≡ At k → Named s name s k
+  here : (k : ℕ) → find_symbol s name ≡ Some k → Named s name s k
   here k e =
       let r =
       first-at (λ (j : ℕ). same (name_at s.names j) name) s.symbols 0 k
@@ -50,7 +49,7 @@ module _ (s : Store) (name : List ℕ) (sound : Sound s) (v : valid name ≡ tru
         old = λ j l. refl;
       }
 
-  module _ (missing : find_symbol s name ≡ Missing) (room : ltb s.symbols (symbol_room s) ≡ true) where
+  module _ (missing : find_symbol s name ≡ None) (room : ltb s.symbols (symbol_room s) ≡ true) where
     fits : (s.symbols < 128) × HasEntry s.names s.symbols
     unfolding symbol_room
     fits =
@@ -124,18 +123,18 @@ module _ (s : Store) (name : List ℕ) (sound : Sound s) (v : valid name ≡ tru
     }
 
   named_by :
-      (f : Found) →
+      (f : Option ℕ) →
       find_symbol s name ≡ f →
-      elim f as (λ _. Bool) [ At k ↦ true | Missing ↦ ltb s.symbols (symbol_room s) ] ≡ true →
+      elim f as (λ _. Bool) [ Some k ↦ true | None ↦ ltb s.symbols (symbol_room s) ] ≡ true →
       Named s name
       (elim f as (λ _. Store) [
-        | At k ↦ s
-        | Missing ↦
+        | Some k ↦ s
+        | None ↦
             store s.records s.literals (put_name s.names s.symbols name) s.terms (s.symbols + 1)
       ])
-      (elim f as (λ _. ℕ) [ At k ↦ k | Missing ↦ s.symbols ])
-  named_by (At k) e r = here k e
-  named_by Missing e r = there e r
+      (elim f as (λ _. ℕ) [ Some k ↦ k | None ↦ s.symbols ])
+  named_by (Some k) e r = here k e
+  named_by None e r = there e r
 
   pub with_name-named : room_for_name s name ≡ true → Named s name (with_name s name) (symbol_for s name)
   unfolding room_for_name with_name symbol_for

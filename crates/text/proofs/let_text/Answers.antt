@@ -1,64 +1,45 @@
--- `text::let_text` meets its contract: each refusal in its order, and then the text. Assumes nothing.
-use mathlib.Core.Path.{sym, ◌∙◌}
-use borrow.Author.Tests.{not-true, not-false}
-use Rattle.term_rules.specs.Lent.{store}
-use Rattle.text_whole.specs.LetPlaced.{naming}
-use Rattle.text.proofs.LetToldLaws.{let-store-refuses, let-term-refuses, let-prefix-refuses, let-hint-refuses, let-start-refuses, let-placed}
-use native.Mathlib.Omega.{arith}
+-- `text::let_text` meets its contract: the refusals of the two checks, and then the text. Assumes nothing.
+use mathlib.Core.Path.{sym, ap, ◌∙◌}
+use Rattle.term_rules.specs.Lent.{Store as Stored}
+use Rattle.std.proofs.lemmas.Result.{err_from_is_err_and}
+use Rattle.term_layout.specs.Sound.{lent_of}
+use Rattle.text_whole.specs.LetPlaced.{naming_of, let_placed}
+use Rattle.text.proofs.LetToldLaws.{let-placed}
 use Rattle.text.proofs.let_text.Goals as goal
 
-pub returns-then-not-is_well_formed : goal.returns-then-not-is_well_formed
-returns-then-not-is_well_formed c =
-    sym
-    (let-store-refuses (store c.args.records.now c.args.literals.now c.args.names.now c.args.terms c.args.symbols) (naming c.args.prefix.now c.args.hint.now c.args.start c.args.bare) c.args.term c.args.out.now
-    (sym c.is_well_formed.ensures ∙ not-true _ c.if-not-is_well_formed.true-raw))
+pub returns-in_err-store : goal.returns-in_err-store
+returns-in_err-store c =
+    let g = c.args in
+    let p = err_from_is_err_and c.from_residual.result c.from_residual.ensures.1 in
+    rw (p.1, p.2)
+    (sym (c.in_err-store.ensures.checked.lets (naming_of g.naming.now) g.out.now))
 
-pub returns-then-terms-term : goal.returns-then-terms-term
-returns-then-terms-term c =
-    sym
-    (let-term-refuses (store c.args.records.now c.args.literals.now c.args.names.now c.args.terms c.args.symbols) (naming c.args.prefix.now c.args.hint.now c.args.start c.args.bare) c.args.term c.args.out.now
-    (sym c.is_well_formed.ensures ∙ not-false _ c.if-not-is_well_formed.false-raw) c.if-terms-term.true)
-
-pub returns-then-not-is_prefix : goal.returns-then-not-is_prefix
-returns-then-not-is_prefix c =
-    sym
-    (let-prefix-refuses (store c.args.records.now c.args.literals.now c.args.names.now c.args.terms c.args.symbols) (naming c.args.prefix.now c.args.hint.now c.args.start c.args.bare) c.args.term c.args.out.now
-    (sym c.is_well_formed.ensures ∙ not-false _ c.if-not-is_well_formed.false-raw) c.if-terms-term.false
-    (sym c.is_prefix.ensures ∙ not-true _ c.if-not-is_prefix.true-raw))
-
-pub returns-then-not-is_valid : goal.returns-then-not-is_valid
-returns-then-not-is_valid c =
-    sym
-    (let-hint-refuses (store c.args.records.now c.args.literals.now c.args.names.now c.args.terms c.args.symbols) (naming c.args.prefix.now c.args.hint.now c.args.start c.args.bare) c.args.term c.args.out.now
-    (sym c.is_well_formed.ensures ∙ not-false _ c.if-not-is_well_formed.false-raw) c.if-terms-term.false
-    (sym c.is_prefix.ensures ∙ not-false _ c.if-not-is_prefix.false-raw)
-    (sym c.is_valid.ensures ∙ not-true _ c.if-not-is_valid.true-raw))
-
-pub returns-then-start-gt-LAST_START : goal.returns-then-start-gt-LAST_START
-returns-then-start-gt-LAST_START c =
-    sym
-    (let-start-refuses (store c.args.records.now c.args.literals.now c.args.names.now c.args.terms c.args.symbols) (naming c.args.prefix.now c.args.hint.now c.args.start c.args.bare) c.args.term c.args.out.now
-    (sym c.is_well_formed.ensures ∙ not-false _ c.if-not-is_well_formed.false-raw) c.if-terms-term.false
-    (sym c.is_prefix.ensures ∙ not-false _ c.if-not-is_prefix.false-raw)
-    (sym c.is_valid.ensures ∙ not-false _ c.if-not-is_valid.false-raw) (omega arith))
+pub returns-in_err-check_naming : goal.returns-in_err-check_naming
+returns-in_err-check_naming c =
+    let g = c.args in
+    let s = lent_of g.lent.now in
+    let p = err_from_is_err_and c.from_residual-in_err-check_naming.result c.from_residual-in_err-check_naming.ensures.1 in
+    rw (p.1, p.2)
+    (sym (c.in_err-check_naming.ensures.lets s g.naming.now.bare g.term g.out.now c.in_ok-store.ensures.checked))
 
 pub let_of-requires : goal.let_of-requires
 let_of-requires c =
+    let h = ap (λ (x : Stored). x.terms) c.in_ok-store.ensures.same in
+    let n = c.in_ok-check_naming.ensures in
     record {
-      symbols_value = sym c.is_well_formed.ensures ∙ not-false _ c.if-not-is_well_formed.false-raw;
-      term_lt_terms = c.if-terms-term.false;
-      prefix_value = (
-        sym c.is_prefix.ensures ∙ not-false _ c.if-not-is_prefix.false-raw,
-        sym c.is_valid.ensures ∙ not-false _ c.if-not-is_valid.false-raw,
-      );
-      start_bound = c.if-start-gt-LAST_START.false;
+      term_lt_terms = rw (← h) at c.in_ok-store.ensures.checked.known;
+      prefix_value = (n.prefix_valid, n.hint_valid);
+      start_bound = n.start_low;
     }
 
 pub returns : goal.returns
 returns c =
+    let g = c.args in
+    let s = lent_of g.lent.now in
+    let h = c.in_ok-store.ensures.checked in
+    let n = c.in_ok-check_naming.ensures in
     c.let_of.ensures
+    ∙ ap (λ (s : Stored). let_placed s (naming_of g.naming.now) g.term g.out.now) c.in_ok-store.ensures.same
     ∙ sym
-    (let-placed (store c.args.records.now c.args.literals.now c.args.names.now c.args.terms c.args.symbols) (naming c.args.prefix.now c.args.hint.now c.args.start c.args.bare) c.args.term c.args.out.now
-    (sym c.is_well_formed.ensures ∙ not-false _ c.if-not-is_well_formed.false-raw) c.if-terms-term.false
-    (sym c.is_prefix.ensures ∙ not-false _ c.if-not-is_prefix.false-raw)
-    (sym c.is_valid.ensures ∙ not-false _ c.if-not-is_valid.false-raw) c.if-start-gt-LAST_START.false)
+    (let-placed s (naming_of g.naming.now) g.term g.out.now h.formed h.known n.prefix_valid n.hint_valid
+    n.start_low)

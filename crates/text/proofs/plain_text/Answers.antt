@@ -1,34 +1,27 @@
--- `text::plain_text` meets its contract: each refusal, and then the text. Assumes nothing.
-use mathlib.Core.Path.{sym, ◌∙◌}
-use borrow.Author.Tests.{not-true, not-false}
-use Rattle.term_rules.specs.Lent.{store}
-use Rattle.text.proofs.ToldLaws.{plain-store-refuses, plain-term-refuses, plain-placed}
+-- `text::plain_text` meets its contract: the refusals of the check, and then the text. Assumes nothing.
+use mathlib.Core.Path.{sym, ap, ◌∙◌}
+use Rattle.text_whole.specs.Placed.{plain_placed}
+use Rattle.term_rules.specs.Lent.{Store as Stored}
+use Rattle.std.proofs.lemmas.Result.{err_from_is_err_and}
+use Rattle.term_layout.specs.Sound.{lent_of}
+use Rattle.text.proofs.ToldLaws.{plain-placed}
 use Rattle.text.proofs.plain_text.Goals as goal
 
-pub returns-then-not-is_well_formed : goal.returns-then-not-is_well_formed
-returns-then-not-is_well_formed c =
-    sym
-    (plain-store-refuses (store c.args.records.now c.args.literals.now c.args.names.now c.args.terms c.args.symbols) c.args.term c.args.out.now
-    (sym c.is_well_formed.ensures ∙ not-true _ c.if-not-is_well_formed.true-raw))
-
-pub returns-then-terms-term : goal.returns-then-terms-term
-returns-then-terms-term c =
-    sym
-    (plain-term-refuses (store c.args.records.now c.args.literals.now c.args.names.now c.args.terms c.args.symbols) c.args.term c.args.out.now
-    (sym c.is_well_formed.ensures ∙ not-false _ c.if-not-is_well_formed.false-raw) c.if-terms-term.true)
+pub returns-in_err-store : goal.returns-in_err-store
+returns-in_err-store c =
+    let p = err_from_is_err_and c.from_residual.result c.from_residual.ensures.1 in
+    rw (p.1, p.2) (sym (c.in_err-store.ensures.checked.plain c.args.out.now))
 
 pub plain_of-requires : goal.plain_of-requires
 plain_of-requires c =
-    record {
-      symbols_value = sym c.is_well_formed.ensures ∙ not-false _ c.if-not-is_well_formed.false-raw;
-      term_lt_terms = c.if-terms-term.false;
-    }
+    let n = ap (λ (x : Stored). x.terms) c.in_ok-store.ensures.same in
+    record { term_lt_terms = rw (← n) at c.in_ok-store.ensures.checked.known }
 
 pub returns : goal.returns
 returns c =
+    let g = c.args in
+    let h = c.in_ok-store.ensures.checked in
     c.plain_of.ensures
+    ∙ ap (λ (s : Stored). plain_placed s g.term g.out.now) c.in_ok-store.ensures.same
     ∙ sym
-    (plain-placed (store c.args.records.now c.args.literals.now c.args.names.now c.args.terms c.args.symbols) c.args.term c.args.out.now
-    (sym c.is_well_formed.ensures
-    ∙ not-false _ c.if-not-is_well_formed.false-raw)
-    c.if-terms-term.false)
+    (plain-placed (lent_of g.lent.now) g.term g.out.now h.formed h.known)

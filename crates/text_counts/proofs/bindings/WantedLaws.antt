@@ -1,13 +1,12 @@
 -- The laws of the flags, and of the bindings of a root. Assumes nothing.
-use mathlib.Core.Path.{◌≡◌, refl, sym, ap, subst, ◌∙◌}
+use mathlib.Core.Path.{◌≡◌, refl, sym, ap, ◌∙◌}
 use mathlib.Core.Bool.{Bool, false, ◌&&◌}
 use mathlib.Core.List.{List, []}
 use Prim.{Dec, yes, no}
-use Prim.Native.Nat.{ℕ, suc, ◌+◌, ◌-◌, ◌<◌, ◌≤◌, min}
+use Prim.Native.Nat.{ℕ, suc, ◌-◌, ◌<◌, ◌≤◌, min}
 use native.Mathlib.Omega.{arith}
-use native.Mathlib.Decide.{dec_lt, dec_le, ℕ_discrete}
-use lib.ListN.{length, get_or, set}
-use lib.Seq.{get_or-set_same, get_or-set_other}
+use native.Mathlib.Decide.{dec_lt, dec_le}
+use lib.ListN.{length, get_or}
 use lib.Dec.{ltb, leb}
 use borrow.Author.Tests.{lt-ltb, le-ltb, le-leb, lt-leb}
 use Rattle.text_rules.specs.Counts.{count, size, in_turn}
@@ -33,7 +32,8 @@ pub flag_of-bound : (c z : ℕ) → 1 < c → 4 ≤ z → flag_of c z ≡ 1
 unfolding flag_of
 flag_of-bound c z l m = rw (lt-ltb 1 c l, le-leb 4 z m, flag_of)
 
-to_bind-is : (kids : ℕ → List ℕ) (root t : ℕ) → to_bind kids root t ≡ (ltb 1 (count kids root t) && leb 4 (size kids t))
+to_bind-is : (kids : ℕ → List ℕ) (root t : ℕ) → to_bind kids root t ≡ (ltb 1 (count kids root t) && leb 4 (size kids
+    t))
 unfolding to_bind
 to_bind-is kids root t = refl
 
@@ -57,21 +57,6 @@ wanted-of-marked rs counts sizes wanted n c z m t l =
     ∙ (ap (λ (x : ℕ). ltb 0 (flag_of x (get_or sizes t 0))) (c t l)
     ∙ (ap (λ (x : ℕ). ltb 0 (flag_of (count (kids_at rs) (n - 1) t) x)) (z t l)
     ∙ (flag-tells (count (kids_at rs) (n - 1) t) (size (kids_at rs) t) ∙ sym (to_bind-is (kids_at rs) (n - 1) t))))
-
--- one more flag
-pub marked_more :
-    (counts sizes now : List ℕ) (t r : ℕ) →
-    t < length now →
-    r ≡ flag_of (get_or counts t 0) (get_or sizes t 0) →
-    Marked counts sizes now t →
-    Marked counts sizes (set now t r) (t + 1)
-marked_more counts sizes now t r l e v x lx = by (ℕ_discrete x t)
-  where
-    by : Dec (x ≡ t) → get_or (set now t r) x 0 ≡ flag_of (get_or counts x 0) (get_or sizes x 0)
-    by (yes q) =
-        subst (λ (y : ℕ). get_or (set now t r) y 0 ≡ flag_of (get_or counts y 0) (get_or sizes y 0)) (sym q)
-        (get_or-set_same now t r 0 l ∙ e)
-    by (no q) = get_or-set_other now t x r 0 q ∙ v x (omega arith)
 
 -- ---- the root
 module _ (kids : ℕ → List ℕ) (n : ℕ) (lower : (t : ℕ) → t < n → Inside t (kids t)) (root : ℕ) (k : root < n) where

@@ -1,10 +1,6 @@
 -- `text_counts::size` meets its contract: the table is right up to the term that is next. Assumes nothing.
-use Prim.Native.Nat.{◌-◌}
 use Rattle.text_counts.proofs.TallyLaws.{Sizing}
 use Rattle.text_counts.proofs.size.Given as goal
 
 abbrev pub invariant-loop-t : goal.invariant-loop-t
 invariant-loop-t l = Sizing l.records l.n l.initial.sizes l.sizes l.t
-
-abbrev pub decreases-loop-t : goal.decreases-loop-t
-decreases-loop-t l = l.n - l.t

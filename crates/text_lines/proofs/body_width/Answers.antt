@@ -5,7 +5,8 @@ use Rattle.text_lines.proofs.body_width.Goals as goal
 
 pub returns-then-count_of-eq0 : goal.returns-then-count_of-eq0
 returns-then-count_of-eq0 c =
-    sym (body_width-leaf c.args.records.now c.args.wides.now c.args.i c.args.t (sym c.count_of.ensures ∙ c.if-count_of-eq0.true))
+    sym (body_width-leaf c.args.records.now c.args.wides.now c.args.i c.args.t (sym c.count_of.ensures ∙
+    c.if-count_of-eq0.true))
 
 pub returns : goal.returns
 returns c =

@@ -88,7 +88,8 @@ bindings-fine kids n lower root k =
     turn-keeps (All (Fine n (2 * root))) (meet_in kids (to_bind kids root) root 2) (kids root) []
     (λ j lj cs ac.
     let h : get_or (kids root) j 0 < root = lower root k j lj in
-    meet_in-fine kids (to_bind kids root) n (2 * root) lower root 2 (get_or (kids root) j 0) cs (omega arith) (omega arith)
+    meet_in-fine kids (to_bind kids root) n (2 * root) lower root 2 (get_or (kids root) j 0) cs (omega arith) (omega
+    arith)
     ac) (all_none (Fine n (2 * root)))
 
 bounds-get :
@@ -102,7 +103,10 @@ bounds-get P terms indents (suc m) k l a =
     (all_split P (bounds terms indents m) _ (subst (All P) (bounds-step terms indents m) a))
   where
     by :
-        (k < m → All P (bounds terms indents m) → P (record { term = get_or terms k 0; indent = get_or indents k 0 })) →
+        (k < m → All P (bounds terms indents m) → P (record {
+          term = get_or terms k 0;
+          indent = get_or indents k 0;
+        })) →
         Dec (k ≡ m) →
         All P (bounds terms indents m) × P (record { term = get_or terms m 0; indent = get_or indents m 0 }) →
         P (record { term = get_or terms k 0; indent = get_or indents k 0 })

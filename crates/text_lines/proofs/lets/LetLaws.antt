@@ -13,7 +13,19 @@ use borrow.Author.Tests.{lt-ltb, le-ltb}
 use Rattle.term_rules.specs.Nodes.{Node}
 use Rattle.text_rules.specs.Forms.{children, Called, by_name, by_text, shown, child_text, line_in, line}
 use Rattle.text_rules.specs.Bindings.{Bound, Place, nowhere, place, find}
-use Rattle.text_rules.specs.LetText.{Naming, count_text, let_name, called_at, called, several, own, body_gap, let_line, let_lines, text_with}
+use Rattle.text_rules.specs.LetText.{
+  Naming,
+  count_text,
+  let_name,
+  called_at,
+  called,
+  several,
+  own,
+  body_gap,
+  let_line,
+  let_lines,
+  text_with,
+}
 use Rattle.text_rules.proofs.FormLaws.{form-same, child_text-is}
 use Rattle.text_pieces.specs.Pieces.{capped, name_text, gap_text}
 use Rattle.term_rules.specs.Lent.{arity_at, kids_at}
@@ -291,7 +303,8 @@ module _
         (gap_is (get_or indents k 0) (get_or terms k 0) (known k l))
         ∙ (ap
         (λ (x : List ℕ).
-        ((open_text (let_name nm k) ++ gap_text (ltb 80 (body_width rs ws (get_or indents k 0) (get_or terms k 0))) 2) ++ x)
+        ((open_text (let_name nm k) ++ gap_text (ltb 80 (body_width rs ws (get_or indents k 0) (get_or terms k 0)))
+        2) ++ x)
         ++ (41 ∷ 10 ∷ []))
         (own_is 2 (get_or indents k 0) (get_or terms k 0) (known k l))
         ∙ (ap

@@ -77,11 +77,9 @@ module _
 
     module _ (q : List ℕ) (r : ℕ)
         (w₂ : Wrote d r (take (length (set o₁ p x) - (p + 1)) (drop (p + 1) (set o₁ p x))) q) where
-      s₃ : Stands o₀ ((a ++ (x ∷ [])) ++ d) (put_mid (p + 1) (length (set o₁ p x) - (p + 1)) (set o₁ p x) q) (p + 1 + r)
+      s₃ : Stands o₀ ((a ++ (x ∷ [])) ++ d) (put_mid (p + 1) (length (set o₁ p x) - (p + 1)) (set o₁ p x) q) (p + 1
+          + r)
       s₃ = stands-then o₀ (a ++ (x ∷ [])) (set o₁ p x) (p + 1) s₂ d q r w₂
-
-      pub end_low : p + 1 + r ≤ length o₀
-      end_low = omega (arith, s₃.long, length-append (a ++ (x ∷ [])) d, long)
 
       pub end-length : length (put_mid (p + 1) (length (set o₁ p x) - (p + 1)) (set o₁ p x) q) ≡ length o₀
       end-length =

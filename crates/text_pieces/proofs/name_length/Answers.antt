@@ -11,5 +11,5 @@ returns c =
     let a = c.args in
     c.add.ensures
     ∙ ap capped
-    (ap (λ (x : ℕ). length a.stem.now + x) c.count_length.ensures
-    ∙ sym (name_text-length a.stem.now a.start a.bare a.k))
+    (ap (λ (x : ℕ). length a.spelling.now.stem.now + x) c.count_length.ensures
+    ∙ sym (name_text-length a.spelling.now.stem.now a.spelling.now.start a.spelling.now.bare a.k))

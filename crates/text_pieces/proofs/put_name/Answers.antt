@@ -9,56 +9,35 @@ use Rattle.text_pieces.proofs.put_name.Goals as goal
 
 pub put_bytes-p-requires : goal.put_bytes-p-requires
 put_bytes-p-requires c =
-    omega
-    (arith, c.requires.k_in_bounds, name_text-length c.args.stem.now c.args.start c.args.bare c.args.k)
-
-pub slice_bounds-put_count-count : goal.slice_bounds-put_count-count
-slice_bounds-put_count-count c =
     omega (
       arith,
       c.requires.k_in_bounds,
-      c.put_bytes-p.ensures.long,
-      c.put_bytes-p.auto.out,
-      name_text-length c.args.stem.now c.args.start c.args.bare c.args.k,
-    )
-
-pub slice_bounds-put_count-start : goal.slice_bounds-put_count-start
-slice_bounds-put_count-start c =
-    omega (
-      arith,
-      c.requires.k_in_bounds,
-      c.put_bytes-p.ensures.long,
-      c.put_bytes-p.auto.out,
-      name_text-length c.args.stem.now c.args.start c.args.bare c.args.k,
+      name_text-length c.args.spelling.now.stem.now c.args.spelling.now.start
+          c.args.spelling.now.bare c.args.k,
     )
 
 pub put_count-requires : goal.put_count-requires
 put_count-requires c =
     let a = c.args in
-    stands-fits a.out.now a.stem.now _ _
-    (stands-of-wrote a.out.now a.stem.now _ _ c.put_bytes-p.ensures)
-    (count_text a.bare (a.start + a.k))
-    (omega (arith, c.requires.k_in_bounds, name_text-length a.stem.now a.start a.bare a.k))
-
-pub overflow_add-result : goal.overflow_add-result
-overflow_add-result c =
-    let a = c.args in
-    omega (
+    stands-fits a.out.now a.spelling.now.stem.now _ _
+    (stands-of-wrote a.out.now a.spelling.now.stem.now _ _ c.put_bytes-p.ensures)
+    (count_text a.spelling.now.bare (a.spelling.now.start + a.k))
+    (omega (
       arith,
       c.requires.k_in_bounds,
-      name_text-length a.stem.now a.start a.bare a.k,
-      c.put_bytes-p.ensures.long,
-      c.put_count.ensures.long,
-    )
+      name_text-length a.spelling.now.stem.now a.spelling.now.start
+          a.spelling.now.bare a.k,
+    ))
 
 pub returns : goal.returns
 returns c =
     let a = c.args in
-    rw (name_text-is a.stem.now a.start a.bare a.k)
-    (wrote-of-stands a.out.now (a.stem.now ++ count_text a.bare (a.start + a.k)) _ _
-    (stands-then a.out.now a.stem.now _ _
-    (stands-of-wrote a.out.now a.stem.now _ _
+    rw (name_text-is a.spelling.now.stem.now a.spelling.now.start a.spelling.now.bare a.k)
+    (wrote-of-stands a.out.now (a.spelling.now.stem.now ++ count_text a.spelling.now.bare (a.spelling.now.start +
+    a.k)) _ _
+    (stands-then a.out.now a.spelling.now.stem.now _ _
+    (stands-of-wrote a.out.now a.spelling.now.stem.now _ _
     c.put_bytes-p.ensures)
-    (count_text a.bare (a.start + a.k)) c.put_count.new.out
+    (count_text a.spelling.now.bare (a.spelling.now.start + a.k)) c.put_count.new.out
     c.put_count.result
     c.put_count.ensures))

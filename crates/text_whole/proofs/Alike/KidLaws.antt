@@ -6,7 +6,18 @@ use Prim.Native.Nat.{ℕ, zero, suc, ◌+◌, ◌<◌}
 use native.Mathlib.Omega.{arith}
 use lib.ListN.{length, get_or}
 use lib.Dec.{eqb}
-use Rattle.text_rules.specs.Counts.{in_turn, member, reach_in, reached, places, places_in, count, sum_of, size_in, size}
+use Rattle.text_rules.specs.Counts.{
+  in_turn,
+  member,
+  reach_in,
+  reached,
+  places,
+  places_in,
+  count,
+  sum_of,
+  size_in,
+  size,
+}
 use Rattle.text_rules.specs.Bindings.{Bound, Place, nowhere, place, find, to_bind, bind, meet_in, bindings}
 use Rattle.text_whole.specs.Alike.{Both, Lower, Once, AlikeKids, SameBound}
 
@@ -286,7 +297,8 @@ module _ (kids kids' : ℕ → List ℕ) (R : ℕ → ℕ → Type 0) (w : Alike
   pub bindings-both : (t u : ℕ) → R t u → Both (SameBound R) (bindings kids t) (bindings kids' u)
   unfolding bindings
   bindings-both t u r =
-      turn-both (Both (SameBound R)) (Lower R t u) (meet_in kids (to_bind kids t) t 2) (meet_in kids' (to_bind kids' u) u 2)
+      turn-both (Both (SameBound R)) (Lower R t u) (meet_in kids (to_bind kids t) t 2) (meet_in kids' (to_bind kids'
+      u) u 2)
       (λ k v h.
       meet-both (to_bind kids t) (to_bind kids' u) (λ x y q. to_bind-both t u x y r q) t u 2 k v h.same h.left
       h.right) (kids t) (kids' u) (w.kin t u r) [] [] (both-none (SameBound R))

@@ -8,7 +8,20 @@ use lib.ListN.{length}
 use Rattle.term_rules.specs.Nodes.{Node, literal, variable, application}
 use Rattle.text_rules.specs.Forms.{children, each, form, Called, by_text, shown, child_text, line_in, line}
 use Rattle.text_rules.specs.Bindings.{Bound}
-use Rattle.text_rules.specs.LetText.{Naming, called_at, called, any_several, new_line, breaks, own_in, own, let_lines, text_with, bindings_of, let_layout}
+use Rattle.text_rules.specs.LetText.{
+  Naming,
+  called_at,
+  called,
+  any_several,
+  new_line,
+  breaks,
+  own_in,
+  own,
+  let_lines,
+  text_with,
+  bindings_of,
+  let_layout,
+}
 use Rattle.text_rules.specs.PlainText.{plain_line}
 use Rattle.text_rules.proofs.FormLaws.{child_text-is}
 use Rattle.text_whole.specs.Alike.{Both, Lower, AlikeKids, SameNode, Alike, SameBound}

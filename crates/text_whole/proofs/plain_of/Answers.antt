@@ -3,20 +3,27 @@ use Prim.Native.Nat.{ℕ, ◌+◌}
 use mathlib.Core.Path.{sym, ap, ◌∙◌}
 use mathlib.Core.List.{List}
 use lib.ListN.{length, length-replicate}
-use Rattle.term_rules.specs.Lent.{store}
 use Rattle.term.proofs.Promises.{promises as store-promises}
 use Rattle.text_pieces.proofs.heads.ReadableLaws.{readable-of-sound}
 use Rattle.text_whole.specs.Placed.{placed, written, refusal}
 use Rattle.text_whole.proofs.PlacedLaws.{zeros-get, plain-text-nodes}
 use native.Mathlib.Omega.{arith}
+use Rattle.term_layout.specs.Sound.{store_of}
 use Rattle.text_whole.proofs.plain_of.Goals as goal
+
+pub invariant_of-nodes : goal.invariant_of-nodes
+invariant_of-nodes c =
+    record {
+      readable = readable-of-sound c.args.store.now.records.now c.args.store.now.literals.now
+          c.args.store.now.names.now c.args.store.now.terms
+          c.args.store.now.symbols (c.args.term + 1) (store-promises.facts (store_of c.args.store.now)
+          c.args.store.now.sound) (omega (arith, c.requires.term_lt_terms));
+    }
 
 pub put_plain-requires : goal.put_plain-requires
 put_plain-requires c =
-    let w = store-promises.facts (store c.args.records.now c.args.literals.now c.args.names.now c.args.terms c.args.symbols) c.requires.symbols_value in
+    let w = store-promises.facts (store_of c.args.store.now) c.args.store.now.sound in
     record {
-      readable = readable-of-sound c.args.records.now c.args.literals.now c.args.names.now c.args.terms
-          c.args.symbols (c.args.term + 1) w (omega (arith, c.requires.term_lt_terms));
       t_lt_n = omega arith;
       n_in_bounds = (
         omega (arith, w.term_limit, c.requires.term_lt_terms, length-replicate {A = ℕ} 1024 0),
@@ -30,5 +37,11 @@ returns c =
     c.put_plain.ensures
     ∙ sym
     (ap (λ (text : List ℕ). placed text (written (length text)) (refusal 13) c.args.out.now)
-    (plain-text-nodes c.args.records.now c.args.literals.now c.args.names.now c.args.terms
-    c.args.symbols c.args.term))
+    (plain-text-nodes c.args.store.now.records.now c.args.store.now.literals.now c.args.store.now.names.now
+    c.args.store.now.terms
+    c.args.store.now.symbols c.args.term))
+
+pub overflow_add-nodes : goal.overflow_add-nodes
+overflow_add-nodes c =
+    let w = store-promises.facts (store_of c.args.store.now) c.args.store.now.sound in
+    record { fits = omega (arith, w.term_limit, c.requires.term_lt_terms) }

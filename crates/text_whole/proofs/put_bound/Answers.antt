@@ -64,21 +64,31 @@ module _
           laid-text rs ls ns stem ps ts is n start m l met low few bare ws w prefix hint e
 
 pub widths-requires : goal.widths-requires
-widths-requires c = tables c.requires.layable c.requires.all_met c.requires.n_in_bounds.0 c.requires.n_in_bounds.2 c.args.bare c.args.wides.now c.requires.n_in_bounds.1
+widths-requires c = tables c.requires.layable c.requires.all_met c.requires.n_in_bounds.0 c.requires.n_in_bounds.2
+    c.args.spelling.now.bare c.args.wides.now c.requires.n_in_bounds.1
+
+pub invariant_of-page : goal.invariant_of-page
+invariant_of-page c =
+    record {
+      sheet = sheet c.requires.layable c.requires.all_met c.requires.n_in_bounds.0 c.requires.n_in_bounds.2
+          c.args.spelling.now.bare c.widths.new.wides c.widths.ensures
+          (omega (arith, c.widths.auto.wides, c.requires.n_in_bounds.1));
+    }
 
 pub let_length-long-requires : goal.let_length-long-requires
 let_length-long-requires c =
     record {
-      sheet = sheet c.requires.layable c.requires.all_met c.requires.n_in_bounds.0 c.requires.n_in_bounds.2 c.args.bare c.widths.new.wides c.widths.ensures
-          (omega (arith, c.widths.auto.wides, c.requires.n_in_bounds.1));
       n_nonzero = c.requires.layable.some;
-      bundle = bundle c.requires.layable c.requires.all_met c.requires.n_in_bounds.0 c.requires.n_in_bounds.2 c.args.bare;
+      bundle = bundle c.requires.layable c.requires.all_met c.requires.n_in_bounds.0 c.requires.n_in_bounds.2
+          c.args.spelling.now.bare;
     }
 
 pub returns-then-out-long : goal.returns-then-out-long
 returns-then-out-long c =
-    let as-text = text c.requires.layable c.requires.all_met c.requires.n_in_bounds.0 c.requires.n_in_bounds.2 c.args.bare in
-    let after = next c.requires.layable c.requires.all_met c.requires.n_in_bounds.0 c.requires.n_in_bounds.2 c.args.bare in
+    let as-text = text c.requires.layable c.requires.all_met c.requires.n_in_bounds.0 c.requires.n_in_bounds.2
+    c.args.spelling.now.bare in
+    let after = next c.requires.layable c.requires.all_met c.requires.n_in_bounds.0 c.requires.n_in_bounds.2
+    c.args.spelling.now.bare in
     record {
       right = λ prefix hint e.
           sym
@@ -88,38 +98,44 @@ returns-then-out-long c =
             arith,
             c.if-out-long.true,
             c.let_length-long.ensures,
-            ap length (right c.requires.layable c.requires.all_met c.requires.n_in_bounds.0 c.requires.n_in_bounds.2 c.args.bare c.widths.new.wides c.widths.ensures prefix hint e),
+            ap length (right c.requires.layable c.requires.all_met c.requires.n_in_bounds.0 c.requires.n_in_bounds.2
+                c.args.spelling.now.bare c.widths.new.wides c.widths.ensures prefix hint e),
           )));
     }
 
-pub put_let-end-requires : goal.put_let-end-requires
-put_let-end-requires c =
+pub put_let-length-requires : goal.put_let-length-requires
+put_let-length-requires c =
     record {
-      sheet = sheet c.requires.layable c.requires.all_met c.requires.n_in_bounds.0 c.requires.n_in_bounds.2 c.args.bare c.widths.new.wides c.widths.ensures
-          (omega (arith, c.widths.auto.wides, c.requires.n_in_bounds.1));
       n_nonzero = c.requires.layable.some;
-      bundle = bundle c.requires.layable c.requires.all_met c.requires.n_in_bounds.0 c.requires.n_in_bounds.2 c.args.bare;
+      bundle = bundle c.requires.layable c.requires.all_met c.requires.n_in_bounds.0 c.requires.n_in_bounds.2
+          c.args.spelling.now.bare;
       m_in_bounds = omega (arith, c.if-out-long.false, c.let_length-long.ensures);
     }
 
-pub overflow_add-result : goal.overflow_add-result
-overflow_add-result c =
+pub overflow_add-next : goal.overflow_add-next
+overflow_add-next c =
     omega (arith, c.requires.layable.low, c.requires.all_met.met.free, c.requires.n_in_bounds.2)
 
 pub returns : goal.returns
 returns c =
-    let as-text = text c.requires.layable c.requires.all_met c.requires.n_in_bounds.0 c.requires.n_in_bounds.2 c.args.bare in
-    let after = next c.requires.layable c.requires.all_met c.requires.n_in_bounds.0 c.requires.n_in_bounds.2 c.args.bare in
-    let w = c.put_let-end.ensures in
-    let fits : length (whole c.requires.layable c.requires.all_met c.requires.n_in_bounds.0 c.requires.n_in_bounds.2 c.args.bare c.widths.new.wides) ≤ length c.args.out.now =
+    let as-text = text c.requires.layable c.requires.all_met c.requires.n_in_bounds.0 c.requires.n_in_bounds.2
+    c.args.spelling.now.bare in
+    let after = next c.requires.layable c.requires.all_met c.requires.n_in_bounds.0 c.requires.n_in_bounds.2
+    c.args.spelling.now.bare in
+    let w = c.put_let-length.ensures in
+    let fits : length (whole c.requires.layable c.requires.all_met c.requires.n_in_bounds.0 c.requires.n_in_bounds.2
+    c.args.spelling.now.bare c.widths.new.wides) ≤ length c.args.out.now =
     omega (arith, c.if-out-long.false, c.let_length-long.ensures) in
     record {
       right = λ prefix hint e.
-          let q = right c.requires.layable c.requires.all_met c.requires.n_in_bounds.0 c.requires.n_in_bounds.2 c.args.bare c.widths.new.wides c.widths.ensures prefix hint e in
-          ap (λ (n : ℕ). told (written n (c.args.start + c.args.m)) c.put_let-end.new.out)
+          let q = right c.requires.layable c.requires.all_met c.requires.n_in_bounds.0 c.requires.n_in_bounds.2
+          c.args.spelling.now.bare c.widths.new.wides c.widths.ensures prefix hint e in
+          ap (λ (n : ℕ). told (written n (c.args.spelling.now.start + c.args.bindings.now.count))
+          c.put_let-length.new.out)
           (w.long ∙ ap length q)
-          ∙ (ap (λ (n : ℕ). told (written (length (as-text prefix hint)) n) c.put_let-end.new.out)
-          (count c.requires.layable c.requires.all_met c.requires.n_in_bounds.0 c.requires.n_in_bounds.2 c.args.bare)
+          ∙ (ap (λ (n : ℕ). told (written (length (as-text prefix hint)) n) c.put_let-length.new.out)
+          (count c.requires.layable c.requires.all_met c.requires.n_in_bounds.0 c.requires.n_in_bounds.2
+          c.args.spelling.now.bare)
           ∙ (ap (λ (o : List ℕ). told (written (length (as-text prefix hint)) after) o)
           (w.bytes ∙ ap (λ (x : List ℕ). x ++ drop (length x) c.args.out.now) q)
           ∙ sym

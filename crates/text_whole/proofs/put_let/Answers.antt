@@ -5,24 +5,26 @@ use Rattle.text_whole.proofs.LaidLaws.{linked-of-readable, blank-tables}
 use native.Mathlib.Omega.{arith}
 use Rattle.text_whole.proofs.put_let.Goals as goal
 
-pub bind-m-requires : goal.bind-m-requires
-bind-m-requires c =
+pub bind-requires : goal.bind-requires
+bind-requires c =
     record {
-      linked = linked-of-readable c.args.records.now c.args.literals.now c.args.names.now c.args.n
+      linked = linked-of-readable c.args.nodes.now.records.now c.args.nodes.now.literals.now
+          c.args.nodes.now.names.now c.args.nodes.now.n
           c.requires.readable;
       n_nonzero = c.requires.some;
-      blank = blank-tables 1024 c.args.n c.requires.readable.few;
+      long = (length-replicate {A = ℕ} 1024 0, (length-replicate {A = ℕ} 1024 0, length-replicate {A = ℕ} 1024 0));
+      blank = blank-tables 1024 c.args.nodes.now.n c.requires.readable.few;
     }
 
 pub put_bound-requires : goal.put_bound-requires
 put_bound-requires c =
-    let q = c.bind-m in
+    let q = c.bind in
     record {
       layable = c.requires;
-      all_met = q.ensures;
+      all_met = q.ensures.all_met;
       n_in_bounds = (
-        omega (arith, c.requires.readable.few, q.auto.places, length-replicate {A = ℕ} 1024 0),
+        omega (arith, c.requires.readable.few, q.ensures.long.0),
         omega (arith, c.requires.readable.few, length-replicate {A = ℕ} 1024 0),
-        omega (arith, q.auto.terms, length-replicate {A = ℕ} 1024 0),
+        omega (arith, q.ensures.long.1.0),
       );
     }

@@ -25,7 +25,8 @@ line_in-called node c d e (suc f) t =
     form-same (32 ∷ []) (child_text c (line_in node c f)) (child_text d (line_in node d f)) (node t)
     (λ j l.
     child_text-is c (line_in node c f) (get_or (children (node t)) j 0)
-    ∙ (ap (λ (x : Called). shown x (line_in node c f (get_or (children (node t)) j 0))) (e (get_or (children (node t)) j 0))
+    ∙ (ap (λ (x : Called). shown x (line_in node c f (get_or (children (node t)) j 0))) (e (get_or (children (node
+    t)) j 0))
     ∙ (ap (shown (d (get_or (children (node t)) j 0))) (line_in-called node c d e f (get_or (children (node t)) j 0))
     ∙ sym (child_text-is d (line_in node d f) (get_or (children (node t)) j 0)))))
 
@@ -75,4 +76,5 @@ module _
         (lim m i t : ℕ) → t < n → i + 2 * t ≤ 4096 → piece v lim m i t ≡ line v.node (λ (k : ℕ). by_text) t
     unfolding piece body line
     piece-flat lim m i t k l =
-        shown_above-text v lim t (body v m i t) (omega (arith, unnamed t)) ∙ body_in-flat (suc t) m i t k (omega arith) l
+        shown_above-text v lim t (body v m i t) (omega (arith, unnamed t)) ∙ body_in-flat (suc t) m i t k (omega
+        arith) l

@@ -1,18 +1,14 @@
 -- The laws of the table of inline lengths. Assumes nothing.
-use mathlib.Core.Path.{◌≡◌, refl, ◌∙◌}
+use mathlib.Core.Path.{◌≡◌, refl}
 use mathlib.Core.Bool.{Bool}
 use mathlib.Core.List.{List}
-use Prim.{Dec, yes, no}
-use Prim.Native.Nat.{ℕ, ◌+◌, ◌-◌, ◌<◌}
+use Prim.Native.Nat.{ℕ, ◌-◌, ◌<◌}
 use native.Mathlib.Omega.{arith}
-use native.Mathlib.Decide.{ℕ_discrete}
-use lib.ListN.{length, get_or, set}
-use lib.Seq.{get_or-set_same, get_or-set_other}
+use lib.ListN.{get_or}
 use borrow.Author.Tests.{lt-ltb, le-ltb}
-use Rattle.term_rules.specs.Nodes.{Node}
-use Rattle.text_rules.specs.Forms.{Called, by_name, by_text, shown, line}
-use Rattle.text_pieces.specs.Pieces.{capped, name_text}
-use Rattle.text_write.specs.Widths.{called_by, Widths}
+use Rattle.text_rules.specs.Forms.{by_name, by_text, shown}
+use Rattle.text_pieces.specs.Pieces.{name_text}
+use Rattle.text_write.specs.Widths.{called_by}
 
 module _ (ps stem : List ℕ) (start : ℕ) (bare : Bool) (k : ℕ) where
   pub called_by-named :
@@ -31,16 +27,3 @@ shown-of-name n text = refl
 pub shown-of-text : (text : List ℕ) → shown by_text text ≡ text
 unfolding shown
 shown-of-text text = refl
-
--- one more entry of the table
-pub widths-more :
-    (node : ℕ → Node) (called : ℕ → Called) (ws : List ℕ) (t r : ℕ) →
-    t < length ws →
-    r ≡ capped (length (line node called t)) →
-    Widths node called ws t →
-    Widths node called (set ws t r) (t + 1)
-widths-more node called ws t r l e v k lk = by (ℕ_discrete k t)
-  where
-    by : Dec (k ≡ t) → get_or (set ws t r) k 0 ≡ capped (length (line node called k))
-    by (yes q) = rw q (get_or-set_same ws t r 0 l ∙ e)
-    by (no q) = get_or-set_other ws t k r 0 q ∙ v k (omega arith)

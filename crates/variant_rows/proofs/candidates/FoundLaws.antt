@@ -1,35 +1,19 @@
 -- Laws on the loops that price rows and pick them. Assumes nothing.
-use mathlib.Core.Path.{◌≡◌, ◌∙◌}
+use mathlib.Core.Path.{◌≡◌}
 use mathlib.Core.Bool.{Bool, false}
 use mathlib.Core.List.{List, map}
-use Prim.{Dec, yes, no}
-use Prim.Native.Nat.{ℕ, ◌+◌, ◌<◌, ◌≤◌}
-use native.Mathlib.Decide.{ℕ_discrete}
+use Prim.Native.Nat.{ℕ, ◌≤◌}
 use native.Mathlib.Nat.{sub-zero}
 use native.Mathlib.Omega.{arith}
 use borrow.Author.Tests.{eq-eqb, ne_eqb}
-use lib.ListN.{length, get_or, set}
-use lib.Seq.{get_or-set_same, get_or-set_other}
+use lib.ListN.{length, get_or}
 use Rattle.choice_rules.specs.Rows.{all_of}
 use Rattle.choice_rules.specs.Run.{priced}
 use Rattle.price_passes.specs.Flat.{child_of, part_of}
 use Rattle.table_rules.specs.Order.{picked}
 use Rattle.table_rules.proofs.HasLaws.{apart-length}
 use Rattle.table_rules.proofs.PickedLaws.{Appends, picked_apart}
-use Rattle.variant_rows.specs.Candidates.{price_of, Prices, is_candidate}
-
--- one row more has its cost
-pub prices-more :
-    (costs heads starts children prices : List ℕ) (i w : ℕ) →
-    i < length prices →
-    w ≡ price_of costs heads starts children i →
-    Prices costs heads starts children i prices →
-    Prices costs heads starts children (i + 1) (set prices i w)
-prices-more costs heads starts children prices i w l e p j h = go (ℕ_discrete j i)
-  where
-    go : Dec (j ≡ i) → get_or (set prices i w) j 0 ≡ price_of costs heads starts children j
-    go (yes q) = rw q (get_or-set_same prices i w 0 l ∙ e)
-    go (no q) = get_or-set_other prices i j w 0 q ∙ p j (omega (arith, h, q))
+use Rattle.variant_rows.specs.Candidates.{is_candidate}
 
 -- no more are picked than there are
 pub picked_fits : (p : ℕ → Bool) (n : ℕ) → length (picked p 0 n) ≤ n

@@ -1,5 +1,5 @@
 -- `variant_rows::rows` meets its contract: the rows are priced, found, and the first of them put in order. Assumes nothing.
-use Rattle.variant_rows.proofs.KeptLaws.{front_below, front-room, front-are, keys-of-costs, parts-of-length}
+use Rattle.variant_rows.proofs.KeptLaws.{front_below, front-room, front-are, parts-of-length}
 use mathlib.Core.Path.{refl, sym}
 use lib.ListN.{length}
 use lib.Seq.{length-take-le}
@@ -35,12 +35,11 @@ choose-requires c =
     let a = c.args in
     let p = c.requires in
     let f = c.find_rows-m in
-    let s = c.smaller-k in
+    let s = c.min-k in
     let q = is_candidate a.ranks.now a.outputs.now a.starts.now a.children.now a.c in
     let list = f.new.list in
     let e = length-take-le f.result list f.ensures.room in
     record {
-      keys_in = keys-of-costs a.prices.now c.price_rows.new.prices a.rows.now a.labels.now a.cells.now (length a.outputs.now) c.price_rows.auto.prices p.keys;
       k_in_bounds = (
         omega (arith, e, s.ensures),
         front_below c.price_rows.new.prices a.rows.now a.labels.now
@@ -53,7 +52,7 @@ returns c =
     let a = c.args in
     let p = c.requires in
     let f = c.find_rows-m in
-    let s = c.smaller-k in
+    let s = c.min-k in
     let w = c.choose in
     let q = is_candidate a.ranks.now a.outputs.now a.starts.now a.children.now a.c in
     let list = f.new.list in

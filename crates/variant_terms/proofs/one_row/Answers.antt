@@ -24,9 +24,9 @@ row_term-requires c =
       ) p.listed.is;
     }
 
-pub returns : goal.returns
-returns c =
+pub returns-clause-made : goal.returns-clause-made
+returns-clause-made c =
     rw (
       c.function_of-f.ensures,
       c.children_of-kids.ensures,
-    ) at c.row_term.ensures
+    ) at c.row_term.ensures.made

@@ -89,9 +89,6 @@ pub record Turn
   pub within : j ≤ length kids
   pub long : length ks ≡ 8
   pub memo : length at.memo ≡ length first.memo
-  pub records : length at.lent.records ≡ length first.lent.records
-  pub literals : length at.lent.literals ≡ length first.lent.literals
-  pub names : length at.lent.names ≡ length first.lent.names
   pub tracks : Tracks p at
   pub grows : Grows first.lent at.lent
   pub below : (i : ℕ) → i < j → get_or ks i 0 < at.lent.terms
@@ -123,20 +120,14 @@ module _
       (t : ℕ) (s' : State) →
       KidMade p ranks values at (get_or kids j 0) (done t s') →
       length s'.memo ≡ length at.memo →
-      length s'.lent.records ≡ length at.lent.records →
-      length s'.lent.literals ≡ length at.lent.literals →
-      length s'.lent.names ≡ length at.lent.names →
       Turn p ranks values first kids s' (set ks j t) (j + 1)
-  turn-go l t s' made em er el en =
+  turn-go l t s' made em =
       let small : j < 8 = omega arith in
       let inside : j < length ks = omega (arith, turn.long) in
       record {
         within = omega arith;
         long = length-set ks j t ∙ turn.long;
         memo = em ∙ turn.memo;
-        records = er ∙ turn.records;
-        literals = el ∙ turn.literals;
-        names = en ∙ turn.names;
         tracks = made.leaves.tracks;
         grows = grows-trans turn.grows made.leaves.grows;
         below = λ i q.

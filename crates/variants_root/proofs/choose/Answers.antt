@@ -5,7 +5,7 @@ use mathlib.Core.Path.{refl, sym, ◌∙◌}
 use lib.ListN.{length-replicate}
 use Rattle.price.proofs.ZeroLaws.{take-zeros-length, blank-lists}
 use Rattle.best_class.proofs.SolvedLaws.{pack-ready}
-use Rattle.variants_root.proofs.SeveralLaws.{few_classes, ready_with, answer-seen}
+use Rattle.variants_root.proofs.SeveralLaws.{few_classes, ready_with}
 use native.Mathlib.Omega.{arith}
 use Rattle.variants_root.proofs.choose.Goals as goal
 
@@ -29,8 +29,8 @@ slice_bounds-decide-end-3 c = take-zeros-length c.args.w 512 (few_classes c.requ
 pub slice_bounds-decide-end-4 : goal.slice_bounds-decide-end-4
 slice_bounds-decide-end-4 c = take-zeros-length c.args.w 512 (few_classes c.requires)
 
-pub decide-kept-requires : goal.decide-kept-requires
-decide-kept-requires c =
+pub decide-requires : goal.decide-requires
+decide-requires c =
     let l = few_classes c.requires in
     record {
       keyed_ready = record {
@@ -42,10 +42,9 @@ decide-kept-requires c =
       blank = blank-lists c.args.w 512 _ refl l;
     }
 
-pub returns : goal.returns
-returns c t root v e =
+pub returns-clause-variants : goal.returns-clause-variants
+returns-clause-variants c t root v e =
     let l = few_classes c.requires in
-    let d = c.decide-kept in
-    answer-seen d.result c.answer_from.result c.args.terms c.args.symbols _ _ _ _ _ _
-    c.answer_from.ensures
-    (d.ensures c.args.order.now c.args.functions.now c.fill.ensures t root v (sym (take-zeros-length c.args.w 512 l) ∙ e))
+    let d = c.decide in
+    d.ensures.variants c.args.order.now c.args.functions.now c.fill.ensures t root v
+    (sym (take-zeros-length c.args.w 512 l) ∙ e)

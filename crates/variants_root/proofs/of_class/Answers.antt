@@ -3,18 +3,18 @@ use Prim.Native.Nat.{◌+◌}
 use mathlib.Core.Path.{sym, ◌∙◌}
 use borrow.Author.Tests.{not-true, not-false}
 use lib.Seq.{length-take-le}
-use Rattle.term_rules.specs.Lent.{store}
+use Rattle.term_add.specs.Held.{held}
 use Rattle.variant_answers.specs.Kept.{lending}
 use Rattle.variants_root.proofs.SeveralLaws.{unformed-refuses, formed-is}
 use native.Mathlib.Omega.{arith}
 use Rattle.variants_root.proofs.of_class.Goals as goal
 
-pub returns-then-not-check : goal.returns-then-not-check
-returns-then-not-check c t root v =
+pub returns-then-not-check-clause-variants : goal.returns-then-not-check-clause-variants
+returns-then-not-check-clause-variants c t root v =
     let a = c.args in
     unformed-refuses
-    (lending (store a.records.now a.literals.now a.names.now a.terms a.symbols) a.paid.now
-    a.found.now) _ (sym c.check.ensures ∙ not-true _ c.if-not-check.true-raw)
+    (lending (held a.store.now) a.paid.now
+    a.found.now) _ (sym (rw c.lent.ensures at c.check.ensures) ∙ not-true _ c.if-not-check.true-raw)
 
 pub slice_bounds-choose-end : goal.slice_bounds-choose-end
 slice_bounds-choose-end c = sym (length-take-le c.args.n c.args.flat.now c.requires.is.flat_room)
@@ -41,14 +41,14 @@ choose-requires c =
       root = p.root;
       is = p.is.is;
       classes = p.is.classes_are;
-      formed = sym c.check.ensures ∙ not-false _ c.if-not-check.false-raw;
+      formed = sym (rw c.lent.ensures at c.check.ensures) ∙ not-false _ c.if-not-check.false-raw;
     }
 
-pub returns : goal.returns
-returns c t root v =
+pub returns-clause-variants : goal.returns-clause-variants
+returns-clause-variants c t root v =
     let a = c.args in
-    c.choose.ensures t root v.is v.classes_are
+    c.choose.ensures.variants t root v.is v.classes_are
     ∙ formed-is
-    (lending (store a.records.now a.literals.now a.names.now a.terms a.symbols) a.paid.now
-    a.found.now) _ (sym c.check.ensures ∙
+    (lending (held a.store.now) a.paid.now
+    a.found.now) _ (sym (rw c.lent.ensures at c.check.ensures) ∙
     not-false _ c.if-not-check.false-raw)

@@ -1,32 +1,31 @@
 -- `parts::read_sorts` meets its contract: the count, then the sorts. Assumes nothing.
-use mathlib.Core.Path.{◌∙◌}
+use mathlib.Core.Path.{sym, ◌∙◌}
 use native.Mathlib.Omega.{arith}
-use Rattle.bits.proofs.FieldLaws.{field-value, field-short, field-read}
-use Rattle.file_rules.proofs.ReadingLaws.{reads-done, reads-not, counts-of-done, counts-refused}
+use Rattle.bits.proofs.FieldLaws.{field-read}
+use Rattle.file_rules.proofs.ReadingLaws.{reads-done, reads-not, counts-of-done, counts-exit}
 use Rattle.file_rules.proofs.SortLaws.{sorts-length}
-use Rattle.file_reader.proofs.parts.PartLaws.{counts-along, sorts-short, sorts-from}
+use Rattle.file_reader.proofs.parts.PartLaws.{counts-along, sorts-refused, sorts-from}
 use Rattle.file_reader.proofs.parts.read_sorts.Goals as goal
 
-pub returns-in_default : goal.returns-in_default
-returns-in_default c = counts-refused (sorts-short _ _ (field-short c.read-f.ensures c.in_default.is))
+pub returns-in_err-v : goal.returns-in_err-v
+returns-in_err-v c = counts-exit _ c.from_residual.ensures.1 (sorts-refused _ _ (sym c.in_err-v.ensures))
 
-pub read_sorts-x-requires : goal.read_sorts-x-requires
-read_sorts-x-requires c =
-    let k = field-read _ _ 5 (field-value c.read-f.ensures c.in-Value.is) in
+pub read_sorts-requires : goal.read_sorts-requires
+read_sorts-requires c =
+    let k = field-read _ _ 5 (sym c.in_ok-v.ensures) in
     record {
       at_bound = omega (arith, k.end, c.requires.at_bound);
       n_bound = k.small;
-      kinds_value = c.requires.kinds_value;
-      classes_value = c.requires.classes_value;
+      sorts_value = c.requires.sorts_value;
     }
 
-pub returns-in-Refused : goal.returns-in-Refused
-returns-in-Refused c =
-    counts-refused (sorts-from _ _ (field-value c.read-f.ensures c.in-Value.is) ∙ reads-not
-    c.read_sorts-x.ensures c.in-Refused.is)
+pub returns-in_err-next : goal.returns-in_err-next
+returns-in_err-next c =
+    counts-exit _ c.from_residual-in_err-next.ensures.1 (sorts-from _ _ (sym c.in_ok-v.ensures) ∙ reads-not
+    c.read_sorts.ensures c.in_err-next.was)
 
-pub returns-in-Done : goal.returns-in-Done
-returns-in-Done c =
-    counts-along (sorts-from _ _ (field-value c.read-f.ensures c.in-Value.is))
-    (counts-of-done (reads-done c.read_sorts-x.ensures c.in-Done.is)
+pub returns : goal.returns
+returns c =
+    counts-along (sorts-from _ _ (sym c.in_ok-v.ensures))
+    (counts-of-done (reads-done c.read_sorts.ensures c.in_ok-next.was)
     (λ xs j e. sorts-length _ _ _ e))

@@ -4,4 +4,4 @@ use Rattle.c_told.specs.Terms.{number_of}
 use Rattle.needlevale_c.proofs.terms.needlevale_find_application.Goals as goal
 
 pub returns : goal.returns
-returns c = c.told_found.ensures ∙ ap number_of c.find_application-r.ensures
+returns c = c.told_number.ensures ∙ ap number_of c.find_application-r.ensures

@@ -6,4 +6,4 @@ use Rattle.c_told.specs.Terms.{number_of}
 use Rattle.needlevale_c.proofs.terms.needlevale_find_literal.Goals as goal
 
 pub returns : goal.returns
-returns c = c.told_found.ensures ∙ ap number_of (rw (to_z-of_z w64 c.args.literal c.ranges.literal) at c.find_literal-r.ensures)
+returns c = c.told_number.ensures ∙ ap number_of (rw (to_z-of_z w64 c.args.literal c.ranges.literal) at c.find_literal-r.ensures)

@@ -4,4 +4,4 @@ use Rattle.c_told.specs.Terms.{number_of}
 use Rattle.needlevale_c.proofs.terms.needlevale_find_variable.Goals as goal
 
 pub returns : goal.returns
-returns c = c.told_found.ensures ∙ ap number_of c.find_variable-r.ensures
+returns c = c.told_number.ensures ∙ ap number_of c.find_variable-r.ensures

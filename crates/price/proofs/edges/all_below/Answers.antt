@@ -1,38 +1,24 @@
--- `edges::all_below` meets its contract: the children from the i-th on decide. Assumes nothing.
-use Prim.Native.Nat.{◌≤◌, ◌<◌}
-use mathlib.Core.Path.{sym, ◌∙◌}
-use borrow.Author.Tests.{lt-ltb, le-ltb}
-use lib.ListN.{get_or}
-use Rattle.choice_rules.specs.Edges.{child_rank, below}
+-- `edges::all_below` meets its contract: every child is asked. Assumes nothing.
+use Rattle.std.proofs.Common.{rules, tests}
+use mathlib.Core.Path.{◌∙◌}
+use Rattle.std.proofs.lemmas.Iterator.{YieldsList-from_slice}
+use Rattle.std.proofs.lemmas.Iterator.Adapters.{serves_from_places}
+use Rattle.std.proofs.lemmas.Iterator.Search.{all_from_yields_List}
+use lib.ListN.{length}
+use Rattle.choice_rules.specs.Edges.{below}
 use Rattle.price_passes.specs.Flat.{child_of}
-use Rattle.price_passes.proofs.WalkLaws.{all-goes-on, all-stops, all-ends}
-use native.Mathlib.Omega.{arith}
+use Rattle.price_passes.proofs.WalkLaws.{all-of-list, child-item}
 use Rattle.price.proofs.edges.all_below.Goals as goal
 
-pub rank-rank-requires : goal.rank-rank-requires
-rank-rank-requires c = c.requires c.loop-i.i (omega arith)
-
-pub returns-then-rank-b : goal.returns-then-rank-b
-returns-then-rank-b c =
-    let a = c.args in
-    let l = c.loop-i in
-    let r = child_rank a.ranks.now (child_of (get_or a.kids.now l.i 0)) in
-    let h : a.b ≤ r = omega (arith, c.rank-rank.ensures, c.if-rank-b.true) in
-    sym (all-stops a.kids.now l.i (below a.b a.ranks.now) (omega arith) (le-ltb r a.b h)) ∙ l.invariant.1
-
-pub loop-i-preserved : goal.loop-i-preserved
-loop-i-preserved c =
-    let a = c.args in
-    let l = c.loop-i in
-    let r = child_rank a.ranks.now (child_of (get_or a.kids.now l.i 0)) in
-    let h : r < a.b = omega (arith, c.rank-rank.ensures, c.if-rank-b.false) in (
-      omega arith,
-      all-goes-on a.kids.now l.i (below a.b a.ranks.now) (omega arith) (lt-ltb r a.b h)
-          ∙ l.invariant.1,
-    )
+pub all-requires-clause-callable : goal.all-requires-clause-callable
+all-requires-clause-callable c =
+    serves_from_places (YieldsList-from_slice c.args.kids.now cc) (λ x q k. search (rules, tests))
+    (λ x k l e.
+    let h = child-item c.args.kids.now (length c.args.ranks.now) x.now k c.requires l e in
+    search rules)
 
 pub returns : goal.returns
 returns c =
-    let a = c.args in
-    let l = c.loop-i in
-    sym (all-ends a.kids.now l.i (below a.b a.ranks.now) (omega arith) (omega arith)) ∙ l.invariant.1
+    all_from_yields_List (λ x. below c.args.b c.args.ranks.now (child_of x)) _ _ _ c.all.ensures.ran
+    (YieldsList-from_slice c.args.kids.now cc) (λ x b q k. (search (rules, tests), search (rules, tests)))
+    ∙ all-of-list c.args.kids.now (below c.args.b c.args.ranks.now)

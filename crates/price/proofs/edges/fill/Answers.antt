@@ -8,52 +8,26 @@ use Rattle.price.proofs.edges.WalkLaws.{flat-walk-begins, flat-walk-goes-on, fla
 use native.Mathlib.Omega.{arith}
 use Rattle.price.proofs.edges.fill.Goals as goal
 
-pub overflow_cast-none : goal.overflow_cast-none
-overflow_cast-none c = omega (arith, c.requires.flat_ok.few_rows)
-
 pub loop-i-init : goal.loop-i-init
 loop-i-init c =
     let a = c.args in
-    let e = c.clear in (
+    let e = c.fill in (
       refl,
-      flat-walk-begins a.costs.now a.ranks.now a.outputs.now a.heads.now a.starts.now
-          a.children.now e.new.edges (length a.edges.now) (length a.outputs.now) refl
+      flat-walk-begins a.costs.now a.ranks.now a.rows.now e.new.self (length a.edges.now) (length a.rows.now.outputs.now) refl
           c.requires.edges_len
-          e.ensures,
+          (e.ensures.after (λ y h. h)),
     )
-
-pub overflow_cast-i : goal.overflow_cast-i
-overflow_cast-i c =
-    omega (
-      arith,
-      c.requires.flat_ok.few_rows,
-      c.loop-i-test.true,
-    )
-
-pub offset_bounds-children-a : goal.offset_bounds-children-a
-offset_bounds-children-a c =
-    let ok = c.requires.flat_ok in
-    omega (arith, ok.starts_rise c.loop-i.i (omega arith), ok.starts_in c.loop-i.i (omega arith))
-
-pub slice_bounds-mark-count : goal.slice_bounds-mark-count
-slice_bounds-mark-count c = c.requires.flat_ok.starts_rise c.loop-i.i (omega arith)
-
-pub slice_bounds-mark-start : goal.slice_bounds-mark-start
-slice_bounds-mark-start c = c.requires.flat_ok.starts_rise c.loop-i.i (omega arith)
-
-pub slice_bounds-mark-end : goal.slice_bounds-mark-end
-slice_bounds-mark-end c = c.requires.flat_ok.starts_in c.loop-i.i (omega arith)
 
 pub mark-requires : goal.mark-requires
 mark-requires c =
     let a = c.args in
     let l = c.loop-i in
-    let from = get_or a.starts.now l.i 0 in
+    let from = get_or a.rows.now.starts.now l.i 0 in
     record {
       edges_len = l.invariant.1.long;
       costs_len = c.requires.costs_len;
       output_in_bounds = c.requires.flat_ok.outputs_in l.i (omega arith);
-      children_in = part_in (length a.ranks.now) (get_or a.starts.now (l.i + 1) 0 - from) from a.children.now
+      children_in = part_in (length a.ranks.now) (get_or a.rows.now.starts.now (l.i + 1) 0 - from) from a.rows.now.children.now
           c.requires.flat_ok.children_in;
     }
 
@@ -63,25 +37,14 @@ loop-i-preserved c =
     let l = c.loop-i in
     let r = c.mark in (
       l.invariant.0,
-      flat-walk-goes-on a.costs.now a.ranks.now a.outputs.now a.heads.now a.starts.now
-          a.children.now l.edges l.i l.invariant.1 (length a.outputs.now) refl (omega arith)
+      flat-walk-goes-on a.costs.now a.ranks.now a.rows.now l.edges l.i l.invariant.1 (length a.rows.now.outputs.now) refl (omega arith)
           c.requires.flat_ok
           r.new.edges r.ensures,
-    )
-
-pub shape_of-edges : goal.shape_of-edges
-shape_of-edges c =
-    let v = c.loop-i.invariant.1 in
-    omega (
-      arith,
-      v.long,
-      c.requires.edges_len,
     )
 
 pub returns : goal.returns
 returns c =
     let a = c.args in
     let l = c.loop-i in
-    flat-walk-ends a.costs.now a.ranks.now a.outputs.now a.heads.now
-    a.starts.now a.children.now
+    flat-walk-ends a.costs.now a.ranks.now a.rows.now
     l.edges l.i l.invariant.1 (omega arith)

@@ -2,18 +2,12 @@
 use Rattle.price_marks.proofs.ChainLaws.{joins-no-chain, joins-its-chain}
 use Rattle.price_marks.proofs.links.link.Goals as goal
 
-pub returns-then-child-ge512 : goal.returns-then-child-ge512
-returns-then-child-ge512 c =
+pub returns-then-child-ge512-clause-joined : goal.returns-then-child-ge512-clause-joined
+returns-then-child-ge512-clause-joined c =
     let a = c.args in
-    joins-no-chain a.child a.p a.first.now a.next.now c.if-child-ge512.true
+    joins-no-chain a.child a.p a.users.now.first a.users.now.next c.if-child-ge512.true
 
-pub bounds-first-c : goal.bounds-first-c
-bounds-first-c c = c.requires.child_in c.if-child-ge512.false
-
-pub bounds-first-c-2 : goal.bounds-first-c-2
-bounds-first-c-2 c = c.requires.child_in c.if-child-ge512.false
-
-pub returns : goal.returns
-returns c =
+pub returns-clause-joined : goal.returns-clause-joined
+returns-clause-joined c =
     let a = c.args in
-    joins-its-chain a.child a.p a.first.now a.next.now c.if-child-ge512.false
+    joins-its-chain a.child a.p a.users.now.first a.users.now.next c.if-child-ge512.false

@@ -1,13 +1,14 @@
 -- `price_marks::links::link_row` meets its contract: the children before place p have joined. Assumes nothing.
+use lib.ListN.{get_or}
 use Rattle.price_marks.proofs.InRowLaws.{row-asks, row-goes-on, row_ends}
+use Rattle.price_marks.proofs.ChainLaws.{joined-sizes}
 use Rattle.price_marks.proofs.links.link_row.Goals as goal
 
 pub link-requires : goal.link-requires
 link-requires c =
     let a = c.args in
     let l = c.loop-p in
-    let all-asked = row-asks a.children.now a.i a.a a.e a.first.now a.next.now a.owner.now l.p l.first
-    l.next l.owner l.invariant c.loop-p-test.true
+    let all-asked = row-asks a.children.now a.i a.a a.e a.users.now.first a.users.now.next a.users.now.owner l.p l.users.first l.users.next l.users.owner l.invariant c.loop-p-test.true
     c.requires.e_in_bounds in
     record { p_bound = all-asked.0; p_in_bounds = all-asked.1.0; child_in = all-asked.1.1 }
 
@@ -16,15 +17,21 @@ loop-p-preserved c =
     let a = c.args in
     let l = c.loop-p in
     let r = c.link in
-    row-goes-on a.children.now a.i a.a a.e a.first.now a.next.now a.owner.now l.p
-    l.first l.next l.owner l.invariant
-    c.loop-p-test.true
-    c.requires.e_in_bounds
-    r.new.first r.new.next r.ensures r.auto.first r.auto.next
+    let u = l.users in
+    let n = joined-sizes (get_or a.children.now l.p 0) l.p u.first u.next r.new.users.first r.new.users.next r.ensures.joined in
+    rw r.ensures.owner_kept
+    (row-goes-on a.children.now a.i a.a a.e a.users.now.first a.users.now.next a.users.now.owner l.p
+    u.first u.next u.owner l.invariant c.loop-p-test.true c.requires.e_in_bounds
+    r.new.users.first r.new.users.next r.ensures.joined n.0 n.1)
 
 pub returns : goal.returns
 returns c =
     let a = c.args in
     let l = c.loop-p in
-    row_ends a.children.now a.i a.a a.e a.first.now a.next.now a.owner.now l.p l.first
-    l.next l.owner l.invariant c.loop-p-test.false
+    let u = l.users in
+    let v = l.invariant in
+    record {
+      linked = row_ends a.children.now a.i a.a a.e a.users.now.first a.users.now.next a.users.now.owner l.p u.first
+          u.next u.owner v c.loop-p-test.false;
+      sizes = record { first_length = v.first-length; next_length = v.next-length; owner_length = v.owner-length };
+    }

@@ -2,7 +2,7 @@
 -- nothing.
 use Prim.Native.Nat.{◌+◌}
 use lib.ListN.{length}
-use Rattle.price_passes.specs.Flat.{rows_of, state_of}
+use Rattle.price_passes.specs.Flat.{flat_of, state_of}
 use Rattle.price_passes.proofs.RepeatLaws.{repeat-begins, repeat-few, repeat-asks, repeat-goes-on}
 use Rattle.price_passes.proofs.RepeatLaws.{repeat-ends}
 use native.Mathlib.Omega.{arith}
@@ -11,14 +11,14 @@ use Rattle.price_passes.proofs.passes.repeat.Goals as goal
 pub loop-l-init : goal.loop-l-init
 loop-l-init c =
     let a = c.args in
-    repeat-begins (rows_of a.outputs.now a.heads.now a.starts.now a.children.now)
+    repeat-begins (flat_of a.rows.now)
     a.costs.now a.ranks.now c.requires.fresh
 
 pub one_pass-m-requires : goal.one_pass-m-requires
 one_pass-m-requires c =
     let a = c.args in
     let l = c.loop-l in
-    let all-asked = repeat-asks (length a.ranks.now) a.outputs.now a.heads.now a.starts.now a.children.now
+    let all-asked = repeat-asks (length a.ranks.now) a.rows.now
     c.requires.flat_ok
     (state_of l.costs l.ranks l.l) l.p l.invariant in
     record { outputs_bound = all-asked.0; costs_len = all-asked.1.0; flat_ok = all-asked.1.1 }
@@ -28,7 +28,7 @@ overflow_add-p c =
     let a = c.args in
     let l = c.loop-l in
     let ok = c.requires.flat_ok in
-    let few = repeat-few (length a.ranks.now) a.outputs.now a.heads.now a.starts.now a.children.now
+    let few = repeat-few (length a.ranks.now) a.rows.now
     ok (state_of l.costs l.ranks l.l) l.p l.invariant in
     omega (arith, ok.few_classes)
 
@@ -37,7 +37,7 @@ returns-then-m-l c =
     let a = c.args in
     let l = c.loop-l in
     let r = c.one_pass-m in
-    repeat-ends (length a.ranks.now) a.outputs.now a.heads.now a.starts.now a.children.now
+    repeat-ends (length a.ranks.now) a.rows.now
     c.requires.flat_ok (state_of l.costs l.ranks l.l)
     (state_of r.new.costs r.new.ranks r.result) l.p
     l.invariant r.ensures c.if-m-l.true
@@ -49,10 +49,9 @@ loop-l-smaller c =
     let r = c.one_pass-m in
     let ok = c.requires.flat_ok in
     let u = state_of r.new.costs r.new.ranks r.result in
-    let v = repeat-goes-on (length a.ranks.now) a.outputs.now a.heads.now a.starts.now
-    a.children.now ok (state_of l.costs l.ranks l.l) u l.p l.invariant r.ensures r.auto.costs
+    let v = repeat-goes-on (length a.ranks.now) a.rows.now ok (state_of l.costs l.ranks l.l) u l.p l.invariant r.ensures r.auto.costs
     r.auto.ranks c.if-m-l.false in
-    let few = repeat-few (length a.ranks.now) a.outputs.now a.heads.now a.starts.now a.children.now
+    let few = repeat-few (length a.ranks.now) a.rows.now
     ok u (l.p + 1) v in
     omega arith
 
@@ -61,7 +60,7 @@ loop-l-preserved c =
     let a = c.args in
     let l = c.loop-l in
     let r = c.one_pass-m in
-    repeat-goes-on (length a.ranks.now) a.outputs.now a.heads.now a.starts.now a.children.now
+    repeat-goes-on (length a.ranks.now) a.rows.now
     c.requires.flat_ok (state_of l.costs l.ranks l.l)
     (state_of r.new.costs r.new.ranks r.result) l.p
     l.invariant r.ensures r.auto.costs r.auto.ranks c.if-m-l.false

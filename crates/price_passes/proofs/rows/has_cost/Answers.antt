@@ -1,32 +1,22 @@
--- `price_passes::rows::has_cost` meets its contract: the children from the i-th on decide. Assumes nothing.
-use mathlib.Core.Path.{sym, ◌∙◌}
-use borrow.Author.Tests.{not-true, not-false}
+-- `price_passes::rows::has_cost` meets its contract: every child is asked. Assumes nothing.
+use Rattle.std.proofs.Common.{rules, tests}
+use mathlib.Core.Path.{◌∙◌}
+use Rattle.std.proofs.lemmas.Iterator.{YieldsList-from_slice}
+use Rattle.std.proofs.lemmas.Iterator.Adapters.{serves_from_places}
+use Rattle.std.proofs.lemmas.Iterator.Search.{all_from_yields_List}
 use Rattle.choice_rules.specs.Run.{priced}
-use Rattle.price_passes.proofs.WalkLaws.{all-goes-on, all-stops, all-ends}
-use native.Mathlib.Omega.{arith}
+use lib.ListN.{length}
+use Rattle.price_passes.specs.Flat.{child_of}
+use Rattle.price_passes.proofs.WalkLaws.{all-of-list, child-item}
 use Rattle.price_passes.proofs.rows.has_cost.Goals as goal
 
-pub has_cost-requires : goal.has_cost-requires
-has_cost-requires c = c.requires c.loop-i.i (omega arith)
-
-pub returns-then-not-has_cost : goal.returns-then-not-has_cost
-returns-then-not-has_cost c =
-    let a = c.args in
-    let l = c.loop-i in
-    sym (all-stops a.kids.now l.i (priced a.ranks.now) (omega arith)
-    (sym c.has_cost.ensures ∙ not-true c.has_cost.result c.if-not-has_cost.true-raw)) ∙ l.invariant.1
-
-pub loop-i-preserved : goal.loop-i-preserved
-loop-i-preserved c =
-    let a = c.args in
-    let l = c.loop-i in (
-      omega arith,
-      all-goes-on a.kids.now l.i (priced a.ranks.now) (omega arith)
-          (sym c.has_cost.ensures ∙ not-false c.has_cost.result c.if-not-has_cost.false-raw) ∙ l.invariant.1,
-    )
+pub all-requires-clause-callable : goal.all-requires-clause-callable
+all-requires-clause-callable c =
+    serves_from_places (YieldsList-from_slice c.args.kids.now cc) (λ x q k. search (rules, tests))
+    (λ x k l e. let h = child-item c.args.kids.now (length c.args.ranks.now) x.now k c.requires l e in search rules)
 
 pub returns : goal.returns
 returns c =
-    let a = c.args in
-    let l = c.loop-i in
-    sym (all-ends a.kids.now l.i (priced a.ranks.now) (omega arith) (omega arith)) ∙ l.invariant.1
+    all_from_yields_List (λ x. priced c.args.ranks.now (child_of x)) _ _ _ c.all.ensures.ran
+    (YieldsList-from_slice c.args.kids.now cc) (λ x b q k. search (rules, tests))
+    ∙ all-of-list c.args.kids.now (priced c.args.ranks.now)

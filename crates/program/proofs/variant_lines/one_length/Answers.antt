@@ -5,7 +5,6 @@ use Rattle.program_rules.proofs.headlines.LineLaws.{digits-few, variant-length}
 use Rattle.program.proofs.variant_lines.ReplyLaws.{reply-measured}
 use Rattle.program.proofs.variant_lines.SheetLaws.{wide_is}
 use native.Mathlib.Omega.{arith}
-use native.Mathlib.Omega.{arith}
 use Rattle.program.proofs.variant_lines.one_length.Goals as goal
 
 pub overflow_add-head : goal.overflow_add-head
@@ -26,14 +25,6 @@ overflow_add-head c =
       digits-few
           c.args.n
           (omega (arith)),
-    )
-
-pub add-requires : goal.add-requires
-add-requires c =
-    omega (
-      arith,
-      wide_is c.args.records.now c.args.literals.now c.args.names.now c.args.places.now
-          c.args.wides.now c.args.n c.requires.plain_sheet c.args.t c.requires.t_lt_n,
     )
 
 pub returns : goal.returns

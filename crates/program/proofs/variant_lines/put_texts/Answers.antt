@@ -16,12 +16,10 @@ abbrev seen : Start → ℕ → Node
 seen s = nodes s.args.records.now s.args.literals.now s.args.names.now
 
 pub loop-j-init : goal.loop-j-init
-loop-j-init c = (
-  omega arith,
-  subst (λ (x : List ℕ). Step x c.args.p c.args.p c.args.out.now c.args.out.now)
-      (sym (none (seen (goal.at.loop-j-init c).Start) c.args.n c.args.costs.now c.args.terms.now))
-      (step-none c.args.out.now c.args.p),
-)
+loop-j-init c =
+    subst (λ (x : List ℕ). Step x c.args.p c.args.p c.args.out.now c.args.out.now)
+    (sym (none (seen (goal.at.loop-j-init c).Start) c.args.n c.args.costs.now c.args.terms.now))
+    (step-none c.args.out.now c.args.p)
 
 pub put_one-e-requires : goal.put_one-e-requires
 put_one-e-requires c =
@@ -31,32 +29,29 @@ put_one-e-requires c =
       t_lt_n = c.requires.within.below l.j c.loop-j-test.true;
       t_in_bounds = room_next (seen (goal.at.put_one-e-requires c).Start)
           c.args.n c.args.costs.now c.args.terms.now c.args.out.now c.args.p l.j
-          c.args.k l.e l.out l.invariant.1 c.loop-j-test.true c.requires.k_in_bounds;
+          c.args.k l.e l.out l.invariant c.loop-j-test.true c.requires.k_in_bounds;
     }
 
 pub loop-j-preserved : goal.loop-j-preserved
 loop-j-preserved c =
-    let l = c.loop-j in (
-      omega (arith, c.loop-j-test.true),
-      written (seen (goal.at.loop-j-preserved c).Start) c.args.n
-          c.args.costs.now c.args.terms.now c.args.out.now c.args.p l.j l.e
-          c.put_one-e.result l.out c.put_one-e.new.out l.invariant.1
-          c.put_one-e.ensures (omega (
-            arith,
-            c.requires.k_in_bounds,
-            shorter (seen (goal.at.loop-j-preserved c).Start) c.args.n
-                c.args.costs.now c.args.terms.now l.j c.args.k l.invariant.0,
-          )),
-    )
+    let l = c.loop-j in
+    written (seen (goal.at.loop-j-preserved c).Start) c.args.n c.args.costs.now c.args.terms.now c.args.out.now c.args.p
+    l.j l.e c.put_one-e.result l.out c.put_one-e.new.out l.invariant c.put_one-e.ensures
+    (omega (
+      arith,
+      c.requires.k_in_bounds,
+      shorter (seen (goal.at.loop-j-preserved c).Start) c.args.n c.args.costs.now c.args.terms.now l.j c.args.k
+          l.auto.j-end,
+    ))
 
 pub shape_of-out : goal.shape_of-out
 shape_of-out c =
     let l = c.loop-j in
     kept-length (seen (goal.at.shape_of-out c).Start) c.args.n c.args.costs.now c.args.terms.now c.args.out.now c.args.p
-    l.j c.args.k l.e l.out l.invariant.1 l.invariant.0 c.requires.k_in_bounds
+    l.j c.args.k l.e l.out l.invariant l.auto.j-end c.requires.k_in_bounds
 
 pub returns : goal.returns
 returns c =
     let l = c.loop-j in
     subst (λ (x : ℕ). Step (reply_texts (seen (goal.at.returns c).Start) c.args.n c.args.costs.now c.args.terms.now x) c.args.p
-    l.e c.args.out.now l.out) (omega (arith, l.invariant.0, c.loop-j-test.false)) l.invariant.1
+    l.e c.args.out.now l.out) (omega (arith, l.auto.j-end, c.loop-j-test.false)) l.invariant

@@ -1,12 +1,8 @@
 -- `variant_lines::put_texts` meets its contract: the answers passed stand. Assumes nothing.
-use Prim.Native.Nat.{◌-◌, ◌≤◌}
 use Rattle.text_pieces.specs.Readable.{nodes}
 use Rattle.program_rules.specs.Step.{Step}
 use Rattle.program.specs.Replies.{reply_texts}
 use Rattle.program.proofs.variant_lines.put_texts.Given as goal
 
 abbrev pub invariant-loop-j : goal.invariant-loop-j
-invariant-loop-j l = (l.j ≤ l.k) × Step (reply_texts (nodes l.records l.literals l.names) l.n l.costs l.terms l.j) l.p l.e l.initial.out l.out
-
-abbrev pub decreases-loop-j : goal.decreases-loop-j
-decreases-loop-j l = l.k - l.j
+invariant-loop-j l = Step (reply_texts (nodes l.records l.literals l.names) l.n l.costs l.terms l.j) l.p l.e l.initial.out l.out

@@ -16,7 +16,7 @@ seen s = nodes s.args.records.now s.args.literals.now s.args.names.now
 
 pub loop-j-init : goal.loop-j-init
 loop-j-init c =
-    (omega arith, omega (arith, ap length (none (seen (goal.at.loop-j-init c).Start) c.args.n c.args.costs.now c.args.terms.now)))
+    omega (arith, ap length (none (seen (goal.at.loop-j-init c).Start) c.args.n c.args.costs.now c.args.terms.now))
 
 pub one_length-long-requires : goal.one_length-long-requires
 one_length-long-requires c =
@@ -27,16 +27,13 @@ one_length-long-requires c =
 
 pub loop-j-preserved : goal.loop-j-preserved
 loop-j-preserved c =
-    let l = c.loop-j in (
-      omega (arith, c.loop-j-test.true),
-      measured (seen (goal.at.loop-j-preserved c).Start) c.args.n
-          c.args.costs.now c.args.terms.now l.j l.acc c.one_length-long.result c.add-acc.result
-          l.invariant.1 c.one_length-long.ensures c.add-acc.ensures,
-    )
+    let l = c.loop-j in
+    measured (seen (goal.at.loop-j-preserved c).Start) c.args.n c.args.costs.now c.args.terms.now l.j l.acc
+    c.one_length-long.result c.add-acc.result l.invariant c.one_length-long.ensures c.add-acc.ensures
 
 pub returns : goal.returns
 returns c =
     let l = c.loop-j in
-    l.invariant.1 ∙ ap (λ (x : ℕ). capped
+    l.invariant ∙ ap (λ (x : ℕ). capped
     (length (reply_texts (seen (goal.at.returns c).Start) c.args.n c.args.costs.now c.args.terms.now x)))
-    (omega (arith, l.invariant.0, c.loop-j-test.false))
+    (omega (arith, l.auto.j-end, c.loop-j-test.false))

@@ -5,7 +5,6 @@ use Rattle.term_rules.specs.Nodes.{Node}
 use Rattle.text_pieces.specs.Readable.{nodes}
 use Rattle.program.proofs.variants_reply.RoomLaws.{refuses, roomy, writes}
 use native.Mathlib.Omega.{arith}
-use native.Mathlib.Omega.{arith}
 use Rattle.program.proofs.variants_reply.put_lines.Goals.{Start}
 use Rattle.program.proofs.variants_reply.put_lines.Goals as goal
 
@@ -18,9 +17,6 @@ texts_length-rest-requires c =
       plain_sheet = c.requires.plain_sheet;
       within = c.requires.within;
     }
-
-pub add-requires : goal.add-requires
-add-requires c = omega (arith, c.texts_length-rest.ensures)
 
 pub returns-then-out-add : goal.returns-then-out-add
 returns-then-out-add c =

@@ -1,84 +1,9 @@
--- `headlines::put_variant` meets its contract: the word and three numbers. Assumes nothing.
-use Rattle.program_rules.proofs.headlines.LineLaws.{number-length, variant-length}
-use Rattle.program_rules.proofs.headlines.PutLaws.{variant_step}
-use native.Mathlib.Omega.{arith}
+-- `headlines::put_variant` meets its contract: the word and the numbers. Assumes nothing.
+use Rattle.program_rules.proofs.headlines.LineLaws.{variant-line}
 use Rattle.program_rules.proofs.headlines.put_variant.Goals as goal
 
-pub put_word-a-requires : goal.put_word-a-requires
-put_word-a-requires c =
-    omega (
-      arith,
-      c.requires,
-      variant-length c.args.i
-          c.args.c c.args.n,
-    )
-
-pub put_number-b-requires : goal.put_number-b-requires
-put_number-b-requires c =
-    omega (
-      arith,
-      c.requires,
-      variant-length
-          c.args.i
-          c.args.c
-          c.args.n,
-      number-length
-          c.args.i 32,
-      number-length
-          c.args.c 32,
-      number-length
-          c.args.n 10,
-      c.put_word-a.ensures.place,
-      c.put_word-a.auto.out,
-    )
-
-pub put_number-d-requires : goal.put_number-d-requires
-put_number-d-requires c =
-    omega (
-      arith,
-      c.requires,
-      variant-length
-          c.args.i
-          c.args.c
-          c.args.n,
-      number-length
-          c.args.i 32,
-      number-length
-          c.args.c 32,
-      number-length
-          c.args.n 10,
-      c.put_word-a.ensures.place,
-      c.put_word-a.auto.out,
-      c.put_number-b.ensures.place,
-      c.put_number-b.auto.out,
-    )
-
-pub put_number-requires : goal.put_number-requires
-put_number-requires c =
-    omega (
-      arith,
-      c.requires,
-      variant-length c.args.i
-          c.args.c c.args.n,
-      number-length
-          c.args.i 32,
-      number-length c.args.c 32,
-      number-length
-          c.args.n 10,
-      c.put_word-a.ensures.place,
-      c.put_word-a.auto.out,
-      c.put_number-b.ensures.place,
-      c.put_number-b.auto.out,
-      c.put_number-d.ensures.place,
-      c.put_number-d.auto.out,
-    )
+pub put_line-requires : goal.put_line-requires
+put_line-requires c = rw (variant-line c.args.i c.args.c c.args.n) c.requires
 
 pub returns : goal.returns
-returns c =
-    variant_step c.args.out.now
-    c.args.p c.args.i
-    c.args.c c.args.n
-    c.requires c.put_word-a.ensures
-    c.put_number-b.ensures
-    c.put_number-d.ensures
-    c.put_number.ensures
+returns c = rw (variant-line c.args.i c.args.c c.args.n) at c.put_line.ensures

@@ -1,16 +1,13 @@
 -- `table_flat::rows::lay_cells` meets its contract. What is laid and the cells from `j` on give what is wanted. Assumes
 -- nothing.
-use Prim.Native.Nat.{◌-◌}
-use mathlib.Core.Path.{◌≡◌}
+use Prim.Native.Nat.{◌+◌}
 use mathlib.Core.List.{◌++◌}
-use lib.ListN.{length, take}
+use lib.ListN.{take}
 use Rattle.table_flat.specs.Rows.{child_numbers}
 use Rattle.table_flat.proofs.ChildLaws.{Laying}
 use Rattle.table_flat.proofs.rows.lay_cells.Given as goal
 
 abbrev pub invariant-loop-j : goal.invariant-loop-j
-invariant-loop-j l = Laying l.kinds l.bases l.sorts l.cells (take l.at l.initial.list ++ child_numbers l.kinds l.bases l.sorts l.cells) l.list l.m l.j
-    × (length l.list ≡ length l.initial.list)
-
-abbrev pub decreases-loop-j : goal.decreases-loop-j
-decreases-loop-j l = length l.sorts - l.j
+invariant-loop-j l =
+    Laying l.kinds l.bases l.sorts l.cells (take l.at l.initial.list ++ child_numbers l.kinds l.bases l.sorts l.cells)
+    l.list (l.at + l.j) l.j

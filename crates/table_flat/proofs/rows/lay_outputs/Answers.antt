@@ -1,6 +1,4 @@
 -- `table_flat::rows::lay_outputs` meets its contract. The rows below place `k` are laid. Assumes nothing.
-use mathlib.Core.Path.{refl, ◌∙◌}
-use lib.ListN.{length-set}
 use Rattle.table_flat.specs.Rows.{output_in}
 use Rattle.table_flat.proofs.FillLaws.{mapping-start, mapping-step, mapping-end}
 use native.Mathlib.Omega.{arith}
@@ -8,25 +6,18 @@ use Rattle.table_flat.proofs.rows.lay_outputs.Goals as goal
 
 pub loop-k-init : goal.loop-k-init
 loop-k-init c =
-    let a = c.args in (
-      mapping-start (output_in a.bases.now a.arities.now a.outputs.now a.rowfunctions.now
-          a.cells.now)
-          a.order.now a.list.now c.requires.order_in_bounds,
-      refl,
-    )
-
-pub output_of-requires : goal.output_of-requires
-output_of-requires c = c.requires.each c.loop-k.k (omega arith)
+    let a = c.args in
+    mapping-start (output_in a.bases.now a.arities.now a.outputs.now a.rowfunctions.now
+    a.cells.now)
+    a.order.now a.list.now c.requires.order_in_bounds
 
 pub loop-k-preserved : goal.loop-k-preserved
 loop-k-preserved c =
     let a = c.args in
-    let l = c.loop-k in (
-      mapping-step (output_in a.bases.now a.arities.now a.outputs.now a.rowfunctions.now
-          a.cells.now)
-          a.order.now l.list l.k l.invariant.0 (omega arith) c.output_of.result c.output_of.ensures,
-      length-set l.list l.k c.output_of.result ∙ l.invariant.1,
-    )
+    let l = c.loop-k in
+    mapping-step (output_in a.bases.now a.arities.now a.outputs.now a.rowfunctions.now
+    a.cells.now)
+    a.order.now l.list l.k l.invariant (omega arith) c.output_of.result c.output_of.ensures
 
 pub returns : goal.returns
 returns c =
@@ -34,4 +25,4 @@ returns c =
     let l = c.loop-k in
     mapping-end (output_in a.bases.now a.arities.now a.outputs.now a.rowfunctions.now
     a.cells.now)
-    a.order.now l.list l.k l.invariant.0 (omega arith)
+    a.order.now l.list l.k l.invariant (omega arith)

@@ -10,28 +10,20 @@ use Rattle.table_rows.proofs.prepare.flatten.Goals as goal
 pub number_sorts-total-requires : goal.number_sorts-total-requires
 number_sorts-total-requires c =
     let a = c.args in
-    let few = sorts_few a.sorts a.functions a.rows a.kinds.now a.classes.now a.declared.now
-    a.costs.now a.unextractable.now a.hidden.now a.outputs.now a.arities.now a.arguments.now
-    a.rowfunctions.now a.subsumed.now a.cells.now c.requires.some.table c.requires.some.is in
+    let few = sorts_few a.counts a.table.now c.requires.some.table c.requires.some.is in
     record {
       sorts_in_bounds = (
-        classes-long a.sorts a.functions a.rows a.kinds.now a.classes.now a.declared.now
-            a.costs.now a.unextractable.now a.hidden.now a.outputs.now a.arities.now
-            a.arguments.now a.rowfunctions.now a.subsumed.now a.cells.now c.requires.some.table
+        classes-long a.counts a.table.now c.requires.some.table
             c.requires.some.is,
         omega arith,
       );
-      sorts_bound = count-few a.sorts a.functions a.rows a.kinds.now a.classes.now a.declared.now a.costs.now
-          a.unextractable.now a.hidden.now a.outputs.now a.arities.now a.arguments.now
-          a.rowfunctions.now a.subsumed.now a.cells.now c.requires.some.table c.requires.some.is;
+      sorts_bound = count-few a.counts a.table.now c.requires.some.table c.requires.some.is;
     }
 
 pub scan_rows-n-requires : goal.scan_rows-n-requires
 scan_rows-n-requires c =
     let a = c.args in
-    scan-ready a.sorts a.functions a.rows a.kinds.now a.classes.now a.declared.now a.costs.now
-    a.unextractable.now a.hidden.now a.outputs.now a.arities.now a.arguments.now
-    a.rowfunctions.now a.subsumed.now a.cells.now c.requires.some.table c.requires.some.is
+    scan-ready a.counts a.table.now c.requires.some.table c.requires.some.is
     a.roots.now c.requires.within a.order.now c.requires.space.order_room
 
 pub slice_bounds-lay-end-2 : goal.slice_bounds-lay-end-2
@@ -44,19 +36,13 @@ lay-m-requires c =
     let a = c.args in
     let w = c.scan_rows-n in
     let u = c.number_sorts-total in
-    let few = sorts_few a.sorts a.functions a.rows a.kinds.now a.classes.now a.declared.now
-    a.costs.now a.unextractable.now a.hidden.now a.outputs.now a.arities.now a.arguments.now
-    a.rowfunctions.now a.subsumed.now a.cells.now c.requires.some.table c.requires.some.is in
-    let long : a.sorts ≤ length u.new.bases = omega (arith, u.auto.bases) in
+    let few = sorts_few a.counts a.table.now c.requires.some.table c.requires.some.is in
+    let long : a.counts.sorts ≤ length u.new.bases = omega (arith, u.auto.bases) in
     record {
-      rows_fit = lay-ready a.sorts a.functions a.rows a.kinds.now a.classes.now a.declared.now a.costs.now
-          a.unextractable.now a.hidden.now a.outputs.now a.arities.now a.arguments.now
-          a.rowfunctions.now a.subsumed.now a.cells.now c.requires.some.table c.requires.some.is
+      rows_fit = lay-ready a.counts a.table.now c.requires.some.table c.requires.some.is
           a.roots.now c.requires.within w.result w.new.order w.ensures
           u.new.bases u.ensures.bases long;
-      room = lay-room a.sorts a.functions a.rows a.kinds.now a.classes.now a.declared.now a.costs.now
-          a.unextractable.now a.hidden.now a.outputs.now a.arities.now a.arguments.now
-          a.rowfunctions.now a.subsumed.now a.cells.now c.requires.some.table c.requires.some.is
+      room = lay-room a.counts a.table.now c.requires.some.table c.requires.some.is
           a.roots.now c.requires.within w.result w.new.order w.ensures
           u.new.bases u.ensures.bases long
           a.flat.now a.heads.now a.starts.now a.children.now c.requires.space.flat_room
@@ -69,13 +55,9 @@ returns c t h =
     let w = c.scan_rows-n in
     let u = c.number_sorts-total in
     let v = c.lay-m in
-    let few = sorts_few a.sorts a.functions a.rows a.kinds.now a.classes.now a.declared.now
-    a.costs.now a.unextractable.now a.hidden.now a.outputs.now a.arities.now a.arguments.now
-    a.rowfunctions.now a.subsumed.now a.cells.now t h in
-    let long : a.sorts ≤ length u.new.bases = omega (arith, u.auto.bases) in
-    flattened a.sorts a.functions a.rows a.kinds.now a.classes.now a.declared.now a.costs.now
-    a.unextractable.now a.hidden.now a.outputs.now a.arities.now a.arguments.now
-    a.rowfunctions.now a.subsumed.now a.cells.now t h
+    let few = sorts_few a.counts a.table.now t h in
+    let long : a.counts.sorts ≤ length u.new.bases = omega (arith, u.auto.bases) in
+    flattened a.counts a.table.now t h
     a.roots.now c.requires.within w.result w.new.order w.ensures
     u.new.bases u.ensures.bases long
     v.result _ v.new.classes v.new.heads

@@ -2,14 +2,14 @@
 use Prim.Native.Nat.{◌-◌, ◌<◌}
 use mathlib.Core.Path.{ap, ◌∙◌}
 use Rattle.term_rules.specs.Lent.{kids_at}
-use Rattle.text_counts.specs.Met.{wanted_at, met_at}
+use Rattle.text_counts.specs.Met.{bounds, wanted_at, met_at}
 use Rattle.text_counts.proofs.bindings.TableLaws.{bounds-none}
 use Rattle.text_counts.proofs.bindings.WantedLaws.{wanted-of-marked, bindings-of-met, met-none}
 use native.Mathlib.Omega.{arith}
 use Rattle.text_counts.proofs.bindings.bind.Goals as goal
 
-pub meet-requires : goal.meet-requires
-meet-requires c =
+pub meet-requires-clause-ready : goal.meet-requires-clause-ready
+meet-requires-clause-ready c =
     let b = c.requires.blank in
     record {
       linked = c.requires.linked;
@@ -24,12 +24,12 @@ meet-requires c =
       known = omega (arith, c.requires.n_nonzero);
       deep = omega (arith, c.requires.linked.few);
       met =
-          met-none c.args.places.now c.args.terms.now c.args.indents.now b.places_zero b.in_terms
+          met-none c.args.found.now.places c.args.found.now.terms c.args.found.now.indents b.places_zero b.in_terms
           b.in_indents;
     }
 
-pub returns : goal.returns
-returns c =
+pub returns-clause-all_met : goal.returns-clause-all_met
+returns-clause-all_met c =
     let k : c.args.n - 1 < c.args.n = omega (arith, c.requires.n_nonzero) in
     let w =
     wanted-of-marked c.args.records.now
@@ -41,14 +41,14 @@ returns c =
     c.mark.ensures in
     let q = c.meet in
     record {
-      met = q.ensures.met;
+      met = q.ensures.done.met;
       same =
-          q.ensures.same
+          q.ensures.done.same
           ∙ (ap
           (met_at (kids_at c.args.records.now)
           (wanted_at
           c.mark.new.counts) 0 (c.args.n - 1))
-          (bounds-none c.args.terms.now c.args.indents.now)
+          (bounds-none c.args.found.now.terms c.args.found.now.indents)
           ∙ bindings-of-met (kids_at c.args.records.now) c.args.n c.requires.linked.lower (c.args.n - 1) k
           (wanted_at
           c.mark.new.counts) w);

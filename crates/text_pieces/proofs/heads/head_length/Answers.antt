@@ -40,53 +40,43 @@ module _ (rs : List ℕ) (ls : List ℤ) (ns : List ℕ) (n : ℕ) (r : Readable
         q ∙ sym (name-length _ _ _ n r t l z),
       )
 
-pub kind_of-kind-requires : goal.kind_of-kind-requires
-kind_of-kind-requires c = omega (arith, c.requires.readable.in_records)
-
 pub returns-then-kind-eq0 : goal.returns-then-kind-eq0
 returns-then-kind-eq0 c =
-    let e : kind_at c.args.records.now c.args.t ≡ 0 =
+    let e : kind_at c.args.nodes.now.records.now c.args.t ≡ 0 =
     sym c.kind_of-kind.ensures ∙ c.if-kind-eq0.true in
-    let same : literal_text (to_z w64 (of_z w64 (get_or c.args.literals.now c.args.t (pos 0))))
-    ≡ head_text (nodes c.args.records.now c.args.literals.now c.args.names.now c.args.t) =
-    ap literal_text (same-literal c.args.literals.now c.args.t c.literal_length-arg-1.given)
-    ∙ sym (head-of-literal _ _ _ c.args.n c.requires.readable c.args.t c.requires.t_lt_n e) in
-    let long : c.literal_length.result ≡ length (head_text (nodes c.args.records.now c.args.literals.now c.args.names.now c.args.t)) =
+    let same : literal_text (to_z w64 (of_z w64 (get_or c.args.nodes.now.literals.now c.args.t (pos 0))))
+    ≡ head_text (nodes c.args.nodes.now.records.now c.args.nodes.now.literals.now c.args.nodes.now.names.now
+    c.args.t) =
+    ap literal_text (same-literal c.args.nodes.now.literals.now c.args.t c.literal_length-arg-1.given)
+    ∙ sym (head-of-literal _ _ _ c.args.nodes.now.n c.args.nodes.now.readable c.args.t c.requires.t_lt_n e) in
+    let long : c.literal_length.result ≡ length (head_text (nodes c.args.nodes.now.records.now
+    c.args.nodes.now.literals.now c.args.nodes.now.names.now c.args.t)) =
     c.literal_length.ensures ∙ ap length same in
     omega (arith, c.add.ensures, long)
 
-pub symbol_of-k-requires : goal.symbol_of-k-requires
-symbol_of-k-requires c = omega (arith, c.requires.readable.in_records)
-
-pub length_of-long-requires : goal.length_of-long-requires
-length_of-long-requires c =
-    let h = held c.args.records.now c.args.literals.now c.args.names.now c.args.n c.requires.readable c.args.t c.requires.t_lt_n (λ e. c.if-kind-eq0.false (c.kind_of-kind.ensures ∙ e)) in
-    rw c.symbol_of-k.ensures h.long
-
 pub returns-then-kind-eq1 : goal.returns-then-kind-eq1
 returns-then-kind-eq1 c =
-    let z : kind_at c.args.records.now c.args.t ≡ 0 → ⊥ = λ e. c.if-kind-eq0.false (c.kind_of-kind.ensures ∙ e) in
-    let o : kind_at c.args.records.now c.args.t ≡ 1 = sym c.kind_of-kind.ensures ∙ c.if-kind-eq1.true in
-    let e = head-of-variable _ _ _ c.args.n c.requires.readable c.args.t c.requires.t_lt_n o in
+    let z : kind_at c.args.nodes.now.records.now c.args.t ≡ 0 → ⊥ = λ e. c.if-kind-eq0.false (c.kind_of-kind.ensures
+    ∙ e) in
+    let o : kind_at c.args.nodes.now.records.now c.args.t ≡ 1 = sym c.kind_of-kind.ensures ∙ c.if-kind-eq1.true in
+    let e = head-of-variable _ _ _ c.args.nodes.now.n c.args.nodes.now.readable c.args.t c.requires.t_lt_n o in
     let l =
-    name-long c.args.records.now c.args.literals.now c.args.names.now c.args.n c.requires.readable c.args.t c.requires.t_lt_n c.length_of-long.result c.symbol_of-k.result z c.symbol_of-k.ensures
+    name-long c.args.nodes.now.records.now c.args.nodes.now.literals.now c.args.nodes.now.names.now
+    c.args.nodes.now.n c.args.nodes.now.readable c.args.t c.requires.t_lt_n c.length_of-long.result
+    c.symbol_of-k.result z c.symbol_of-k.ensures
     c.length_of-long.ensures in
     omega (arith, ap length e, l.0, l.1)
 
-pub overflow_add-result : goal.overflow_add-result
-overflow_add-result c =
-    let z : kind_at c.args.records.now c.args.t ≡ 0 → ⊥ = λ e. c.if-kind-eq0.false (c.kind_of-kind.ensures ∙ e) in
-    let l =
-    name-long c.args.records.now c.args.literals.now c.args.names.now c.args.n c.requires.readable c.args.t c.requires.t_lt_n c.length_of-long.result c.symbol_of-k.result z c.symbol_of-k.ensures
-    c.length_of-long.ensures in
-    omega (arith, l.0)
-
 pub returns : goal.returns
 returns c =
-    let z : kind_at c.args.records.now c.args.t ≡ 0 → ⊥ = λ e. c.if-kind-eq0.false (c.kind_of-kind.ensures ∙ e) in
-    let o : kind_at c.args.records.now c.args.t ≡ 1 → ⊥ = λ e. c.if-kind-eq1.false (c.kind_of-kind.ensures ∙ e) in
-    let e = head-of-application _ _ _ c.args.n c.requires.readable c.args.t c.requires.t_lt_n z o in
+    let z : kind_at c.args.nodes.now.records.now c.args.t ≡ 0 → ⊥ = λ e. c.if-kind-eq0.false (c.kind_of-kind.ensures
+    ∙ e) in
+    let o : kind_at c.args.nodes.now.records.now c.args.t ≡ 1 → ⊥ = λ e. c.if-kind-eq1.false (c.kind_of-kind.ensures
+    ∙ e) in
+    let e = head-of-application _ _ _ c.args.nodes.now.n c.args.nodes.now.readable c.args.t c.requires.t_lt_n z o in
     let l =
-    name-long c.args.records.now c.args.literals.now c.args.names.now c.args.n c.requires.readable c.args.t c.requires.t_lt_n c.length_of-long.result c.symbol_of-k.result z c.symbol_of-k.ensures
+    name-long c.args.nodes.now.records.now c.args.nodes.now.literals.now c.args.nodes.now.names.now
+    c.args.nodes.now.n c.args.nodes.now.readable c.args.t c.requires.t_lt_n c.length_of-long.result
+    c.symbol_of-k.result z c.symbol_of-k.ensures
     c.length_of-long.ensures in
     omega (arith, ap length e, l.0, l.1)

@@ -1,5 +1,5 @@
 -- `heads::put_head` meets its contract, by the kind of the term. Assumes nothing.
-use Prim.Native.Nat.{ℕ, ◌-◌, ◌^◌, ◌≤◌, ◌<◌}
+use Prim.Native.Nat.{ℕ, ◌^◌, ◌≤◌, ◌<◌}
 use mathlib.Core.Path.{◌≡◌, sym, ap, ◌∙◌}
 use mathlib.Core.List.{List, [], ◌∷◌}
 use lib.ListN.{length, get_or, set, length-set}
@@ -8,7 +8,6 @@ use mir.Syntax.{w64}
 use mir.Val.{to_z, of_z, hbits}
 use lib.Signed.{mag}
 use mir.Facts.{to_z-of_z}
-use borrow.Rule.Slice.PartMut.{same_len_mid}
 use Rattle.decimal.proofs.WrittenLaws.{stands-first, stands-fits, stands-then, wrote-of-stands}
 use Rattle.name.specs.Entries.{name_at, InEntries}
 use Rattle.term_rules.specs.Lent.{kind_at, symbol_no}
@@ -38,43 +37,50 @@ module _ (rs : List ℕ) (ls : List ℤ) (ns : List ℕ) (n : ℕ) (r : Readable
       head_text (nodes rs ls ns t) ≡ 40 ∷ name_at ns (symbol_no rs t)
   head-is k e z o = head-of-application _ _ _ n r t l (λ q. z (e ∙ q)) (λ q. o (e ∙ q))
 
-pub kind_of-kind-requires : goal.kind_of-kind-requires
-kind_of-kind-requires c = omega (arith, c.requires.readable.in_records)
-
 pub put_literal-requires : goal.put_literal-requires
 put_literal-requires c =
-    rw (same-literal c.args.literals.now c.args.t c.put_literal-arg-then-kind-eq0-1.given) (rw (head-of-literal c.args.records.now c.args.literals.now c.args.names.now c.args.n c.requires.readable c.args.t c.requires.t_lt_n (sym c.kind_of-kind.ensures ∙ c.if-kind-eq0.true)) at c.requires.t_in_bounds)
+    rw (same-literal c.args.nodes.now.literals.now c.args.t c.put_literal-arg-then-kind-eq0-1.given) (rw
+    (head-of-literal c.args.nodes.now.records.now c.args.nodes.now.literals.now c.args.nodes.now.names.now
+    c.args.nodes.now.n c.args.nodes.now.readable c.args.t c.requires.t_lt_n (sym c.kind_of-kind.ensures ∙
+    c.if-kind-eq0.true)) at c.requires.t_in_bounds)
 
 pub returns-then-kind-eq0 : goal.returns-then-kind-eq0
 returns-then-kind-eq0 c =
-    rw (head-of-literal c.args.records.now c.args.literals.now c.args.names.now c.args.n c.requires.readable c.args.t c.requires.t_lt_n
+    rw (head-of-literal c.args.nodes.now.records.now c.args.nodes.now.literals.now c.args.nodes.now.names.now
+    c.args.nodes.now.n c.args.nodes.now.readable c.args.t c.requires.t_lt_n
     (sym c.kind_of-kind.ensures
     ∙ c.if-kind-eq0.true))
-    (rw (same-literal c.args.literals.now c.args.t c.put_literal-arg-then-kind-eq0-1.given) at c.put_literal.ensures)
-
-pub symbol_of-k-requires : goal.symbol_of-k-requires
-symbol_of-k-requires c = omega (arith, c.requires.readable.in_records)
+    (rw (same-literal c.args.nodes.now.literals.now c.args.t c.put_literal-arg-then-kind-eq0-1.given) at
+    c.put_literal.ensures)
 
 pub put_symbol-requires : goal.put_symbol-requires
 put_symbol-requires c =
-    let h = held c.args.records.now c.args.literals.now c.args.names.now c.args.n c.requires.readable c.args.t c.requires.t_lt_n (λ e. c.if-kind-eq0.false (c.kind_of-kind.ensures ∙ e)) in
-    let o : kind_at c.args.records.now c.args.t ≡ 1 = sym c.kind_of-kind.ensures ∙ c.if-kind-eq1.true in
+    let h = held c.args.nodes.now.records.now c.args.nodes.now.literals.now c.args.nodes.now.names.now
+    c.args.nodes.now.n c.args.nodes.now.readable c.args.t c.requires.t_lt_n (λ e. c.if-kind-eq0.false
+    (c.kind_of-kind.ensures ∙ e)) in
+    let o : kind_at c.args.nodes.now.records.now c.args.t ≡ 1 = sym c.kind_of-kind.ensures ∙ c.if-kind-eq1.true in
     record {
       in_entries = rw c.symbol_of-k.ensures h;
-      k_in_bounds = rw c.symbol_of-k.ensures (rw (head-of-variable c.args.records.now c.args.literals.now c.args.names.now c.args.n c.requires.readable c.args.t c.requires.t_lt_n o) at c.requires.t_in_bounds);
+      k_in_bounds = rw c.symbol_of-k.ensures (rw (head-of-variable c.args.nodes.now.records.now
+          c.args.nodes.now.literals.now c.args.nodes.now.names.now c.args.nodes.now.n c.args.nodes.now.readable
+          c.args.t c.requires.t_lt_n o) at c.requires.t_in_bounds);
     }
 
 pub returns-then-kind-eq1 : goal.returns-then-kind-eq1
 returns-then-kind-eq1 c =
-    let o : kind_at c.args.records.now c.args.t ≡ 1 = sym c.kind_of-kind.ensures ∙ c.if-kind-eq1.true in
-    rw (head-of-variable c.args.records.now c.args.literals.now c.args.names.now c.args.n c.requires.readable c.args.t c.requires.t_lt_n o) (rw c.symbol_of-k.ensures at c.put_symbol.ensures)
+    let o : kind_at c.args.nodes.now.records.now c.args.t ≡ 1 = sym c.kind_of-kind.ensures ∙ c.if-kind-eq1.true in
+    rw (head-of-variable c.args.nodes.now.records.now c.args.nodes.now.literals.now c.args.nodes.now.names.now
+    c.args.nodes.now.n c.args.nodes.now.readable c.args.t c.requires.t_lt_n o) (rw c.symbol_of-k.ensures at
+    c.put_symbol.ensures)
 
 pub bounds-out-0 : goal.bounds-out-0
 bounds-out-0 c =
     omega (
       arith,
       c.requires.t_in_bounds,
-      ap length (head-is c.args.records.now c.args.literals.now c.args.names.now c.args.n c.requires.readable c.args.t c.requires.t_lt_n c.kind_of-kind.result c.kind_of-kind.ensures
+      ap length (head-is c.args.nodes.now.records.now c.args.nodes.now.literals.now c.args.nodes.now.names.now
+          c.args.nodes.now.n c.args.nodes.now.readable c.args.t c.requires.t_lt_n c.kind_of-kind.result
+          c.kind_of-kind.ensures
           c.if-kind-eq0.false c.if-kind-eq1.false),
     )
 
@@ -83,7 +89,9 @@ slice_bounds-put_symbol-count c =
     simp length-set (omega (
       arith,
       c.requires.t_in_bounds,
-      ap length (head-is c.args.records.now c.args.literals.now c.args.names.now c.args.n c.requires.readable c.args.t c.requires.t_lt_n c.kind_of-kind.result c.kind_of-kind.ensures
+      ap length (head-is c.args.nodes.now.records.now c.args.nodes.now.literals.now c.args.nodes.now.names.now
+          c.args.nodes.now.n c.args.nodes.now.readable c.args.t c.requires.t_lt_n c.kind_of-kind.result
+          c.kind_of-kind.ensures
           c.if-kind-eq0.false c.if-kind-eq1.false),
     ))
 
@@ -93,15 +101,20 @@ slice_bounds-put_symbol-start c =
     simp length-set (omega (
       arith,
       c.requires.t_in_bounds,
-      ap length (head-is c.args.records.now c.args.literals.now c.args.names.now c.args.n c.requires.readable c.args.t c.requires.t_lt_n c.kind_of-kind.result c.kind_of-kind.ensures
+      ap length (head-is c.args.nodes.now.records.now c.args.nodes.now.literals.now c.args.nodes.now.names.now
+          c.args.nodes.now.n c.args.nodes.now.readable c.args.t c.requires.t_lt_n c.kind_of-kind.result
+          c.kind_of-kind.ensures
           c.if-kind-eq0.false c.if-kind-eq1.false),
     )) in
     h
 
 pub put_symbol-requires-2 : goal.put_symbol-requires-2
 put_symbol-requires-2 c =
-    let h = held c.args.records.now c.args.literals.now c.args.names.now c.args.n c.requires.readable c.args.t c.requires.t_lt_n (λ e. c.if-kind-eq0.false (c.kind_of-kind.ensures ∙ e)) in
-    let e = ap length (head-is c.args.records.now c.args.literals.now c.args.names.now c.args.n c.requires.readable c.args.t c.requires.t_lt_n c.kind_of-kind.result
+    let h = held c.args.nodes.now.records.now c.args.nodes.now.literals.now c.args.nodes.now.names.now
+    c.args.nodes.now.n c.args.nodes.now.readable c.args.t c.requires.t_lt_n (λ e. c.if-kind-eq0.false
+    (c.kind_of-kind.ensures ∙ e)) in
+    let e = ap length (head-is c.args.nodes.now.records.now c.args.nodes.now.literals.now c.args.nodes.now.names.now
+    c.args.nodes.now.n c.args.nodes.now.readable c.args.t c.requires.t_lt_n c.kind_of-kind.result
     c.kind_of-kind.ensures
     c.if-kind-eq0.false c.if-kind-eq1.false) in
     record {
@@ -109,34 +122,20 @@ put_symbol-requires-2 c =
       k_in_bounds = rw c.symbol_of-k.ensures
           (stands-fits c.args.out.now (40 ∷ []) _ 1
           (stands-first c.args.out.now 40 (omega (arith, c.requires.t_in_bounds, e)))
-          (name_at c.args.names.now (symbol_no c.args.records.now c.args.t))
+          (name_at c.args.nodes.now.names.now (symbol_no c.args.nodes.now.records.now c.args.t))
           (omega (arith, c.requires.t_in_bounds, e)));
     }
-
-pub overflow_add-result : goal.overflow_add-result
-overflow_add-result c =
-    omega (
-      arith,
-      c.requires.t_in_bounds,
-      ap length (head-is c.args.records.now c.args.literals.now c.args.names.now c.args.n c.requires.readable c.args.t c.requires.t_lt_n c.kind_of-kind.result c.kind_of-kind.ensures c.if-kind-eq0.false c.if-kind-eq1.false),
-      c.put_symbol-2.ensures.long,
-      ap (λ (k : ℕ). length (name_at c.args.names.now k)) c.symbol_of-k.ensures,
-    )
-
-pub shape_of-out : goal.shape_of-out
-shape_of-out c =
-    let o = c.args.out.now in
-    same_len_mid 1 (length (set o 0 40) - 1) (set o 0 40) c.put_symbol-2.new.out
-    c.put_symbol-2.auto.out
-    ∙ length-set o 0 40
 
 pub returns : goal.returns
 returns c =
     let o = c.args.out.now in
     let e =
-    head-is c.args.records.now c.args.literals.now c.args.names.now c.args.n c.requires.readable c.args.t c.requires.t_lt_n c.kind_of-kind.result c.kind_of-kind.ensures c.if-kind-eq0.false c.if-kind-eq1.false in
+    head-is c.args.nodes.now.records.now c.args.nodes.now.literals.now c.args.nodes.now.names.now c.args.nodes.now.n
+    c.args.nodes.now.readable c.args.t c.requires.t_lt_n c.kind_of-kind.result c.kind_of-kind.ensures
+    c.if-kind-eq0.false c.if-kind-eq1.false in
     rw e
-    (wrote-of-stands o (40 ∷ name_at c.args.names.now (symbol_no c.args.records.now c.args.t)) _ _
-    (stands-then o (40 ∷ []) _ 1 (stands-first o 40 (omega (arith, c.requires.t_in_bounds, ap length e))) (name_at c.args.names.now (symbol_no c.args.records.now c.args.t))
+    (wrote-of-stands o (40 ∷ name_at c.args.nodes.now.names.now (symbol_no c.args.nodes.now.records.now c.args.t)) _ _
+    (stands-then o (40 ∷ []) _ 1 (stands-first o 40 (omega (arith, c.requires.t_in_bounds, ap length e))) (name_at
+    c.args.nodes.now.names.now (symbol_no c.args.nodes.now.records.now c.args.t))
     c.put_symbol-2.new.out c.put_symbol-2.result
     (rw c.symbol_of-k.ensures at c.put_symbol-2.ensures)))

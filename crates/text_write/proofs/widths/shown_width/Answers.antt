@@ -17,9 +17,11 @@ returns-then-b-gt0 c =
           λ text e.
           c.name_length.ensures
           ∙ ap (λ (x : List ℕ). capped (length x))
-          (sym (shown-of-name (name_text a.stem.now a.start a.bare (get_or a.places.now a.k 0 - 1)) text)
+          (sym (shown-of-name (name_text a.spelling.now.stem.now a.spelling.now.start a.spelling.now.bare (get_or
+          a.places.now a.k 0 - 1)) text)
           ∙ ap (λ (x : Called). shown x text)
-          (sym (called_by-named a.places.now a.stem.now a.start a.bare a.k c.if-b-gt0.true)));
+          (sym (called_by-named a.places.now a.spelling.now.stem.now a.spelling.now.start a.spelling.now.bare a.k
+          c.if-b-gt0.true)));
     }
 
 pub returns : goal.returns
@@ -32,6 +34,6 @@ returns c =
           ∙ ap (λ (x : List ℕ). capped (length x))
           (sym (shown-of-text text)
           ∙ ap (λ (x : Called). shown x text)
-          (sym (called_by-text a.places.now a.stem.now a.start a.bare a.k
+          (sym (called_by-text a.places.now a.spelling.now.stem.now a.spelling.now.start a.spelling.now.bare a.k
           (omega (arith, c.if-b-gt0.false)))));
     }

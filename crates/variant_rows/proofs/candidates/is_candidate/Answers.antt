@@ -6,13 +6,13 @@ use Rattle.variant_rows.proofs.candidates.FoundLaws.{candidate-no, candidate-yes
 use native.Mathlib.Omega.{arith}
 use Rattle.variant_rows.proofs.candidates.is_candidate.Goals as goal
 
-pub returns-then-outputs-i : goal.returns-then-outputs-i
-returns-then-outputs-i c =
+pub returns-then-rows-i : goal.returns-then-rows-i
+returns-then-rows-i c =
     let a = c.args in
-    candidate-no a.ranks.now a.outputs.now a.starts.now a.children.now a.c a.i c.if-outputs-i.true
+    candidate-no a.ranks.now a.rows.now.outputs.now a.rows.now.starts.now a.rows.now.children.now a.c a.i c.if-rows-i.true
 
-pub offset_bounds-children-a : goal.offset_bounds-children-a
-offset_bounds-children-a c =
+pub offset_bounds-rows-a : goal.offset_bounds-rows-a
+offset_bounds-rows-a c =
     let a = c.args in
     let r = c.requires.parts_in.rise a.i c.requires.i_in_bounds in
     let q = c.requires.parts_in.inside a.i c.requires.i_in_bounds in
@@ -40,11 +40,11 @@ slice_bounds-has_cost-end c =
 pub has_cost-requires : goal.has_cost-requires
 has_cost-requires c =
     let a = c.args in
-    part_in (length a.ranks.now) (get_or a.starts.now (a.i + 1) 0 - get_or a.starts.now a.i 0)
-    (get_or a.starts.now a.i 0) a.children.now c.requires.parts_in.kids
+    part_in (length a.ranks.now) (get_or a.rows.now.starts.now (a.i + 1) 0 - get_or a.rows.now.starts.now a.i 0)
+    (get_or a.rows.now.starts.now a.i 0) a.rows.now.children.now c.requires.parts_in.kids
 
 pub returns : goal.returns
 returns c =
     let a = c.args in
-    candidate-yes a.ranks.now a.outputs.now a.starts.now a.children.now a.c a.i
-    c.has_cost.result c.if-outputs-i.false c.has_cost.ensures
+    candidate-yes a.ranks.now a.rows.now.outputs.now a.rows.now.starts.now a.rows.now.children.now a.c a.i
+    c.has_cost.result c.if-rows-i.false c.has_cost.ensures

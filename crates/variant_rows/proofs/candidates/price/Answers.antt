@@ -5,8 +5,8 @@ use Rattle.price_passes.proofs.FlatLaws.{part_in}
 use native.Mathlib.Omega.{arith}
 use Rattle.variant_rows.proofs.candidates.price.Goals as goal
 
-pub offset_bounds-children-a : goal.offset_bounds-children-a
-offset_bounds-children-a c =
+pub offset_bounds-rows-a : goal.offset_bounds-rows-a
+offset_bounds-rows-a c =
     let a = c.args in
     let r = c.requires.parts_in.rise a.i c.requires.i_in_bounds in
     let q = c.requires.parts_in.inside a.i c.requires.i_in_bounds in
@@ -34,5 +34,5 @@ slice_bounds-cost-end c =
 pub cost-requires : goal.cost-requires
 cost-requires c =
     let a = c.args in
-    part_in (length a.costs.now) (get_or a.starts.now (a.i + 1) 0 - get_or a.starts.now a.i 0)
-    (get_or a.starts.now a.i 0) a.children.now c.requires.parts_in.kids
+    part_in (length a.costs.now) (get_or a.rows.now.starts.now (a.i + 1) 0 - get_or a.rows.now.starts.now a.i 0)
+    (get_or a.rows.now.starts.now a.i 0) a.rows.now.children.now c.requires.parts_in.kids

@@ -1,5 +1,6 @@
 -- `row::child_term` meets its contract: a class by the builder, a literal by itself. Assumes nothing.
-use Rattle.term_rules.specs.Lent.{store}
+use Rattle.term_add.specs.Held.{held}
+use Rattle.build.proofs.OwnLaws.{added-of-gains}
 use Rattle.variant_terms.proofs.row.ChildLaws.{kid-of-class, kid-of-value}
 use native.Mathlib.Omega.{arith}
 use Rattle.variant_terms.proofs.row.child_term.Goals as goal
@@ -23,29 +24,31 @@ build-requires c =
       enough = p.kid.enough h;
     }
 
-pub returns-then-x-lt512 : goal.returns-then-x-lt512
-returns-then-x-lt512 c =
+pub returns-then-x-lt512-clause-made : goal.returns-then-x-lt512-clause-made
+returns-then-x-lt512-clause-made c =
     let a = c.args in
     let p = c.requires in
-    kid-of-class p.rank a.rows.now a.edges.now a.ranks.now a.labels.now a.values.now a.memo.now
-    (store a.records.now a.literals.now a.names.now a.terms a.symbols) p.builder a.x p.kid
+    kid-of-class p.rank a.plan.now.rows.now a.plan.now.edges.now a.ranks.now a.plan.now.labels.now
+    a.plan.now.values.now a.memo.now
+    (held a.store.now) p.builder a.x p.kid
     _
     c.if-x-lt512.true
-    c.build.ensures
+    c.build.ensures.built
 
 pub literal_term-requires : goal.literal_term-requires
 literal_term-requires c =
     let p = c.requires in
     record {
-      symbols_value = p.builder.tracks.formed;
+      sound = p.builder.tracks.formed;
       i_in_bounds = p.kid.known c.if-x-lt512.false;
     }
 
-pub returns : goal.returns
-returns c =
+pub returns-clause-made : goal.returns-clause-made
+returns-clause-made c =
     let a = c.args in
     let p = c.requires in
-    kid-of-value p.rank a.rows.now a.edges.now a.ranks.now a.labels.now a.values.now a.memo.now
-    (store a.records.now a.literals.now a.names.now a.terms a.symbols) p.builder a.x p.kid
+    kid-of-value p.rank a.plan.now.rows.now a.plan.now.edges.now a.ranks.now a.plan.now.labels.now
+    a.plan.now.values.now a.memo.now
+    (held a.store.now) p.builder a.x p.kid
     _
-    c.if-x-lt512.false (c.literal_term.ensures a.memo.now)
+    c.if-x-lt512.false (added-of-gains a.memo.now (held a.store.now) _ _ _ c.literal_term.ensures.gains)

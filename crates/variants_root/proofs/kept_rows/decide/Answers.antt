@@ -3,7 +3,7 @@ use Prim.Native.Nat.{ℕ}
 use mathlib.Core.Path.{sym, ◌∙◌, subst}
 use lib.ListN.{take, length-replicate}
 use lib.Seq.{length-take-le}
-use Rattle.term_rules.specs.Lent.{store}
+use Rattle.term_add.specs.Held.{held}
 use Rattle.price_passes.specs.Flat.{FlatOk}
 use Rattle.price.specs.Solved.{Solved}
 use Rattle.variant_answers.specs.Kept.{lending}
@@ -53,7 +53,7 @@ answer-requires c =
     q.new.costs q.new.ranks q.new.edges q.result.passes q.result.last (q.auto.ranks ∙ c.requires.keyed_ready.is.classes) w g.rows.now
     c.requires.keyed_ready.packed r.new.prices e.priced g.c g.most
     (take r.result r.new.list) e.are
-    (store g.records.now g.literals.now g.names.now g.terms g.symbols) c.requires.keyed_ready.is.formed
+    (held g.store.now) c.requires.keyed_ready.is.formed
     (omega (arith, n, r.auto.prices)) (omega (arith, n, r.auto.list, e.room, length-take-le r.result r.new.list e.room))
 
 pub shape_of-costs : goal.shape_of-costs
@@ -62,8 +62,8 @@ shape_of-costs c = c.solve-run.auto.costs
 pub shape_of-ranks : goal.shape_of-ranks
 shape_of-ranks c = c.solve-run.auto.ranks
 
-pub returns : goal.returns
-returns c =
+pub returns-clause-variants : goal.returns-clause-variants
+returns-clause-variants c =
     λ order functions pk t root vt cs.
     let g = c.args in
     let q = c.solve-run in
@@ -80,5 +80,5 @@ returns c =
     q.new.costs q.new.ranks q.new.edges q.result.passes q.result.last (q.auto.ranks ∙ cs) w g.rows.now pk
     r.new.prices e.priced g.c g.most
     (take r.result r.new.list) e.are
-    (lending (store g.records.now g.literals.now g.names.now g.terms g.symbols) g.paid.now
-    g.found.now) _ c.answer.ensures
+    (lending (held g.store.now) g.paid.now
+    g.found.now) _ c.answer.ensures.variants

@@ -1,2 +1,0 @@
--- The laws of `choices`.
-pub mod ChoiceLaws

@@ -1,2 +1,0 @@
--- The laws of `codes`.
-pub mod BelowLaws

@@ -1,2 +1,0 @@
--- The laws of `terms`.
-pub mod TermLaws

@@ -1,2 +1,0 @@
--- The laws of `texts`.
-pub mod TextLaws
