@@ -6,11 +6,12 @@ use Prim.Native.Nat.{ℕ, ◌≤◌}
 use native.Mathlib.Omega.{arith}
 use lib.IntN.{ℤ}
 use Rattle.refusal.specs.declared.Refusal.TheVariants.{NoRoom, BadStore}
-use Rattle.term_rules.specs.Lent.{Store}
+use Rattle.term_rules.specs.Lent.{Store, store}
 use Rattle.term_rules.specs.WellFormed.{well_formed}
 use Rattle.term_rules.specs.Nodes.{literal}
 use Rattle.term_rules.specs.Adding.{at, no_room, add}
-use Rattle.term_add.specs.Held.{Gains}
+use Rattle.term_add.specs.declared.Added.{Added}
+use Rattle.term_add.specs.Interning.{Leaves}
 use Rattle.std.specs.Prelude.{Option, Some, None}
 use Rattle.answer_rules.specs.Answers.{After, found, refused}
 use Rattle.answer_rules.specs.Best.{BestTerm, best_term, best_literal}
@@ -30,17 +31,20 @@ module _ (s : Store) (a : After BestTerm) where
 -- A literal that was added, or had no room.
 module _ (s : Store) (z : ℤ) (formed : well_formed s ≡ true) where
   pub literal_found :
-      (r : Option ℕ) (i : ℕ) (s' : Store) → Gains s (add s (literal z)) r s' → r ≡ Some i →
-      found (best_term 1 i 1) s' ≡ literal_answer z s
+      (r : Option Added) (b : Added) (rs : List ℕ) (ls : List ℤ) (ns : List ℕ) →
+      Leaves s (add s (literal z)) r rs ls ns → r ≡ Some b →
+      found (best_term 1 b.term 1) (store rs ls ns b.terms b.symbols) ≡ literal_answer z s
   unfolding best_literal
-  literal_found r i s' w e =
-      let a : at i s' ≡ add s (literal z) = rw e at w.answer in
+  literal_found r b rs ls ns w e =
+      let a : at b.term (store rs ls ns b.terms b.symbols) ≡ add s (literal z) = rw e at w.answer in
       ap (best_literal s) a ∙ formed-is s (best_literal s (add s (literal z))) formed
 
   pub literal-full :
-      (r : Option ℕ) (s' : Store) → Gains s (add s (literal z)) r s' → r ≡ None → refused NoRoom s' ≡ literal_answer z s
+      (r : Option Added) (rs : List ℕ) (ls : List ℤ) (ns : List ℕ) →
+      Leaves s (add s (literal z)) r rs ls ns → r ≡ None →
+      refused NoRoom (store rs ls ns s.terms s.symbols) ≡ literal_answer z s
   unfolding best_literal
-  literal-full r s' w e =
+  literal-full r rs ls ns w e =
       let a : no_room ≡ add s (literal z) = rw e at w.answer in
       ap (refused NoRoom) (w.kept e)
       ∙ ap (best_literal s) a

@@ -1,9 +1,9 @@
 -- The best term of a root, once a table is laid flat, over a lent store: how the answer is read, and what is asked.
 -- Assumes nothing: definitions.
-use Rattle.std.specs.Prelude.{◌≡◌, true, false, List, [], ◌∷◌, ℕ, ◌+◌, ◌<◌, ℤ, take, Result}
+use Rattle.std.specs.Prelude.{◌≡◌, true, false, List, [], ◌∷◌, ℕ, ◌+◌, ◌<◌, ℤ, take, Result, Ok, Err}
 use Rattle.refusal.specs.declared.Refusal.{Refusal}
 use Rattle.refusal.specs.declared.Refusal.TheVariants.{BadStore}
-use Rattle.term_rules.specs.Lent.{Store}
+use Rattle.term_rules.specs.Lent.{Store, store}
 use Rattle.term_rules.specs.WellFormed.{well_formed}
 use Rattle.term_rules.specs.Nodes.{literal}
 use Rattle.term_rules.specs.Adding.{add}
@@ -14,10 +14,17 @@ use Rattle.answer_rules.specs.Answers.{After, refused}
 use Rattle.answer_rules.specs.Best.{BestTerm, best_literal, best_class}
 use Rattle.best_class.specs.Flat.{FlatTable, seen}
 pub use Rattle.best_class.specs.declared.Best.{Best}
+use Rattle.best_root.specs.declared.CountedBest.{CountedBest}
 
 -- The code's answer as the definition's, with the store as the call leaves it.
 abbrev pub seen_best : Result Best Refusal → Store → After BestTerm
 seen_best r s = seen r s
+
+-- The same of an answer that has the counts, with the lent lists as the call leaves them. A refusal leaves the counts
+-- n and m, which were those before.
+abbrev pub seen_counted : Result CountedBest Refusal → List ℕ → List ℤ → List ℕ → ℕ → ℕ → After BestTerm
+seen_counted (Ok a) rs ls ns n m = seen_best (Ok a.best) (store rs ls ns a.terms a.symbols)
+seen_counted (Err e) rs ls ns n m = seen_best (Err e) (store rs ls ns n m)
 
 -- "17, 11, 12, 13": a store that is not well formed is refused before what the root says.
 unfoldable pub if_formed : Store → After BestTerm → After BestTerm

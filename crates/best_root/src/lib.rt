@@ -3,31 +3,62 @@
 #![tactic(auto)]
 
 ghost use Rattle.std.specs.Prelude.{◌≡◌, ◌<◌, pos, length, get_or};
+ghost use Rattle.term_rules.specs.Lent.{store};
 ghost use Rattle.term_add.specs.Held.{held, SameLoans};
 ghost use Rattle.best_class.specs.Flat.{BestReady, BestAnswers};
-ghost use Rattle.best_root.specs.Single.{seen_best, literal_answer, SomeClass, ClassAnswers};
+ghost use Rattle.best_root.specs.Single.{seen_best, seen_counted, literal_answer, SomeClass, ClassAnswers};
 
 pub use best_class::Best;
 use refusal::Refusal;
 use table_layout::pack;
 use term_add::store_mut::StoreMut;
+use term_layout::lent::Lent;
 
-// The term of literal `i`: a base root costs 1, and one pass changes nothing.
-pub fn of_literal(values: &[i64], i: u64, store: &mut StoreMut) -> Result<Best, Refusal>
+// A best term, and how many terms and symbols the store has then.
+#[derive(Clone, Copy)]
+pub struct CountedBest {
+    pub best: Best,
+    pub terms: usize,
+    pub symbols: usize,
+}
+
+// The term of literal `i`, for a caller that lends its names to be read alone: a base root costs 1, and one pass
+// changes nothing.
+pub fn of_literal(
+    values: &[i64],
+    i: u64,
+    records: &mut [u64],
+    literals: &mut [i64],
+    names: &[u8],
+    terms: usize,
+    symbols: usize,
+) -> Result<CountedBest, Refusal>
     requires { i < length values.now }
-    ensures loans { SameLoans store.old store.new }
-    ensures best { seen_best result (held store.new)
+    ensures { seen_counted result records.new literals.new names.now terms symbols
         ≡ literal_answer (get_or values.now i (pos 0))
-        (held store.old) }
+        (store records.old literals.old names.now terms symbols) }
 {
-    if !term_record::check(&store.lent()) {
+    let formed = term_record::check(&Lent {
+        records,
+        literals,
+        names,
+        terms,
+        symbols,
+    });
+    if !formed {
         return Err(Refusal::BadStore);
     }
-    let term = build::literal_term(values, store, i as usize).ok_or(Refusal::NoRoom)?;
-    Ok(Best {
-        cost: 1,
-        term,
-        passes: 1,
+    let added = build::literal_term(
+        values, records, literals, names, terms, symbols, i as usize,
+    ).ok_or(Refusal::NoRoom)?;
+    Ok(CountedBest {
+        best: Best {
+            cost: 1,
+            term: added.term,
+            passes: 1,
+        },
+        terms: added.terms,
+        symbols: added.symbols,
     })
 }
 

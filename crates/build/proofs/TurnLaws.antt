@@ -1,5 +1,5 @@
--- Laws that follow the code of `build`: the definition one step at a time, and the loop over the children. Assumes
--- nothing.
+-- Laws that follow the code of `grow_class`: the definition one step at a time, and the loop over the children.
+-- Assumes nothing.
 use Prim.Native.Nat.{ℕ, zero, suc, ◌+◌, ◌-◌, ◌≤◌, ◌<◌}
 use mathlib.Core.Path.{◌≡◌, refl, sym, ap, subst, ◌∙◌}
 use mathlib.Core.List.{List, [], ◌∷◌, ◌++◌, map}

@@ -2,31 +2,43 @@
 // class.
 #![tactic(auto)]
 
-ghost use Rattle.std.specs.Prelude.{◌≡◌, ℕ, ◌+◌, ◌*◌, ◌<◌, ◌≤◌, true, length, get_or, pos};
+ghost use Rattle.std.specs.Prelude.{IfNone, ◌≡◌, ℕ, ◌+◌, ◌*◌, ◌<◌, ◌≤◌, true, length, get_or, pos};
 ghost use Rattle.name.specs.Entries.{name_at};
+ghost use Rattle.term_rules.specs.Lent.{store};
 ghost use Rattle.term_rules.specs.WellFormed.{well_formed};
 ghost use Rattle.term_rules.specs.Nodes.{literal};
 ghost use Rattle.term_rules.specs.Adding.{add};
-ghost use Rattle.term_add.specs.Held.{held, SameLoans, Gains};
+ghost use Rattle.term_add.specs.Held.{held, SameLoans};
+ghost use Rattle.term_add.specs.Interning.{Leaves};
 ghost use Rattle.build.specs.Plan.{plan_in};
 ghost use Rattle.build.specs.Building.{state, done, own_in};
 ghost use Rattle.build.specs.Ready.{Ready, OwnReady, Exact, seen};
 
 use crate::plan::Plan;
+use term_add::Added;
 use term_add::store_mut::StoreMut;
 
 pub mod plan; // plan.rt: what is to be built, as it lies in packed rows
 pub mod whole; // whole.rt: a class's best term as one call: all or nothing
 
-// The term of literal `i` of the table, if the store has room for it.
-pub fn literal_term(values: &[i64], store: &mut StoreMut, i: usize) -> Option<usize>
-    requires sound { well_formed (held store.old) ≡ true }
+// The term of literal `i` of the table, if the store has room for it, for a caller that lends its names to be read
+// alone.
+pub fn literal_term(
+    values: &[i64],
+    records: &mut [u64],
+    literals: &mut [i64],
+    names: &[u8],
+    terms: usize,
+    symbols: usize,
+    i: usize,
+) -> Option<Added>
+    requires sound { well_formed (store records.old literals.old names.now terms symbols) ≡ true }
     requires i_in_bounds { i < length values.now }
-    ensures loans { SameLoans store.old store.new }
-    ensures gains { Gains (held store.old) (add (held store.old) (literal (get_or values.now i (pos 0)))) result
-        (held store.new) }
+    ensures { Leaves (store records.old literals.old names.now terms symbols)
+        (add (store records.old literals.old names.now terms symbols) (literal (get_or values.now i (pos 0))))
+        result records.new literals.new names.now }
 {
-    store.intern_literal(values[i])
+    term_add::intern_literal(records, literals, names, terms, symbols, values[i])
 }
 
 // The term of class `c`, of function `f` over its children's terms, kept in the memo.
@@ -52,8 +64,9 @@ fn own_term(
 
 // The term of class `c`: its children first, left to right, then the term itself, once per class (src/extract.rs,
 // reconstruct_termdag_node_helper). The row of a class is the one that its edge names. Each call inside is on a class
-// of a lower rank, so `level`, which no rank is above, falls with each.
-pub fn build(
+// of a lower rank, so `level`, which no rank is above, falls with each. Where there is no room, what is lent stays as
+// far as it came.
+fn grow_class(
     plan: &Plan,
     memo: &mut [u16],
     store: &mut StoreMut,
@@ -76,13 +89,38 @@ pub fn build(
     for (j, kid) in kids.iter().enumerate() {
         let x = usize::from(*kid);
         let built = if x < 512 {
-            build(plan, memo, store, level - 1, x)
+            grow_class(plan, memo, store, level - 1, x)
         } else {
-            literal_term(plan.values, store, x - 512)
+            store.intern_literal(plan.values[x - 512])
         };
         let term = built?;
         children[j] = term as u64;
     }
     let f = table_layout::function_of(plan.rows, i);
     own_term(plan.labels, memo, store, c, f, &children[..kids.len()])
+}
+
+// The same; where there is no room, the store's counts are put back.
+pub fn build(
+    plan: &Plan,
+    memo: &mut [u16],
+    store: &mut StoreMut,
+    level: usize,
+    c: usize,
+) -> Option<usize>
+    requires { Ready plan.now.rows.now plan.now.edges.now plan.now.labels.now plan.now.values.now memo.old
+        (held store.old) level c }
+    ensures loans { SameLoans store.old store.new }
+    ensures built { Exact (plan_in plan.now) level (state memo.old (held store.old)) c
+        (seen result memo.new (held store.new)) }
+    ensures counts { IfNone result ((store.new.terms ≡ store.old.terms) × (store.new.symbols ≡ store.old.symbols)) }
+{
+    let terms = store.terms;
+    let symbols = store.symbols;
+    let built = grow_class(plan, memo, store, level, c);
+    if built.is_none() {
+        store.terms = terms;
+        store.symbols = symbols;
+    }
+    built
 }

@@ -44,7 +44,25 @@ pub fn best(file: &[u8], sort: u64, value: u64, store: &mut StoreMut) -> Result<
         &mut children,
     )?;
     match loaded {
-        Loaded::Literal(i) => best_root::of_literal(&table.literals, i, store),
+        Loaded::Literal(i) => {
+            let terms = store.terms;
+            let symbols = store.symbols;
+            let records = &mut *store.records;
+            let literals = &mut *store.literals;
+            let names = &mut *store.names;
+            let counted = best_root::of_literal(
+                &table.literals,
+                i,
+                records,
+                literals,
+                names,
+                terms,
+                symbols,
+            )?;
+            store.terms = counted.terms;
+            store.symbols = counted.symbols;
+            Ok(counted.best)
+        }
         Loaded::Class { class, flat: laid } => best_root::of_class(
             &flat,
             &heads,
@@ -100,7 +118,27 @@ pub fn variants(
         &mut children,
     )?;
     match loaded {
-        Loaded::Literal(i) => variants_root::of_literal(&table.literals, i, store, costs, found),
+        Loaded::Literal(i) => {
+            let terms = store.terms;
+            let symbols = store.symbols;
+            let records = &mut *store.records;
+            let literals = &mut *store.literals;
+            let names = &mut *store.names;
+            let counted = variants_root::of_literal(
+                &table.literals,
+                i,
+                records,
+                literals,
+                names,
+                terms,
+                symbols,
+                costs,
+                found,
+            )?;
+            store.terms = counted.terms;
+            store.symbols = counted.symbols;
+            Ok(counted.kept)
+        }
         Loaded::Class { class, flat: laid } => variants_root::of_class(
             &flat,
             &heads,

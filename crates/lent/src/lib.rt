@@ -55,26 +55,21 @@ fn put_flat(flat: &mut Flat, i: usize, t: Term)
 }
 
 // Copies the lent records into arrays of the call's own.
-pub fn load(ts: &[Term]) -> Flat
-    ensures { Loaded ts.now result }
+pub fn load(ts: &[Term], flat: &mut Flat)
+    ensures { Loaded ts.now flat.new }
 {
     let room = ts.len().min(1024);
-    let mut flat = Flat {
-        records: [0; term_layout::RECORDS],
-        literals: [0; 1024],
-        room,
-    };
+    flat.room = room;
     for i in 0..room {
-        put_flat(&mut flat, i, record_at(ts, i));
+        put_flat(flat, i, record_at(ts, i));
     }
-    flat
 }
 
 // Copies the records back.
-pub fn unload(ts: &mut [Term], f: Flat)
-    requires { (f.room ≤ length ts.old) × (f.room ≤ 1024) }
+pub fn unload(ts: &mut [Term], f: &Flat)
+    requires { (f.now.room ≤ length ts.old) × (f.now.room ≤ 1024) }
     ensures { ts.new
-        ≡ records_in f.records f.literals f.room ++ drop f.room ts.old }
+        ≡ records_in f.now.records f.now.literals f.now.room ++ drop f.now.room ts.old }
 {
     for i in 0..f.room {
         put_at(ts, i, term_record::record_at(&f.records, &f.literals, i));
@@ -82,6 +77,20 @@ pub fn unload(ts: &mut [Term], f: Flat)
 }
 
 impl StoreCopy {
+    // A copy of nothing, for `copy_of` to fill: a call makes it where it stands, so that its arrays are never moved.
+    pub fn blank() -> StoreCopy {
+        StoreCopy {
+            flat: Flat {
+                records: [0; term_layout::RECORDS],
+                literals: [0; 1024],
+                room: 0,
+            },
+            names: [0; name::TABLE],
+            numbers: 0,
+            bytes: 0,
+        }
+    }
+
     // The copy as a store of so many terms and symbols, to be read.
     pub fn lent(&self, terms: usize, symbols: usize) -> Lent<'_>
         ensures { lent_of result ≡ copied self.now terms symbols }
@@ -96,17 +105,12 @@ impl StoreCopy {
     }
 }
 
-// Copies the lent records and the lent entries.
-pub fn copy_of(ts: &[Term], ns: &[Name]) -> StoreCopy
-    ensures { CopyOf ts.now ns.now result }
+// Copies the lent records and the lent entries into `copy`.
+pub fn copy_of(ts: &[Term], ns: &[Name], copy: &mut StoreCopy)
+    ensures { CopyOf ts.now ns.now copy.new }
 {
-    let flat = load(ts);
-    let mut names = [0u8; name::TABLE];
-    let entries = lent_entries::load_names(ns, &mut names);
-    StoreCopy {
-        flat,
-        names,
-        numbers: flat.room * term_layout::WIDTH,
-        bytes: entries * name::WIDTH,
-    }
+    load(ts, &mut copy.flat);
+    let entries = lent_entries::load_names(ns, &mut copy.names);
+    copy.numbers = copy.flat.room * term_layout::WIDTH;
+    copy.bytes = entries * name::WIDTH;
 }

@@ -11,8 +11,8 @@ ghost use Rattle.lent_extract.specs.Left.{LentBest, LentVariants};
 
 pub mod counted; // counted.rt: best and variants on flat slices, with the counts in the answer
 
-use counted::{Chosen, Varied};
-use lent::Flat;
+pub use counted::{Chosen, Varied};
+use lent::StoreCopy;
 use lent_entries::Name;
 use refusal::Refusal;
 use term_rules::Term;
@@ -31,28 +31,25 @@ pub fn best(
         (best_at file.now sort value (lent_store ts.old ns.old terms symbols)) result
         ts.new ns.new }
 {
-    let c = lent::copy_of(ts, ns);
+    let mut c = StoreCopy::blank();
+    lent::copy_of(ts, ns, &mut c);
     let mut records = c.flat.records;
     let mut literals = c.flat.literals;
     let mut names = c.names;
-    let room = c.flat.room;
     let best = counted::best(
         file,
         sort,
         value,
         &mut records[..c.numbers],
-        &mut literals[..room],
+        &mut literals[..c.flat.room],
         &mut names[..c.bytes],
         terms,
         symbols,
     );
-    let flat = Flat {
-        records,
-        literals,
-        room,
-    };
-    lent::unload(ts, flat);
+    c.flat.records = records;
+    c.flat.literals = literals;
     lent_entries::unload_names(ns, &names);
+    lent::unload(ts, &c.flat);
     best
 }
 
@@ -75,30 +72,27 @@ pub fn variants(
         (lending (lent_store ts.old ns.old terms symbols) costs.old
         found.old)) result ts.new ns.new costs.new found.new }
 {
-    let c = lent::copy_of(ts, ns);
+    let mut c = StoreCopy::blank();
+    lent::copy_of(ts, ns, &mut c);
     let mut records = c.flat.records;
     let mut literals = c.flat.literals;
     let mut names = c.names;
-    let room = c.flat.room;
     let kept = counted::variants(
         file,
         sort,
         value,
         most,
         &mut records[..c.numbers],
-        &mut literals[..room],
+        &mut literals[..c.flat.room],
         &mut names[..c.bytes],
         terms,
         symbols,
         costs,
         found,
     );
-    let flat = Flat {
-        records,
-        literals,
-        room,
-    };
-    lent::unload(ts, flat);
+    c.flat.records = records;
+    c.flat.literals = literals;
     lent_entries::unload_names(ns, &names);
+    lent::unload(ts, &c.flat);
     kept
 }

@@ -21,7 +21,7 @@ ghost use Rattle.term.specs.Calls.{
 ghost use Rattle.lent.specs.Records.{lent_store};
 ghost use Rattle.lent_terms.specs.Lists.{LentAdded};
 
-use lent::Flat;
+use lent::StoreCopy;
 use lent_entries::Name;
 use refusal::Refusal;
 use std::cmp::Ordering;
@@ -33,7 +33,8 @@ use term_rules::Term;
 pub fn size(ts: &[Term], ns: &[Name], terms: usize, symbols: usize) -> Result<usize, Refusal>
     ensures { seen result ≡ size_of (lent_store ts.now ns.now terms symbols) }
 {
-    let c = lent::copy_of(ts, ns);
+    let mut c = StoreCopy::blank();
+    lent::copy_of(ts, ns, &mut c);
     term::size(&c.lent(terms, symbols))
 }
 
@@ -49,24 +50,21 @@ pub fn add_literal(
         (add_literal (lent_store ts.old ns.now terms symbols) literal) result ts.new
         ns.now }
 {
-    let c = lent::copy_of(ts, ns);
+    let mut c = StoreCopy::blank();
+    lent::copy_of(ts, ns, &mut c);
     let mut records = c.flat.records;
     let mut literals = c.flat.literals;
-    let room = c.flat.room;
-    let added = term::add_literal_flat(
+    let added = term::add_literal(
         &mut records[..c.numbers],
-        &mut literals[..room],
+        &mut literals[..c.flat.room],
         &c.names[..c.bytes],
         terms,
         symbols,
         literal,
     );
-    let flat = Flat {
-        records,
-        literals,
-        room,
-    };
-    lent::unload(ts, flat);
+    c.flat.records = records;
+    c.flat.literals = literals;
+    lent::unload(ts, &c.flat);
     added
 }
 
@@ -137,26 +135,23 @@ pub fn add_variable(
         (add_variable (lent_store ts.old ns.old terms symbols) name.now) result
         ts.new ns.new }
 {
-    let c = lent::copy_of(ts, ns);
+    let mut c = StoreCopy::blank();
+    lent::copy_of(ts, ns, &mut c);
     let mut records = c.flat.records;
     let mut literals = c.flat.literals;
     let mut names = c.names;
-    let room = c.flat.room;
     let added = variable_added(
         &mut records[..c.numbers],
-        &mut literals[..room],
+        &mut literals[..c.flat.room],
         &mut names[..c.bytes],
         terms,
         symbols,
         name,
     );
-    let flat = Flat {
-        records,
-        literals,
-        room,
-    };
-    lent::unload(ts, flat);
+    c.flat.records = records;
+    c.flat.literals = literals;
     lent_entries::unload_names(ns, &names);
+    lent::unload(ts, &c.flat);
     added
 }
 
@@ -174,27 +169,24 @@ pub fn add_application(
         children.now) result
         ts.new ns.new }
 {
-    let c = lent::copy_of(ts, ns);
+    let mut c = StoreCopy::blank();
+    lent::copy_of(ts, ns, &mut c);
     let mut records = c.flat.records;
     let mut literals = c.flat.literals;
     let mut names = c.names;
-    let room = c.flat.room;
     let added = application_added(
         &mut records[..c.numbers],
-        &mut literals[..room],
+        &mut literals[..c.flat.room],
         &mut names[..c.bytes],
         terms,
         symbols,
         name,
         children,
     );
-    let flat = Flat {
-        records,
-        literals,
-        room,
-    };
-    lent::unload(ts, flat);
+    c.flat.records = records;
+    c.flat.literals = literals;
     lent_entries::unload_names(ns, &names);
+    lent::unload(ts, &c.flat);
     added
 }
 
@@ -209,7 +201,8 @@ pub fn find_literal(
     ensures { seen result
         ≡ find_literal (lent_store ts.now ns.now terms symbols) literal }
 {
-    let c = lent::copy_of(ts, ns);
+    let mut c = StoreCopy::blank();
+    lent::copy_of(ts, ns, &mut c);
     term::find_literal(&c.lent(terms, symbols), literal)
 }
 
@@ -224,7 +217,8 @@ pub fn find_variable(
     ensures { seen result
         ≡ find_variable (lent_store ts.now ns.now terms symbols) name.now }
 {
-    let c = lent::copy_of(ts, ns);
+    let mut c = StoreCopy::blank();
+    lent::copy_of(ts, ns, &mut c);
     term::find_variable(&c.lent(terms, symbols), name)
 }
 
@@ -241,7 +235,8 @@ pub fn find_application(
         ≡ find_application (lent_store ts.now ns.now terms symbols) name.now
         children.now }
 {
-    let c = lent::copy_of(ts, ns);
+    let mut c = StoreCopy::blank();
+    lent::copy_of(ts, ns, &mut c);
     term::find_application(&c.lent(terms, symbols), name, children)
 }
 
@@ -255,7 +250,8 @@ pub fn get(
 ) -> Result<Term, Refusal>
     ensures { seen_got result ≡ get_term (lent_store ts.now ns.now terms symbols) i }
 {
-    let c = lent::copy_of(ts, ns);
+    let mut c = StoreCopy::blank();
+    lent::copy_of(ts, ns, &mut c);
     term::get(&c.lent(terms, symbols), i)
 }
 
@@ -271,7 +267,8 @@ pub fn compare(
     ensures { seen result
         ≡ compare_terms (lent_store ts.now ns.now terms symbols) i j }
 {
-    let c = lent::copy_of(ts, ns);
+    let mut c = StoreCopy::blank();
+    lent::copy_of(ts, ns, &mut c);
     term::compare(&c.lent(terms, symbols), i, j)
 }
 
@@ -286,6 +283,7 @@ pub fn sort(
     ensures { seen_sort result list.new
         ≡ sort_terms (lent_store ts.now ns.now terms symbols) list.old }
 {
-    let c = lent::copy_of(ts, ns);
+    let mut c = StoreCopy::blank();
+    lent::copy_of(ts, ns, &mut c);
     term::sort(&c.lent(terms, symbols), list)
 }

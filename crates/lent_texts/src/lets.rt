@@ -6,6 +6,7 @@ ghost use Rattle.text_whole.specs.LetPlaced.{let_answer_of, naming};
 ghost use Rattle.text.specs.LetTold.{let_told};
 ghost use Rattle.lent.specs.Records.{lent_store};
 
+use lent::StoreCopy;
 use lent_entries::Name;
 use refusal::Refusal;
 use term_rules::Term;
@@ -28,7 +29,8 @@ pub fn let_text(
         ≡ let_told (lent_store ts.now ns.now terms symbols)
         (naming prefix.now hint.now start bare) term out.old }
 {
-    let c = lent::copy_of(ts, ns);
+    let mut c = StoreCopy::blank();
+    lent::copy_of(ts, ns, &mut c);
     let naming = Naming {
         prefix,
         hint,

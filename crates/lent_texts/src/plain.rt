@@ -5,6 +5,7 @@ ghost use Rattle.text_whole.specs.Placed.{answer_of, told};
 ghost use Rattle.text.specs.Told.{plain_told};
 ghost use Rattle.lent.specs.Records.{lent_store};
 
+use lent::StoreCopy;
 use lent_entries::Name;
 use refusal::Refusal;
 use term_rules::Term;
@@ -21,6 +22,7 @@ pub fn plain_text(
     ensures { told (answer_of result) out.new
         ≡ plain_told (lent_store ts.now ns.now terms symbols) term out.old }
 {
-    let c = lent::copy_of(ts, ns);
+    let mut c = StoreCopy::blank();
+    lent::copy_of(ts, ns, &mut c);
     text::plain_text(&c.lent(terms, symbols), term, out)
 }

@@ -2,7 +2,7 @@
 #![tactic(auto)]
 
 ghost use Rattle.std.specs.Prelude.{◌≡◌, true, false, ℕ, ◌≤◌, length, get_or};
-ghost use Rattle.name.specs.Name.{allowed, all_allowed, valid};
+ghost use Rattle.name.specs.Name.{allowed, all_allowed, valid, same};
 ghost use Rattle.name.specs.Entries.{
   entries_length,
   entry_room,
@@ -86,13 +86,31 @@ pub fn padding_of(table: &[u8], k: usize) -> &[u8]
     &table[at + 1 + length_of(table, k)..at + WIDTH]
 }
 
+// Whether `a` and `b` have the same bytes. Names often begin alike and differ at the end, so the last two bytes come
+// first.
+pub fn are_same(a: &[u8], b: &[u8]) -> bool
+    ensures { result ≡ same a.now b.now }
+{
+    let n = a.len();
+    if n != b.len() {
+        return false;
+    }
+    if 0 < n && a[n - 1] != b[n - 1] {
+        return false;
+    }
+    if 1 < n && a[n - 2] != b[n - 2] {
+        return false;
+    }
+    a == b
+}
+
 // The first of the first `n` entries of `table` that has the name.
 pub fn find(table: &[u8], n: usize, name: &[u8]) -> Option<usize>
     requires { Entries table.now n }
     ensures { result ≡ find_name table.now n name.now }
 {
     for k in 0..n {
-        if name_of(table, k) == name {
+        if are_same(name_of(table, k), name) {
             return Some(k);
         }
     }

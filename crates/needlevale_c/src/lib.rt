@@ -62,7 +62,7 @@ pub extern "C" fn needlevale_add_literal_flat(
         (add_literal (store records.old literals.old names.now terms symbols) value)
         result records.new literals.new }
 {
-    match term::add_literal_flat(records, literals, names, terms, symbols, value) {
+    match term::add_literal(records, literals, names, terms, symbols, value) {
         Ok(added) => added.term as i64,
         Err(r) => codes::below_zero(r),
     }

@@ -84,8 +84,8 @@ module _ (n : ℕ) (r : Rows) (ok : FlatIn n r)
     ),
   )
 
-  pub links-ready : (us : Users) → Index r.starts.now r.children.now us.first us.next us.owner (length r.outputs.now)
-      → length us.first ≡ 512 → length us.next ≡ 8192 → length us.owner ≡ 8192
+  pub links-ready : (us : Users) → Index r.starts.now r.children.now us.first.now us.next.now us.owner.now (length r.outputs.now)
+      → length us.first.now ≡ 512 → length us.next.now ≡ 8192 → length us.owner.now ≡ 8192
       → Ready n r us
   links-ready us v lf ln lo = record {
     flat = ok;

@@ -56,7 +56,7 @@ module _ (n : ℕ) (r : Rows) (us : Users)
 
   -- a row that is off after marking has not the class for a child
   free_of : (c : ℕ) (marks₀ blocks₀ marks blocks : List ℕ)
-      → MarkedFrom us.next us.owner (get_or us.first c 0) marks₀ blocks₀ marks blocks → (j : ℕ) → j < length r.outputs.now
+      → MarkedFrom us.next.now us.owner.now (get_or us.first.now c 0) marks₀ blocks₀ marks blocks → (j : ℕ) → j < length r.outputs.now
       → Off marks blocks j → Each (Other c) (map child_of (part_of r.starts.now r.children.now j))
   free_of c marks₀ blocks₀ marks blocks v j h o = each-other c (part_of r.starts.now r.children.now j) (λ k l x e. at k l x e)
     where
@@ -79,7 +79,7 @@ module _ (n : ℕ) (r : Rows) (us : Users)
           ))
           (omega arith) in
           v.on j (a + k) o
-          (subst (λ (z : ℕ). Meets us.next (a + k) (get_or us.first z 0)) (sym g ∙ e) u)
+          (subst (λ (z : ℕ). Meets us.next.now (a + k) (get_or us.first.now z 0)) (sym g ∙ e) u)
           (ok.index.owners.owned j (a + k) h (omega arith) (omega arith))
 
   module _ (s : State) (i : ℕ) (h : i < length r.outputs.now) (lc : length s.costs ≡ n) (lr : length s.ranks ≡ n) where
@@ -100,7 +100,7 @@ module _ (n : ℕ) (r : Rows) (us : Users)
     )
 
     -- and what marking after it
-    pub mark-asks : LinksOk us.next us.owner (get_or us.first (get_or r.outputs.now i 0) 0)
+    pub mark-asks : LinksOk us.next.now us.owner.now (get_or us.first.now (get_or r.outputs.now i 0) 0)
     mark-asks =
         let e : length r.outputs.now - 1 + 1 ≡ length r.outputs.now = omega arith in
         let last : get_or r.starts.now (length r.outputs.now) 0 ≤ length r.children.now
@@ -143,7 +143,7 @@ module _ (n : ℕ) (r : Rows) (us : Users)
 
       -- a cost was stored
       pub turn-marks : (marks' blocks' : List ℕ)
-          → MarkedFrom us.next us.owner (get_or us.first (get_or r.outputs.now i 0) 0) (set marks i 0) blocks marks' blocks'
+          → MarkedFrom us.next.now us.owner.now (get_or us.first.now (get_or r.outputs.now i 0) 0) (set marks i 0) blocks marks' blocks'
           → Room marks' blocks' → Turned flat i s t marks' blocks'
       turn-marks marks' blocks' m room' = record {
         relaxed = relaxed-is;

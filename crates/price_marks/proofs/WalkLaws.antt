@@ -40,9 +40,9 @@ module _ (rows : List Row) (s₀ : State) where
 
   module _ (s : State) (marks blocks : List ℕ) (i : ℕ) (v : Walked s marks blocks i) where
     -- rows that are off are left out
-    pub walk-skips : (marks' blocks' : List ℕ) (r : ℕ) → Next marks blocks blocks' i r → marks' ≡ marks
-        → length blocks' ≡ length blocks → Walked s marks' blocks' r
-    walk-skips marks' blocks' r k e l = rw e (record {
+    pub walk-skips : (blocks' : List ℕ) (r : ℕ) → Next marks blocks blocks' i r → length blocks' ≡ length blocks
+        → Walked s marks blocks' r
+    walk-skips blocks' r k l = record {
       at = k.top;
       costs_length = v.costs_length;
       ranks_length = v.ranks_length;
@@ -50,7 +50,7 @@ module _ (rows : List Row) (s₀ : State) where
       rest = out ∙ v.rest;
       covered = seen;
       room = record { marks_room = v.room.marks_room; blocks_room = l ∙ v.room.blocks_room };
-    })
+    }
       where
         seen : Covered top rows s (Off marks blocks')
         seen = λ j h o. v.covered j h (k.kept j o)

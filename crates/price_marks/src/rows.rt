@@ -2,7 +2,7 @@
 ghost use Rattle.std.specs.Prelude.{◌≡◌, ◌<◌, length};
 ghost use Rattle.price_passes.specs.Flat.{top, flat_of, state_of};
 ghost use Rattle.price_marks.specs.Marks.{Off, Room, Covered};
-ghost use Rattle.price_marks.specs.Passes.{Ready, Turned};
+ghost use Rattle.price_marks.specs.Passes.{Ready, Turned, SameMarks};
 
 use super::marks::{Marks, mark_from};
 use super::users::Users;
@@ -21,13 +21,14 @@ pub fn turn(
     requires costs_len { length costs.old ≡ length ranks.old }
     requires i_in_bounds { i < length rows.now.outputs.now }
     requires ready { Ready (length ranks.old) rows.now users.now }
-    requires room { Room marks.old.rows marks.old.blocks }
+    requires room { Room marks.old.rows.now marks.old.blocks.now }
     requires covered { Covered top (flat_of rows.now)
-        (state_of costs.old ranks.old last) (Off marks.old.rows marks.old.blocks) }
-    ensures { Turned
+        (state_of costs.old ranks.old last) (Off marks.old.rows.now marks.old.blocks.now) }
+    ensures loans { SameMarks marks.old marks.new }
+    ensures turned { Turned
         (flat_of rows.now) i
         (state_of costs.old ranks.old last) (state_of costs.new ranks.new result)
-        marks.new.rows marks.new.blocks }
+        marks.new.rows.now marks.new.blocks.now }
 {
     marks.rows[i] = 0;
     let output = rows.outputs[i] as usize;
@@ -38,6 +39,11 @@ pub fn turn(
     if m == last {
         return m;
     }
-    mark_from(marks, usize::from(users.first[output]), users);
+    mark_from(
+        marks,
+        usize::from(users.first[output]),
+        users.next,
+        users.owner,
+    );
     m
 }

@@ -7,7 +7,7 @@ ghost use Rattle.price_marks.specs.Passes.{Ready};
 
 use super::links::link_all;
 use super::marks::Marks;
-use super::users::Users;
+use super::users::{Users, UsersMut};
 use price_passes::flat::Rows;
 use price_passes::passes::Run;
 
@@ -27,9 +27,9 @@ fn repeat_marked(
 ) -> Run
     requires fresh { Fresh costs.old ranks.old }
     requires ready { Ready (length ranks.old) rows.now users.now }
-    requires room { Room marks.old.rows marks.old.blocks }
+    requires room { Room marks.old.rows.now marks.old.blocks.now }
     requires covered { Covered top (flat_of rows.now)
-        (state_of costs.old ranks.old 0) (Off marks.old.rows marks.old.blocks) }
+        (state_of costs.old ranks.old 0) (Off marks.old.rows.now marks.old.blocks.now) }
     ensures { ran_to costs.new ranks.new result.last result.passes
         ≡ run top (flat_of rows.now)
         (length ranks.old) }
@@ -55,16 +55,26 @@ pub fn with_marks(costs: &mut [u64], ranks: &mut [u64], rows: &Rows) -> Run
         ≡ run top (flat_of rows.now)
         (length ranks.old) }
 {
-    let mut users = Users {
-        first: [0; 512],
-        next: [0; 8192],
-        owner: [0; 8192],
+    let mut first: [u16; 512] = [0; 512];
+    let mut next: [u16; 8192] = [0; 8192];
+    let mut owner: [u16; 8192] = [0; 8192];
+    let mut row_marks: [u8; 1024] = [1; 1024];
+    let mut blocks: [u8; 32] = [1; 32];
+    let mut made = UsersMut {
+        first: &mut first,
+        next: &mut next,
+        owner: &mut owner,
+    };
+    link_all(&mut made, rows.starts, rows.children, rows.outputs.len());
+    let users = Users {
+        first: &first,
+        next: &next,
+        owner: &owner,
     };
     let mut marks = Marks {
-        rows: [1; 1024],
-        blocks: [1; 32],
+        rows: &mut row_marks,
+        blocks: &mut blocks,
     };
-    link_all(&mut users, rows);
     repeat_marked(costs, ranks, &mut marks, rows, &users)
 }
 

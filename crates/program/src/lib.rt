@@ -15,7 +15,9 @@ mod variant_lines; // variant_lines.rt: the answers of variants, one after the o
 mod best_reply; // best_reply.rt: the text of an answer of best in a lent buffer: the line, the term's text, a newline
 mod variants_reply; // variants_reply.rt: the text of an answer of variants in a lent buffer: its length first, then its bytes
 
-// Best of a file into a store that starts empty, and its text.
+// Best of a file into a store that starts empty, and its text. Like `variants_of` it stays a function of its own in what is
+// built: in one frame the arrays of both would stand beside each other.
+#[inline(never)]
 fn best_of(
     plain: bool,
     file: &[u8],
@@ -41,6 +43,7 @@ fn best_of(
 }
 
 // Variants of a file into a store and lists that start empty, and their texts.
+#[inline(never)]
 fn variants_of(
     file: &[u8],
     sort: u64,

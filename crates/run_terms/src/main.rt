@@ -46,7 +46,22 @@ fn value(x: u64) -> i64 {
 }
 
 fn add_literal(rt: &impl Print, store: &mut StoreMut, x: u64) -> io::Result<()> {
-    write_answer(rt, term::add_literal(store, value(x)))
+    let (terms, symbols) = (store.terms, store.symbols);
+    let records = &mut *store.records;
+    let literals = &mut *store.literals;
+    let names = &mut *store.names;
+    match term::add_literal(records, literals, names, terms, symbols, value(x)) {
+        Ok(added) => {
+            store.terms = added.terms;
+            store.symbols = added.symbols;
+            write_term(rt, added.term)
+        }
+        Err(refusal) => write_refusal(rt, refusal),
+    }
+}
+
+fn add_literal_in(rt: &impl Print, store: &mut StoreMut, x: u64) -> io::Result<()> {
+    write_answer(rt, term::add_literal_in(store, value(x)))
 }
 
 fn add_variable(rt: &impl Print, store: &mut StoreMut, x: u64) -> io::Result<()> {
@@ -94,7 +109,8 @@ fn sort(rt: &impl Print, store: &StoreMut, x: u64) -> io::Result<()> {
 // Makes the call of `x`.
 fn turn(rt: &impl Print, store: &mut StoreMut, x: u64) -> io::Result<()> {
     match x / 1048576 % 8 {
-        0 | 1 => add_literal(rt, store, x),
+        0 => add_literal(rt, store, x),
+        1 => add_literal_in(rt, store, x),
         2 => add_variable(rt, store, x),
         3 | 4 => add_application(rt, store, x),
         5 => find_application(rt, store, x),

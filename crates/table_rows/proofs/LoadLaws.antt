@@ -9,6 +9,8 @@ use lib.ListN.{length}
 use Rattle.refusal.specs.declared.Refusal.{Refusal}
 use Rattle.bits.specs.Got.{Got, got, refused}
 use Rattle.bits.proofs.GotLaws.{all-at}
+use Rattle.file_rules.specs.declared.Table.{Table as Arrays}
+use Rattle.file_rules.specs.Held.{empty}
 use Rattle.file_rules.specs.Table.{Table}
 use Rattle.file_rules.specs.Accepted.{Accepted}
 use Rattle.file_rules.specs.Arrays.{Holds}
@@ -22,9 +24,19 @@ use Rattle.table_rows.specs.Standing.{StandsWhole}
 use Rattle.table_rows.specs.Flattened.{Flattened}
 use Rattle.table_rows.specs.Opening.{OpenedOf, root_in, OnClass as OnOpened}
 use Rattle.table_rows.proofs.prepare.StandLaws.{stands-of-holds}
-use Rattle.table_rows.specs.Loading.{asked_in, asked_of, asked, loaded_of, OnClass, Standing, Loads}
+use Rattle.table_rows.specs.Loading.{Blank, asked_in, asked_of, asked, loaded_of, OnClass, Standing, Loads}
 use Rattle.table_rows.specs.declared.Loaded.{Loaded}
 use Rattle.table_rows.specs.declared.Loaded.TheVariants.{Class, Literal}
+
+-- The arrays of no table are blank.
+pub blank-of-empty : {a : Arrays} → a ≡ empty → Blank a
+blank-of-empty e = record {
+  literals_zero = ap (λ (x : Arrays). x.literals) e;
+  names_zero = ap (λ (x : Arrays). x.functions.names) e;
+  arities_zero = ap (λ (x : Arrays). x.functions.arities) e;
+  row_functions_zero = ap (λ (x : Arrays). x.rows.functions) e;
+  cells_zero = ap (λ (x : Arrays). x.rows.cells) e;
+}
 
 -- The table that was read, with the counts that were answered.
 pub record ReadOf (g : Got Table) (n : Counts) (P : Table → Type 0) : Type 0 where

@@ -1,11 +1,12 @@
 -- A table file and a root: the first fault, a literal, or a class with its rows. Assumes nothing: definitions.
 use Prim.{Unit}
-use Rattle.std.specs.Prelude.{ℕ, ◌≡◌, List, [], ◌∷◌, map, ℤ, length, replicate, Option, Some, None, Result, Ok, Err}
-use Rattle.std.specs.Prelude.{ok_or}
+use Rattle.std.specs.Prelude.{ℕ, ◌≡◌, List, [], ◌∷◌, map, ℤ, pos, length, replicate}
+use Rattle.std.specs.Prelude.{Option, Some, None, Result, Ok, Err, ok_or}
 use Rattle.refusal.specs.declared.Refusal.{Refusal}
 use Rattle.refusal.specs.declared.Refusal.TheVariants.{BadRoot}
 use Rattle.name.specs.Entries.{table_length, entry}
 use Rattle.bits.specs.Got.{Got, got, refused}
+use Rattle.file_rules.specs.declared.Table.{Table as Arrays}
 use Rattle.file_rules.specs.Table.{Function, Row, Table}
 use Rattle.file_rules.specs.Arrays.{pad, blocks, HoldsLiterals}
 use Rattle.file_rules.specs.Reading.{OnGot}
@@ -15,6 +16,14 @@ use Rattle.table_rows.specs.declared.prepare.Root.{Root}
 use Rattle.table_rows.specs.declared.prepare.Root.TheVariants.{Class as RootClass, Literal as RootLiteral}
 use Rattle.table_rows.specs.declared.Loaded.{Loaded}
 use Rattle.table_rows.specs.declared.Loaded.TheVariants.{Class, Literal}
+
+-- The arrays before the file is read: five of zeros, and the other nine as they may be.
+pub record Blank (a : Arrays) : Type 0 where
+  pub literals_zero : a.literals ≡ replicate 512 (pos 0)
+  pub names_zero : a.functions.names ≡ replicate table_length 0
+  pub arities_zero : a.functions.arities ≡ replicate 128 0
+  pub row_functions_zero : a.rows.functions ≡ replicate 1024 0
+  pub cells_zero : a.rows.cells ≡ replicate 9216 0
 
 -- A fault, a literal or a class.
 pub data Asked : Type 0 where

@@ -61,3 +61,7 @@ added-once (Err r) (Err q) rs rs' ls ls' ns ns' n m e =
       ap (λ (s : Store). s.literals) t,
       ap (λ (s : Store). s.names) t,
     )
+
+pub adds-once :
+    (r q : Result ℕ Refusal) (t u : Store) → ◌≡◌ {A = Answer ℕ × Store} (seen r, t) (seen q, u) → (r ≡ q) × (t ≡ u)
+adds-once r q t u e = (seen-once r q (ap (λ x. x.0) e), ap (λ x. x.1) e)

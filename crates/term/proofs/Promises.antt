@@ -7,7 +7,7 @@ use Rattle.term_rules.proofs.Meaning.TreeLaws.{tree_at-means}
 use Rattle.term_order.specs.TreeOrder.{at_most}
 use Rattle.term_order.proofs.LawfulLaws.{trees-tells, at_most-linear}
 use Rattle.term.specs.Promises.{Promises}
-use Rattle.term.proofs.DeterminedLaws.{seen-once, added-once, got-once, sorted-once}
+use Rattle.term.proofs.DeterminedLaws.{seen-once, added-once, adds-once, got-once, sorted-once}
 use Rattle.term.proofs.AddsLaws.{
   literal-adds,
   variable-adds,
@@ -63,6 +63,7 @@ promises = record {
   order_numbers = λ s a b w h k. order-numbers s w a b h k;
   order_trees = λ s a b t u w h k p q. compare-trees s w a b t u h k p q;
   add_determined = added-once;
+  adds_determined = adds-once;
   find_determined = seen-once;
   size_determined = seen-once;
   get_determined = got-once;

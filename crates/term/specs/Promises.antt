@@ -135,6 +135,9 @@ pub record Promises : Type 0 where
       (r r' : Result Added Refusal) (rs rs' : List ℕ) (ls ls' : List ℤ) (ns ns' : List ℕ) (n m : ℕ) →
       seen_added r rs ls ns n m ≡ seen_added r' rs' ls' ns' n m →
       (r ≡ r') × (rs ≡ rs') × (ls ≡ ls') × (ns ≡ ns')
+  -- So are those of an add that raises the counts in what it is lent, and the counts with the lists.
+  pub adds_determined :
+      (r r' : Result ℕ Refusal) (t t' : Store) → ◌≡◌ {A = Answer ℕ × Store} (seen r, t) (seen r', t') → (r ≡ r') × (t ≡ t')
   pub find_determined : (r r' : Result ℕ Refusal) → seen r ≡ seen r' → r ≡ r'
   pub size_determined : (r r' : Result ℕ Refusal) → seen r ≡ seen r' → r ≡ r'
   pub get_determined : (r r' : Result Term Refusal) → seen_got r ≡ seen_got r' → r ≡ r'

@@ -49,7 +49,10 @@ pub fn check_store<'a>(lent: &Lent<'a>) -> Result<Store<'a>, Refusal>
     ensures same { IfOk result (λ s. store_of s ≡ lent_of lent.now) }
     ensures bad { IfErr result (λ why. (why ≡ BadStore) × (well_formed (lent_of lent.now) ≡ false)) }
 {
-    term_record::checked(lent).ok_or(Refusal::BadStore)
+    if !is_well_formed(lent) {
+        return Err(Refusal::BadStore);
+    }
+    Ok(term_record::known(lent))
 }
 
 // What a call on a variable asks.
@@ -94,42 +97,8 @@ fn check_application<'a>(
     Ok(store)
 }
 
-// Gives the literal's number, and adds it if it is not there: `lit` of src/termdag.rs.
-pub fn add_literal(store: &mut StoreMut, literal: i64) -> Result<usize, Refusal>
-    ensures loans { SameLoans store.old store.new }
-    ensures added { (seen result, held store.new) ≡ add_literal (held store.old) literal }
-{
-    check_store(&store.lent())?;
-    store.intern_literal(literal).ok_or(Refusal::NoRoom)
-}
-
-// Gives the variable's number, and adds it if it is not there: `var` of src/termdag.rs.
-pub fn add_variable(store: &mut StoreMut, name: &[u8]) -> Result<usize, Refusal>
-    ensures loans { SameLoans store.old store.new }
-    ensures added { (seen result, held store.new) ≡ add_variable (held store.old) name.now }
-{
-    check_variable(&store.lent(), name)?;
-    store.intern_variable(name).ok_or(Refusal::NoRoom)
-}
-
-// Gives the application's number, and adds it if it is not there: `app` of src/termdag.rs.
-pub fn add_application(
-    store: &mut StoreMut,
-    name: &[u8],
-    children: &[u64],
-) -> Result<usize, Refusal>
-    ensures loans { SameLoans store.old store.new }
-    ensures added { (seen result, held store.new)
-        ≡ add_application (held store.old) name.now children.now }
-{
-    check_application(&store.lent(), name, children)?;
-    store
-        .intern_application(name, children)
-        .ok_or(Refusal::NoRoom)
-}
-
-// The same of a literal, for a caller that lends its names to be read alone.
-pub fn add_literal_flat(
+// Gives the literal's number, and adds it if it is not there: `lit` of src/termdag.rs. The names are only read.
+pub fn add_literal(
     records: &mut [u64],
     literals: &mut [i64],
     names: &[u8],
@@ -147,9 +116,52 @@ pub fn add_literal_flat(
         terms,
         symbols,
     })?;
-    term_add::intern_literal(records, literals, names, terms, symbols, literal).ok_or(
-        Refusal::NoRoom,
-    )
+    let Some(added) = term_add::intern_literal(records, literals, names, terms, symbols, literal)
+    else {
+        return Err(Refusal::NoRoom);
+    };
+    Ok(added)
+}
+
+// The same in a store that is lent as the next two calls take it.
+pub fn add_literal_in(store: &mut StoreMut, literal: i64) -> Result<usize, Refusal>
+    ensures loans { SameLoans store.old store.new }
+    ensures added { (seen result, held store.new) ≡ add_literal (held store.old) literal }
+{
+    check_store(&store.lent())?;
+    let Some(term) = store.intern_literal(literal) else {
+        return Err(Refusal::NoRoom);
+    };
+    Ok(term)
+}
+
+// Gives the variable's number, and adds it if it is not there: `var` of src/termdag.rs.
+pub fn add_variable(store: &mut StoreMut, name: &[u8]) -> Result<usize, Refusal>
+    ensures loans { SameLoans store.old store.new }
+    ensures added { (seen result, held store.new) ≡ add_variable (held store.old) name.now }
+{
+    check_variable(&store.lent(), name)?;
+    let Some(term) = store.intern_variable(name) else {
+        return Err(Refusal::NoRoom);
+    };
+    Ok(term)
+}
+
+// Gives the application's number, and adds it if it is not there: `app` of src/termdag.rs.
+pub fn add_application(
+    store: &mut StoreMut,
+    name: &[u8],
+    children: &[u64],
+) -> Result<usize, Refusal>
+    ensures loans { SameLoans store.old store.new }
+    ensures added { (seen result, held store.new)
+        ≡ add_application (held store.old) name.now children.now }
+{
+    check_application(&store.lent(), name, children)?;
+    let Some(term) = store.intern_application(name, children) else {
+        return Err(Refusal::NoRoom);
+    };
+    Ok(term)
 }
 
 // Gives the literal's number: `lookup` of src/termdag.rs.
@@ -158,7 +170,10 @@ pub fn find_literal(lent: &Lent, literal: i64) -> Result<usize, Refusal>
         ≡ find_literal (lent_of lent.now) literal }
 {
     let store = check_store(lent)?;
-    term_add::find_literal(&store, literal).ok_or(Refusal::Absent)
+    let Some(term) = term_add::find_literal(&store, literal) else {
+        return Err(Refusal::Absent);
+    };
+    Ok(term)
 }
 
 // Gives the variable's number: `lookup` of src/termdag.rs.
@@ -168,7 +183,10 @@ pub fn find_variable(lent: &Lent, name: &[u8]) -> Result<usize, Refusal>
         name.now }
 {
     let store = check_variable(lent, name)?;
-    term_add::find_variable(&store, name).ok_or(Refusal::Absent)
+    let Some(term) = term_add::find_variable(&store, name) else {
+        return Err(Refusal::Absent);
+    };
+    Ok(term)
 }
 
 // Gives the application's number: `lookup` of src/termdag.rs.
@@ -178,7 +196,10 @@ pub fn find_application(lent: &Lent, name: &[u8], children: &[u64]) -> Result<us
         name.now children.now }
 {
     let store = check_application(lent, name, children)?;
-    term_add::find_application(&store, name, children).ok_or(Refusal::Absent)
+    let Some(term) = term_add::find_application(&store, name, children) else {
+        return Err(Refusal::Absent);
+    };
+    Ok(term)
 }
 
 // How many terms the store has: `size` of src/termdag.rs.

@@ -98,7 +98,9 @@ pub fn find_literal(store: &Store, literal: i64) -> Option<usize>
 pub fn find_variable(store: &Store, name: &[u8]) -> Option<usize>
     ensures { result ≡ find_term (store_of store.now) (variable name.now) }
 {
-    let symbol = find_symbol(store, name)?;
+    let Some(symbol) = find_symbol(store, name) else {
+        return None;
+    };
     find_record(store, 1, symbol as u64, 0, &[])
 }
 
@@ -107,7 +109,9 @@ pub fn find_application(store: &Store, name: &[u8], children: &[u64]) -> Option<
     requires children_len_bound { length children.now ≤ 8 }
     ensures { result ≡ find_term (store_of store.now) (application name.now children.now) }
 {
-    let symbol = find_symbol(store, name)?;
+    let Some(symbol) = find_symbol(store, name) else {
+        return None;
+    };
     find_record(store, 2, symbol as u64, 0, children)
 }
 

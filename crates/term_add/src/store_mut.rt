@@ -59,15 +59,15 @@ impl<'a> StoreMut<'a> {
         ensures named { Names (held self.old) name.now result (held self.new) }
     {
         let symbols = self.symbols;
-        if let Some(symbol) = find_symbol(&self.read(), name) {
-            return Some(symbol);
-        }
-        if !has_name_room(self.names.len(), symbols) {
-            return None;
-        }
-        name::put(self.names, symbols, name);
-        self.symbols += 1;
-        Some(symbols)
+        let Some(symbol) = find_symbol(&self.read(), name) else {
+            if !has_name_room(self.names.len(), symbols) {
+                return None;
+            }
+            name::put(self.names, symbols, name);
+            self.symbols += 1;
+            return Some(symbols);
+        };
+        Some(symbol)
     }
 
     // Whether one more record fits.
@@ -125,13 +125,13 @@ impl<'a> StoreMut<'a> {
             (add (held self.old) (Rattle.term_rules.specs.Nodes.literal literal)) result
             (held self.new) }
     {
-        if let Some(term) = find_literal(&self.read(), literal) {
-            return Some(term);
-        }
-        if !self.has_room() {
-            return None;
-        }
-        Some(self.push(0, 0, literal, &[]))
+        let Some(term) = find_literal(&self.read(), literal) else {
+            if !self.has_room() {
+                return None;
+            }
+            return Some(self.push(0, 0, literal, &[]));
+        };
+        Some(term)
     }
 
     // Gives the number of the variable, and adds it if it is not there.
@@ -141,10 +141,10 @@ impl<'a> StoreMut<'a> {
         ensures loans { SameLoans self.old self.new }
         ensures gains { Gains (held self.old) (add (held self.old) (variable name.now)) result (held self.new) }
     {
-        if let Some(term) = find_variable(&self.read(), name) {
-            return Some(term);
-        }
-        self.append_named(1, name, &[])
+        let Some(term) = find_variable(&self.read(), name) else {
+            return self.append_named(1, name, &[]);
+        };
+        Some(term)
     }
 
     // Gives the number of the application, and adds it if it is not there.
@@ -156,9 +156,9 @@ impl<'a> StoreMut<'a> {
         ensures gains { Gains (held self.old) (add (held self.old) (application name.now children.now)) result
             (held self.new) }
     {
-        if let Some(term) = find_application(&self.read(), name, children) {
-            return Some(term);
-        }
-        self.append_named(2, name, children)
+        let Some(term) = find_application(&self.read(), name, children) else {
+            return self.append_named(2, name, children);
+        };
+        Some(term)
     }
 }

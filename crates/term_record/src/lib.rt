@@ -300,6 +300,20 @@ pub fn check(lent: &Lent) -> bool
     are_records_new(lent.records, lent.literals, lent.terms)
 }
 
+// The store as one that is well formed, for who has asked.
+pub fn known<'a>(lent: &Lent<'a>) -> Store<'a>
+    requires { well_formed (lent_of lent.now) ≡ true }
+    ensures { store_of result ≡ lent_of lent.now }
+{
+    Store {
+        records: lent.records,
+        literals: lent.literals,
+        names: lent.names,
+        terms: lent.terms,
+        symbols: lent.symbols,
+    }
+}
+
 // The store as one that is well formed, where it is.
 pub fn checked<'a>(lent: &Lent<'a>) -> Option<Store<'a>>
     ensures told { is_some result ≡ well_formed (lent_of lent.now) }
@@ -308,11 +322,5 @@ pub fn checked<'a>(lent: &Lent<'a>) -> Option<Store<'a>>
     if !check(lent) {
         return None;
     }
-    Some(Store {
-        records: lent.records,
-        literals: lent.literals,
-        names: lent.names,
-        terms: lent.terms,
-        symbols: lent.symbols,
-    })
+    Some(known(lent))
 }

@@ -1,4 +1,4 @@
 -- The definitions of the crate `text_counts`.
 pub mod Tallies
 pub mod Met
-pub mod Long
+pub mod Loans

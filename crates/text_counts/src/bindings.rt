@@ -2,27 +2,27 @@
 ghost use Rattle.std.specs.Prelude.{◌≡◌, ◌<◌, ◌≤◌, length};
 ghost use Rattle.text_counts.specs.Tallies.{Linked};
 ghost use Rattle.text_counts.specs.Met.{Ready, Done, flag_of, Marked, Blank, AllMet};
-ghost use Rattle.text_counts.specs.Long.{Long};
+ghost use Rattle.text_counts.specs.Loans.{SameLoans, Long};
 
-// What has been bound so far: the first `count` bindings by term and indent, and for each term its place, which is 0
-// without a binding, else one more than the binding's number.
+// What has been bound so far, in tables that are lent: the first `count` bindings by term and indent, and for each term
+// its place, which is 0 without a binding, else one more than the binding's number.
 #[derive(Drop)]
-pub struct Found {
-    pub places: [u64; 1024],
-    pub terms: [u64; 1024],
-    pub indents: [u64; 1024],
+pub struct Found<'a> {
+    pub places: &'a mut [u64],
+    pub terms: &'a mut [u64],
+    pub indents: &'a mut [u64],
     pub count: usize,
 }
 
 // Term `t` is met at indent `i`: its children first, then itself if it is to be bound (`src/termdag.rs`,
 // to_string_with_let).
 pub fn meet(records: &[u64], wanted: &[u64], found: &mut Found, n: usize, i: usize, t: usize)
-    requires ready { Ready records.now wanted.now found.old.places found.old.terms found.old.indents
+    requires ready { Ready records.now wanted.now found.old.places.now found.old.terms.now found.old.indents.now
         n found.old.count i t }
-    requires long { Long found.old }
-    ensures done { Done records.now wanted.now found.old.terms found.old.indents found.old.count i t
-        found.new.places found.new.terms found.new.indents found.new.count }
-    ensures long { Long found.new }
+    ensures loans { SameLoans found.old found.new }
+    ensures long { Long found.old found.new }
+    ensures done { Done records.now wanted.now found.old.terms.now found.old.indents.now found.old.count i t
+        found.new.places.now found.new.terms.now found.new.indents.now found.new.count }
 {
     if 0 < found.places[t] {
         return;
@@ -70,10 +70,11 @@ fn mark(counts: &mut [u64], sizes: &[u64], n: usize)
 pub fn bind(records: &[u64], counts: &mut [u64], sizes: &mut [u64], found: &mut Found, n: usize)
     requires linked { Linked records.now n }
     requires n_nonzero { 0 < n }
-    requires blank { Blank counts.old sizes.old found.old.places found.old.terms found.old.indents n }
-    requires long { Long found.old }
-    ensures all_met { AllMet records.now found.new.places found.new.terms found.new.indents n found.new.count }
-    ensures long { Long found.new }
+    requires blank { Blank counts.old sizes.old found.old.places.now found.old.terms.now found.old.indents.now n }
+    ensures loans { SameLoans found.old found.new }
+    ensures long { Long found.old found.new }
+    ensures all_met { AllMet records.now found.new.places.now found.new.terms.now found.new.indents.now
+        n found.new.count }
 {
     found.count = 0;
     crate::count(counts, records, n);

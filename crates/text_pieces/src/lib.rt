@@ -27,12 +27,14 @@ pub fn add(a: u64, b: u64) -> u64
     a.saturating_add(b).min(CAP)
 }
 
-// Writes the bytes `s`.
+// Writes the bytes `s`, one by one: a copy of so many bytes by std's method needs `memmove` of the C library.
 pub fn put_bytes(out: &mut [u8], s: &[u8]) -> usize
     requires { length s.now ≤ length out.old }
     ensures { Wrote s.now result out.old out.new }
 {
-    out[..s.len()].copy_from_slice(s);
+    for j in 0..s.len() {
+        out[j] = s[j];
+    }
     s.len()
 }
 

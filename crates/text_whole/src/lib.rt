@@ -132,20 +132,24 @@ fn put_let(out: &mut [u8], nodes: &Nodes, spelling: &Spelling) -> Result<LetText
 {
     let mut counts = [0u64; 1024];
     let mut sizes = [0u64; 1024];
+    let mut places = [0u64; 1024];
+    let mut terms = [0u64; 1024];
+    let mut indents = [0u64; 1024];
     let mut wides = [0u64; 1024];
     let mut found = Found {
-        places: [0u64; 1024],
-        terms: [0u64; 1024],
-        indents: [0u64; 1024],
+        places: &mut places,
+        terms: &mut terms,
+        indents: &mut indents,
         count: 0,
     };
     bindings::bind(nodes.records, &mut counts, &mut sizes, &mut found, nodes.n);
+    let count = found.count;
     let bindings = Bindings {
-        terms: &found.terms,
-        indents: &found.indents,
-        count: found.count,
+        terms: &terms,
+        indents: &indents,
+        count,
     };
-    put_bound(out, nodes, &found.places, &mut wides, spelling, &bindings)
+    put_bound(out, nodes, &places, &mut wides, spelling, &bindings)
 }
 
 // Prefix and hint, one after the other.

@@ -1,6 +1,6 @@
 // The term of one row, as a variant is: each child class by its best term, then the row's own. (src/extract.rs,
 // extract_variants_with_sort)
-ghost use Rattle.std.specs.Prelude.{◌≡◌};
+ghost use Rattle.std.specs.Prelude.{IfNone, ◌≡◌};
 ghost use Rattle.name.specs.Entries.{name_at};
 ghost use Rattle.term_rules.specs.Nodes.{application};
 ghost use Rattle.term_rules.specs.Adding.{add};
@@ -47,11 +47,12 @@ fn child_term(
         let level = ranks[x] as usize;
         return build::build(plan, memo, store, level, x);
     }
-    build::literal_term(plan.values, store, x - 512)
+    store.intern_literal(plan.values[x - 512])
 }
 
-// The term of a row of function `f`: its children first, left to right, then the term itself.
-pub fn row_term(
+// The term of a row of function `f`: its children first, left to right, then the term itself. Where there is no room,
+// what is lent stays as far as it came.
+fn grow_row(
     plan: &Plan,
     ranks: &[u64],
     memo: &mut [u16],
@@ -77,4 +78,36 @@ pub fn row_term(
         children[j] = term as u64;
     }
     own_row(plan.labels, store, f, &children[..kids.len()])
+}
+
+// The same; where there is no room, the store's counts are put back.
+pub fn row_term(
+    plan: &Plan,
+    ranks: &[u64],
+    memo: &mut [u16],
+    store: &mut StoreMut,
+    f: usize,
+    kids: &[u16],
+) -> Option<usize>
+    requires { RowReady
+        plan.now.rows.now plan.now.edges.now ranks.now plan.now.labels.now plan.now.values.now
+        memo.old
+        (held store.old) f kids.now }
+    ensures loans { SameLoans store.old store.new }
+    ensures made { RowMade
+        (plan_in plan.now)
+        ranks.now plan.now.values.now (name_at plan.now.labels.now f) kids.now
+        (state memo.old
+        (held store.old))
+        (seen result memo.new (held store.new)) }
+    ensures counts { IfNone result ((store.new.terms ≡ store.old.terms) × (store.new.symbols ≡ store.old.symbols)) }
+{
+    let terms = store.terms;
+    let symbols = store.symbols;
+    let made = grow_row(plan, ranks, memo, store, f, kids);
+    if made.is_none() {
+        store.terms = terms;
+        store.symbols = symbols;
+    }
+    made
 }

@@ -9,11 +9,12 @@ use lib.IntN.{ℤ}
 use lib.ListN.{length, set}
 use lib.Seq.{paste}
 use Rattle.refusal.specs.declared.Refusal.TheVariants.{NoRoom, BadStore}
-use Rattle.term_rules.specs.Lent.{Store}
+use Rattle.term_rules.specs.Lent.{Store, store}
 use Rattle.term_rules.specs.WellFormed.{well_formed}
 use Rattle.term_rules.specs.Nodes.{literal}
 use Rattle.term_rules.specs.Adding.{Adds, at, no_room, add}
-use Rattle.term_add.specs.Held.{Gains}
+use Rattle.term_add.specs.declared.Added.{Added}
+use Rattle.term_add.specs.Interning.{Leaves}
 use Rattle.std.specs.Prelude.{Option, Some, None, Ok, Err}
 use Rattle.answer_rules.specs.Variants.{
   VariantsAfter,
@@ -83,8 +84,10 @@ module _ (s : Store) (ws ts : List ℕ) (z : ℤ) (formed : well_formed s ≡ tr
   unfolding variants_kept
   one_kept i s' h k = rw (set_front ws 1 (omega (arith, h)), set_front ts i (omega (arith, k)))
 
-  module _ (s' : Store) (r : Option ℕ) (w : Gains s (add s (literal z)) r s') where
-    pub literal-full : r ≡ None → seen_variants (Err NoRoom) s' ws ts ≡ literal_answer z l
+  module _
+      (rs : List ℕ) (ls : List ℤ) (ns : List ℕ) (r : Option Added) (w : Leaves s (add s (literal z)) r rs ls ns) where
+    pub literal-full :
+        r ≡ None → seen_variants (Err NoRoom) (store rs ls ns s.terms s.symbols) ws ts ≡ literal_answer z l
     unfolding variant_literal
     literal-full e =
         let a : no_room ≡ add s (literal z) = rw e at w.answer in
@@ -93,15 +96,18 @@ module _ (s : Store) (ws ts : List ℕ) (z : ℤ) (formed : well_formed s ≡ tr
         ∙ formed-is l (variant_literal l (add s (literal z))) formed
 
     pub literal-kept :
-        (i : ℕ) →
-        r ≡ Some i →
+        (b : Added) →
+        r ≡ Some b →
         (length ws ≡ 0 → ⊥) →
         (length ts ≡ 0 → ⊥) →
-        seen_variants (Ok (record { count = 1; passes = 1 })) s' (set ws 0 1) (set ts 0 i) ≡ literal_answer z l
-    literal-kept i e h k =
-        let a : at i s' ≡ add s (literal z) = rw e at w.answer in
-        one_kept i s' h k
-        ∙ sym (kept_at i s' (has-place h k))
+        seen_variants (Ok (record { count = 1; passes = 1 })) (store rs ls ns b.terms b.symbols) (set ws 0 1)
+        (set ts 0 b.term)
+        ≡ literal_answer z l
+    literal-kept b e h k =
+        let s' : Store = store rs ls ns b.terms b.symbols in
+        let a : at b.term s' ≡ add s (literal z) = rw e at w.answer in
+        one_kept b.term s' h k
+        ∙ sym (kept_at b.term s' (has-place h k))
         ∙ ap (variant_literal l) a
         ∙ formed-is l (variant_literal l (add s (literal z))) formed
 

@@ -1,9 +1,9 @@
 -- The variants of a root, once a table is laid flat, over a lent store: how the answer is read, and what is asked.
 -- Assumes nothing: definitions.
-use Rattle.std.specs.Prelude.{◌≡◌, true, false, List, ℕ, ◌+◌, ◌<◌, ◌≤◌, ℤ, length, take, Result}
+use Rattle.std.specs.Prelude.{◌≡◌, true, false, List, ℕ, ◌+◌, ◌<◌, ◌≤◌, ℤ, length, take, Result, Ok, Err}
 use Rattle.refusal.specs.declared.Refusal.{Refusal}
 use Rattle.refusal.specs.declared.Refusal.TheVariants.{BadStore}
-use Rattle.term_rules.specs.Lent.{Store}
+use Rattle.term_rules.specs.Lent.{Store, store}
 use Rattle.term_rules.specs.WellFormed.{well_formed}
 use Rattle.term_rules.specs.Nodes.{literal}
 use Rattle.term_rules.specs.Adding.{add}
@@ -21,10 +21,18 @@ use Rattle.answer_rules.specs.Variants.{
 use Rattle.variants_root.specs.Flat.{VariantTable}
 use Rattle.variant_answers.specs.Kept.{seen}
 pub use Rattle.variant_answers.specs.declared.Kept.{Kept}
+use Rattle.variants_root.specs.declared.CountedKept.{CountedKept}
 
 -- The code's answer as the definition's, with the lent lists as the call leaves them.
 abbrev pub seen_variants : Result Kept Refusal → Store → List ℕ → List ℕ → VariantsAfter
 seen_variants r s ws ts = seen r s ws ts
+
+-- The same of an answer that has the counts, with the lent lists as the call leaves them. A refusal leaves the counts
+-- n and m, which were those before.
+abbrev pub seen_counted :
+    Result CountedKept Refusal → ℕ → ℕ → List ℕ → List ℤ → List ℕ → List ℕ → List ℕ → VariantsAfter
+seen_counted (Ok a) n m rs ls ns ws ts = seen_variants (Ok a.kept) (store rs ls ns a.terms a.symbols) ws ts
+seen_counted (Err e) n m rs ls ns ws ts = seen_variants (Err e) (store rs ls ns n m) ws ts
 
 -- "17, 12, 13": a store that is not well formed is refused before what the root says.
 unfoldable pub if_formed : Lending → VariantsAfter → VariantsAfter

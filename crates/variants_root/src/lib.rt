@@ -3,35 +3,56 @@
 #![tactic(auto)]
 
 ghost use Rattle.std.specs.Prelude.{◌≡◌, ◌<◌, pos, length, get_or};
+ghost use Rattle.term_rules.specs.Lent.{store};
 ghost use Rattle.term_add.specs.Held.{held, SameLoans};
 ghost use Rattle.variant_answers.specs.Kept.{lending};
 ghost use Rattle.variants_root.specs.Flat.{VariantsReady, VariantsAnswers};
-ghost use Rattle.variants_root.specs.Several.{seen_variants, literal_answer, SomeTable, ClassAnswers};
+ghost use Rattle.variants_root.specs.Several.{seen_variants, seen_counted, literal_answer, SomeTable, ClassAnswers};
 
 use refusal::Refusal;
 use table_layout::pack;
 use term_add::store_mut::StoreMut;
+use term_layout::lent::Lent;
 pub use variant_answers::Kept;
 
 pub mod kept_rows; // kept_rows.rt: the variants of a class, over flat rows: costs and choice, the rows that are kept, then their terms
 
-// The one variant of literal `i`: a base root costs 1, and one pass changes nothing.
+// What is kept, and how many terms and symbols the store has then.
+#[derive(Clone, Copy)]
+pub struct CountedKept {
+    pub kept: Kept,
+    pub terms: usize,
+    pub symbols: usize,
+}
+
+// The one variant of literal `i`, for a caller that lends its names to be read alone: a base root costs 1, and one
+// pass changes nothing.
 pub fn of_literal(
     values: &[i64],
     i: u64,
-    store: &mut StoreMut,
+    records: &mut [u64],
+    literals: &mut [i64],
+    names: &[u8],
+    terms: usize,
+    symbols: usize,
     paid: &mut [u64],
     found: &mut [u64],
-) -> Result<Kept, Refusal>
+) -> Result<CountedKept, Refusal>
     requires { i < length values.now }
-    ensures loans { SameLoans store.old store.new }
-    ensures variants { seen_variants result (held store.new)
+    ensures { seen_counted result terms symbols records.new literals.new names.now
         paid.new found.new
         ≡ literal_answer (get_or values.now i (pos 0))
-        (lending (held store.old)
+        (lending (store records.old literals.old names.now terms symbols)
         paid.old found.old) }
 {
-    if !term_record::check(&store.lent()) {
+    let formed = term_record::check(&Lent {
+        records,
+        literals,
+        names,
+        terms,
+        symbols,
+    });
+    if !formed {
         return Err(Refusal::BadStore);
     }
     if paid.len() == 0 {
@@ -40,12 +61,18 @@ pub fn of_literal(
     if found.len() == 0 {
         return Err(Refusal::NoRoom);
     }
-    let term = build::literal_term(values, store, i as usize).ok_or(Refusal::NoRoom)?;
+    let added = build::literal_term(
+        values, records, literals, names, terms, symbols, i as usize,
+    ).ok_or(Refusal::NoRoom)?;
     paid[0] = 1;
-    found[0] = term as u64;
-    Ok(Kept {
-        count: 1,
-        passes: 1,
+    found[0] = added.term as u64;
+    Ok(CountedKept {
+        kept: Kept {
+            count: 1,
+            passes: 1,
+        },
+        terms: added.terms,
+        symbols: added.symbols,
     })
 }
 

@@ -27,20 +27,20 @@ pub mod stack {
     pub const ANSWER: usize = 688128;
     pub const READ: usize = 139264;
     pub const ADD_LITERAL_FLAT: usize = 32768;
-    pub const BEST: usize = 966656;
-    pub const VARIANTS: usize = 995328;
-    pub const PLAIN_TEXT: usize = 479232;
-    pub const LET_TEXT: usize = 462848;
-    pub const SIZE: usize = 462848;
-    pub const GET: usize = 462848;
-    pub const COMPARE: usize = 462848;
-    pub const SORT: usize = 487424;
-    pub const FIND_LITERAL: usize = 462848;
-    pub const FIND_VARIABLE: usize = 462848;
-    pub const FIND_APPLICATION: usize = 462848;
-    pub const ADD_LITERAL: usize = 786432;
-    pub const ADD_VARIABLE: usize = 675840;
-    pub const ADD_APPLICATION: usize = 675840;
+    pub const BEST: usize = 749568;
+    pub const VARIANTS: usize = 778240;
+    pub const PLAIN_TEXT: usize = 307200;
+    pub const LET_TEXT: usize = 344064;
+    pub const SIZE: usize = 147456;
+    pub const GET: usize = 147456;
+    pub const COMPARE: usize = 147456;
+    pub const SORT: usize = 172032;
+    pub const FIND_LITERAL: usize = 147456;
+    pub const FIND_VARIABLE: usize = 147456;
+    pub const FIND_APPLICATION: usize = 147456;
+    pub const ADD_LITERAL: usize = 253952;
+    pub const ADD_VARIABLE: usize = 258048;
+    pub const ADD_APPLICATION: usize = 258048;
 }
 
 /// Numbers of a store's record: kind, symbol, count, eight children.

@@ -6,9 +6,9 @@ use mir.Syntax.{w64}
 use mir.ValLaws.{to_z-of_z}
 use Rattle.build.proofs.literal_term.Goals as goal
 
-pub returns-clause-gains : goal.returns-clause-gains
-returns-clause-gains c =
+pub returns : goal.returns
+returns c =
     let z : ℤ = get_or c.args.values.now c.args.i (pos 0) in
     rw (to_z-of_z w64 z (record {
       sfits = search rules;
-    })) at c.intern_literal.ensures.gains
+    })) at c.intern_literal.ensures

@@ -15,6 +15,6 @@ returns c =
     lent-left
     (left-names (After BestTerm) (λ a. a.store) (λ rs ls bs. seen_chosen call.result rs ls bs g.terms g.symbols)
     (best-faithful call.result g.terms g.symbols) g.ts.now c.unload.new.ts g.ns.now c.unload_names.new.ns
-    c.copy_of-c.result g.terms g.symbols (λ (s : Store). best_at g.file.now g.sort g.value s) call.new.records
-    call.new.literals call.new.names c.copy_of-c.ensures call.auto.records call.auto.literals call.auto.names
+    c.copy_of.new.copy g.terms g.symbols (λ (s : Store). best_at g.file.now g.sort g.value s) call.new.records
+    call.new.literals call.new.names c.copy_of.ensures call.auto.records call.auto.literals call.auto.names
     call.ensures c.unload.ensures c.unload_names.ensures)

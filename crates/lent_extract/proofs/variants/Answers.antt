@@ -16,7 +16,7 @@ returns c =
     (left-names VariantsAfter (λ a. a.store)
     (λ rs ls bs. seen_varied call.result g.terms g.symbols rs ls bs call.new.costs call.new.found)
     (variants-faithful call.result g.terms g.symbols call.new.costs call.new.found) g.ts.now c.unload.new.ts g.ns.now
-    c.unload_names.new.ns c.copy_of-c.result g.terms g.symbols
+    c.unload_names.new.ns c.copy_of.new.copy g.terms g.symbols
     (λ (s : Store). variants_at g.file.now g.sort g.value g.most (lending s g.costs.now g.found.now)) call.new.records
-    call.new.literals call.new.names c.copy_of-c.ensures call.auto.records call.auto.literals call.auto.names
+    call.new.literals call.new.names c.copy_of.ensures call.auto.records call.auto.literals call.auto.names
     call.ensures c.unload.ensures c.unload_names.ensures)

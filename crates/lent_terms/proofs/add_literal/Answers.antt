@@ -10,7 +10,7 @@ use Rattle.lent_terms.proofs.add_literal.Goals as goal
 pub returns : goal.returns
 returns c =
     let g = c.args in
-    let call = c.add_literal_flat-added in
-    added-same-names g.ts.now c.unload.new.ts g.ns.now c.copy_of-c.result g.terms g.symbols
-    (λ (s : Store). add_literal s g.literal) call.result call.new.records call.new.literals c.copy_of-c.ensures
+    let call = c.add_literal-added in
+    added-same-names g.ts.now c.unload.new.ts g.ns.now c.copy_of.new.copy g.terms g.symbols
+    (λ (s : Store). add_literal s g.literal) call.result call.new.records call.new.literals c.copy_of.ensures
     call.auto.records call.auto.literals c.unload.ensures (rw (to_z-of_z w64 g.literal c.ranges.literal) at call.ensures)

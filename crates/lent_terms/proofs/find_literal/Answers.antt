@@ -11,4 +11,4 @@ pub returns : goal.returns
 returns c =
     let g = c.args in
     (rw (to_z-of_z w64 g.literal c.ranges.literal) at c.find_literal.ensures)
-    ∙ ap (λ (s : Store). find_literal s g.literal) (c.lent.ensures ∙ copied-store g.ts.now g.ns.now c.copy_of-c.result g.terms g.symbols c.copy_of-c.ensures)
+    ∙ ap (λ (s : Store). find_literal s g.literal) (c.lent.ensures ∙ copied-store g.ts.now g.ns.now c.copy_of.new.copy g.terms g.symbols c.copy_of.ensures)

@@ -9,4 +9,4 @@ pub returns : goal.returns
 returns c =
     let g = c.args in
     c.get.ensures
-    ∙ ap (λ (s : Store). get_term s g.i) (c.lent.ensures ∙ copied-store g.ts.now g.ns.now c.copy_of-c.result g.terms g.symbols c.copy_of-c.ensures)
+    ∙ ap (λ (s : Store). get_term s g.i) (c.lent.ensures ∙ copied-store g.ts.now g.ns.now c.copy_of.new.copy g.terms g.symbols c.copy_of.ensures)

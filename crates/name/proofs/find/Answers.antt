@@ -1,6 +1,5 @@
 -- `name::find` meets its contract. The entries are passed in order. Assumes nothing.
 use mathlib.Core.Path.{sym, ◌∙◌}
-use Rattle.name.proofs.NameLaws.{same-eq}
 use Rattle.name.proofs.EntryLaws.{find_from-here, find_from-more, find_from-end, find_from-start}
 use native.Mathlib.Omega.{arith}
 use Rattle.name.proofs.find.Goals as goal
@@ -14,12 +13,12 @@ name_of-requires c =
     let pre = c.requires in
     record { long = omega (arith, pre.long); short = pre.short k (omega arith) }
 
-pub returns-then-eq : goal.returns-then-eq
-returns-then-eq c =
+pub returns-then-are_same : goal.returns-then-are_same
+returns-then-are_same c =
     let g = c.args in
     let l = c.loop-k in
     sym (find_from-here g.table.now g.name.now l.k g.n (omega arith)
-    (rw (← c.name_of.ensures, ← same-eq, ← c.eq.ensures) c.if-eq.true))
+    (rw (← c.name_of.ensures, ← c.are_same.ensures) c.if-are_same.true))
     ∙ l.invariant
 
 pub loop-k-preserved : goal.loop-k-preserved
@@ -27,7 +26,7 @@ loop-k-preserved c =
     let g = c.args in
     let l = c.loop-k in
     find_from-more g.table.now g.name.now l.k g.n (omega arith)
-    (rw (← c.name_of.ensures, ← same-eq, ← c.eq.ensures) c.if-eq.false)
+    (rw (← c.name_of.ensures, ← c.are_same.ensures) c.if-are_same.false)
     ∙ l.invariant
 
 pub returns : goal.returns

@@ -1,5 +1,6 @@
 -- `term::add_application` meets its contract. The tests, and then the application is interned. Assumes nothing.
 use Rattle.std.proofs.lemmas.Result.{err_from_is_err_and}
+use Rattle.std.specs.Prelude.{Some, None}
 use Rattle.term_rules.specs.Nodes.{application}
 use Rattle.term_add.specs.Held.{held}
 use Rattle.term.specs.Calls.{application_faults, add_application}
@@ -21,10 +22,16 @@ intern_application-requires c =
     (rw c.lent.ensures at c.in_ok-check_application.ensures.faults) in
     record { sound = f.0; named = f.1.0; children_len_bound = f.1.1 }
 
+pub returns-in_default-clause-added : goal.returns-in_default-clause-added
+unfolding add_application
+returns-in_default-clause-added c =
+    let g = c.args in
+    adding-gains (held g.store.now) (application g.name.now g.children.now) (application_faults (held g.store.now) g.name.now g.children.now) (None) _
+    (rw c.lent.ensures at c.in_ok-check_application.ensures.faults) (rw (c.in_default.is) at c.intern_application.ensures.gains)
+
 pub returns-clause-added : goal.returns-clause-added
 unfolding add_application
 returns-clause-added c =
     let g = c.args in
-    rw c.ok_or.ensures.value (
-    adding-gains (held g.store.now) (application g.name.now g.children.now) (application_faults (held g.store.now) g.name.now g.children.now) _ _
-    (rw c.lent.ensures at c.in_ok-check_application.ensures.faults) c.intern_application.ensures.gains)
+    adding-gains (held g.store.now) (application g.name.now g.children.now) (application_faults (held g.store.now) g.name.now g.children.now) (Some _) _
+    (rw c.lent.ensures at c.in_ok-check_application.ensures.faults) (rw (c.in-Some.is) at c.intern_application.ensures.gains)

@@ -2,6 +2,8 @@
 use mir.Syntax.{w64}
 use mir.ValLaws.{to_z-of_z}
 use Rattle.std.proofs.lemmas.Result.{err_from_is_err_and}
+use mathlib.Core.Path.{sym, ◌∙◌}
+use Rattle.std.specs.Prelude.{Some, None}
 use Rattle.term_rules.specs.Lent.{Store}
 use Rattle.term_rules.specs.Nodes.{literal}
 use Rattle.term_rules.specs.Adding.{find_term}
@@ -17,10 +19,16 @@ returns-in_err-store c =
     let p = err_from_is_err_and c.from_residual.result c.from_residual.ensures.1 in
     rw (p.1, p.2) (finding-refuses (lent_of g.lent.now) (literal g.literal) (literal_faults (lent_of g.lent.now)) _ c.in_err-store.ensures.faults)
 
+pub returns-in_default : goal.returns-in_default
+unfolding find_literal
+returns-in_default c =
+    let g = c.args in
+    finding-told (lent_of g.lent.now) (literal g.literal) (literal_faults (lent_of g.lent.now)) (None) c.in_ok-store.ensures.faults
+    (sym c.in_default.is ∙ of-lent (λ (s : Store). find_term s (literal g.literal)) (rw (to_z-of_z w64 g.literal c.ranges.literal) at c.find_literal.ensures) c.in_ok-store.ensures.same)
+
 pub returns : goal.returns
 unfolding find_literal
 returns c =
     let g = c.args in
-    rw c.ok_or.ensures.value (
-    finding-told (lent_of g.lent.now) (literal g.literal) (literal_faults (lent_of g.lent.now)) _ c.in_ok-store.ensures.faults
-    (of-lent (λ (s : Store). find_term s (literal g.literal)) (rw (to_z-of_z w64 g.literal c.ranges.literal) at c.find_literal.ensures) c.in_ok-store.ensures.same))
+    finding-told (lent_of g.lent.now) (literal g.literal) (literal_faults (lent_of g.lent.now)) (Some _) c.in_ok-store.ensures.faults
+    (sym c.in-Some.is ∙ of-lent (λ (s : Store). find_term s (literal g.literal)) (rw (to_z-of_z w64 g.literal c.ranges.literal) at c.find_literal.ensures) c.in_ok-store.ensures.same)

@@ -5,13 +5,12 @@ use Rattle.term_layout.specs.Sound.{store_of}
 use Rattle.term_add.proofs.MatchLaws.{find_term-application, find_term-application-none}
 use Rattle.term_add.proofs.find_application.Goals as goal
 
-pub returns-in_err-symbol : goal.returns-in_err-symbol
-returns-in_err-symbol c =
+pub returns-in_default : goal.returns-in_default
+returns-in_default c =
     let g = c.args in
     let s = store_of g.store.now in
-    c.from_residual.ensures
-    ∙ find_term-application-none s (sound-of-well_formed s g.store.now.sound) g.name.now g.children.now
-    (sym c.find_symbol.ensures ∙ c.in_err-symbol.was)
+    find_term-application-none s (sound-of-well_formed s g.store.now.sound) g.name.now g.children.now
+    (sym c.find_symbol.ensures ∙ c.in_default.is)
 
 pub returns : goal.returns
 returns c =
@@ -19,4 +18,4 @@ returns c =
     let s = store_of g.store.now in
     c.find_record.ensures
     ∙ find_term-application s (sound-of-well_formed s c.args.store.now.sound) g.name.now g.children.now _
-    (sym c.find_symbol.ensures ∙ c.in_ok-symbol.was)
+    (sym c.find_symbol.ensures ∙ c.in-Some.is)

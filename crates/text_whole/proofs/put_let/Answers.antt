@@ -12,19 +12,13 @@ bind-requires c =
           c.args.nodes.now.names.now c.args.nodes.now.n
           c.requires.readable;
       n_nonzero = c.requires.some;
-      long = (length-replicate {A = ℕ} 1024 0, (length-replicate {A = ℕ} 1024 0, length-replicate {A = ℕ} 1024 0));
       blank = blank-tables 1024 c.args.nodes.now.n c.requires.readable.few;
     }
 
-pub put_bound-requires : goal.put_bound-requires
-put_bound-requires c =
-    let q = c.bind in
-    record {
-      layable = c.requires;
-      all_met = q.ensures.all_met;
-      n_in_bounds = (
-        omega (arith, c.requires.readable.few, q.ensures.long.0),
-        omega (arith, c.requires.readable.few, length-replicate {A = ℕ} 1024 0),
-        omega (arith, q.ensures.long.1.0),
-      );
-    }
+pub put_bound-requires-clause-n_in_bounds : goal.put_bound-requires-clause-n_in_bounds
+put_bound-requires-clause-n_in_bounds c =
+    let q = c.bind in (
+      omega (arith, c.requires.readable.few, q.ensures.long.places, length-replicate {A = ℕ} 1024 0),
+      omega (arith, c.requires.readable.few, length-replicate {A = ℕ} 1024 0),
+      omega (arith, q.ensures.long.terms, length-replicate {A = ℕ} 1024 0),
+    )

@@ -1,4 +1,4 @@
--- Laws that follow the code of `row_term`: the loop over a row's children, and the row's own term. Assumes nothing.
+-- Laws that follow the code of `grow_row`: the loop over a row's children, and the row's own term. Assumes nothing.
 use Prim.{Dec, yes, no}
 use Prim.Native.Nat.{ℕ, ◌+◌, ◌<◌, ◌≤◌}
 use mathlib.Core.Path.{◌≡◌, refl, sym, ap, subst, ◌∙◌}

@@ -11,4 +11,4 @@ returns c =
     let g = c.args in
     c.let_text.ensures
     ∙ ap (λ (s : Store). let_told s (naming g.prefix.now g.hint.now g.start g.bare) g.term g.out.now)
-    (c.lent.ensures ∙ copied-store g.ts.now g.ns.now c.copy_of-c.result g.terms g.symbols c.copy_of-c.ensures)
+    (c.lent.ensures ∙ copied-store g.ts.now g.ns.now c.copy_of.new.copy g.terms g.symbols c.copy_of.ensures)

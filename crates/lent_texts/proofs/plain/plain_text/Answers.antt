@@ -10,4 +10,4 @@ returns c =
     let g = c.args in
     c.plain_text.ensures
     ∙ ap (λ (s : Store). plain_told s g.term g.out.now)
-    (c.lent.ensures ∙ copied-store g.ts.now g.ns.now c.copy_of-c.result g.terms g.symbols c.copy_of-c.ensures)
+    (c.lent.ensures ∙ copied-store g.ts.now g.ns.now c.copy_of.new.copy g.terms g.symbols c.copy_of.ensures)

@@ -7,10 +7,12 @@ use Rattle.price_marks.proofs.marks.mark_from.Goals as goal
 pub loop-g-init : goal.loop-g-init
 loop-g-init c =
     let a = c.args in
-    down-begins a.users.now.next a.users.now.owner a.h a.marks.now.rows a.marks.now.blocks c.requires.room c.requires.links_ok
+    (search, down-begins a.next.now a.owner.now a.h a.marks.now.rows.now a.marks.now.blocks.now c.requires.room c.requires.links_ok)
 
 pub bounds-marks-i : goal.bounds-marks-i
-bounds-marks-i c = rw c.from-i.ensures (c.requires.links_ok.owner_low (c.loop-g.g - 1))
+bounds-marks-i c =
+    let low = c.requires.links_ok.owner_low (c.loop-g.g - 1) in
+    rw c.from-i.ensures (omega (arith, c.loop-g.invariant.1.room.marks_room))
 
 pub loop-g-smaller : goal.loop-g-smaller
 loop-g-smaller c =
@@ -20,17 +22,19 @@ loop-g-smaller c =
 pub loop-g-preserved : goal.loop-g-preserved
 loop-g-preserved c =
     let a = c.args in
-    let l = c.loop-g in
-    rw (c.from-i.ensures, c.from-g.ensures)
-    (down-goes-on a.users.now.next a.users.now.owner a.h a.marks.now.rows a.marks.now.blocks l.g l.marks.rows l.marks.blocks
-    c.requires.links_ok c.loop-g-test.true l.invariant)
+    let l = c.loop-g in (
+      search,
+      rw (c.from-i.ensures, c.from-g.ensures)
+          (down-goes-on a.next.now a.owner.now a.h a.marks.now.rows.now a.marks.now.blocks.now l.g l.marks.rows.now l.marks.blocks.now
+          c.requires.links_ok c.loop-g-test.true l.invariant.1),
+    )
 
 pub returns-clause-room : goal.returns-clause-room
-returns-clause-room c = c.loop-g.invariant.room
+returns-clause-room c = c.loop-g.invariant.1.room
 
 pub returns-clause-marked : goal.returns-clause-marked
 returns-clause-marked c =
     let a = c.args in
     let l = c.loop-g in
-    down_ends a.users.now.next a.users.now.owner a.h a.marks.now.rows a.marks.now.blocks l.g l.marks.rows l.marks.blocks
-    c.loop-g-test.false l.invariant
+    down_ends a.next.now a.owner.now a.h a.marks.now.rows.now a.marks.now.blocks.now l.g l.marks.rows.now l.marks.blocks.now
+    c.loop-g-test.false l.invariant.1

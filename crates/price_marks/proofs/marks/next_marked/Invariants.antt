@@ -6,8 +6,7 @@ use Rattle.price_marks.specs.Marks.{Next}
 use Rattle.price_marks.proofs.marks.next_marked.Given as goal
 
 abbrev pub invariant-loop-i : goal.invariant-loop-i
-invariant-loop-i l = Next l.initial.marks.rows l.initial.marks.blocks l.marks.blocks l.from l.i
-    × ((l.marks.rows ≡ l.initial.marks.rows) × (length l.marks.blocks ≡ length l.initial.marks.blocks))
+invariant-loop-i l = Next l.marks l.initial.blocks l.blocks l.from l.i × (length l.blocks ≡ length l.initial.blocks)
 
 abbrev pub decreases-loop-i : goal.decreases-loop-i
 decreases-loop-i l = 1024 - l.i

@@ -6,15 +6,15 @@ use Rattle.price_passes.proofs.FlatLaws.{rows-length}
 use native.Mathlib.Omega.{arith}
 use Rattle.price_marks.proofs.passes.one_pass.Goals as goal
 
-pub returns-then-i-rows : goal.returns-then-i-rows
-returns-then-i-rows c =
+pub returns-then-i-rows-clause-passed : goal.returns-then-i-rows-clause-passed
+returns-then-i-rows-clause-passed c =
     let a = c.args in
     let l = c.loop-i in
     let k = c.next_marked-i in
     walk_ends (flat_of a.rows.now)
-    (state_of a.costs.now a.ranks.now a.last) (state_of l.costs l.ranks l.l) k.new.marks.rows
-    k.new.marks.blocks k.result
-    (walk-skips (flat_of a.rows.now) (state_of a.costs.now a.ranks.now a.last) (state_of l.costs l.ranks l.l) l.marks.rows l.marks.blocks l.i l.invariant k.new.marks.rows k.new.marks.blocks k.result k.ensures.found k.ensures.rows_kept k.ensures.blocks_len)
+    (state_of a.costs.now a.ranks.now a.last) (state_of l.costs l.ranks l.l) l.marks.rows.now
+    k.new.blocks k.result
+    (walk-skips (flat_of a.rows.now) (state_of a.costs.now a.ranks.now a.last) (state_of l.costs l.ranks l.l) l.marks.rows.now l.marks.blocks.now l.i l.invariant.1 k.new.blocks k.result k.ensures k.auto.blocks)
     (omega (arith, c.if-i-rows.true, rows-length a.rows.now.outputs.now a.rows.now.heads.now a.rows.now.starts.now a.rows.now.children.now))
 
 pub turn-l-requires : goal.turn-l-requires
@@ -22,9 +22,9 @@ turn-l-requires c =
     let a = c.args in
     let l = c.loop-i in
     let k = c.next_marked-i in
-    let all-asked = walk-asks a.rows.now a.users.now k.new.marks.rows k.new.marks.blocks (state_of a.costs.now a.ranks.now a.last)
+    let all-asked = walk-asks a.rows.now a.users.now l.marks.rows.now k.new.blocks (state_of a.costs.now a.ranks.now a.last)
     (state_of l.costs l.ranks l.l) k.result
-    (walk-skips (flat_of a.rows.now) (state_of a.costs.now a.ranks.now a.last) (state_of l.costs l.ranks l.l) l.marks.rows l.marks.blocks l.i l.invariant k.new.marks.rows k.new.marks.blocks k.result k.ensures.found k.ensures.rows_kept k.ensures.blocks_len)
+    (walk-skips (flat_of a.rows.now) (state_of a.costs.now a.ranks.now a.last) (state_of l.costs l.ranks l.l) l.marks.rows.now l.marks.blocks.now l.i l.invariant.1 k.new.blocks k.result k.ensures k.auto.blocks)
     c.if-i-rows.false c.requires.outputs_bound c.requires.costs_len c.requires.ready in
     record { last_lt_top = all-asked.0; costs_len = all-asked.1.0; i_in_bounds = all-asked.1.1.0; ready = all-asked.1.1.1.0; room = all-asked.1.1.1.1.0; covered = all-asked.1.1.1.1.1 }
 
@@ -34,7 +34,7 @@ loop-i-smaller c =
     let k = c.next_marked-i in
     omega (
       arith,
-      k.ensures.found.forward,
+      k.ensures.forward,
       c.if-i-rows.false,
       c.requires.ready.flat.few_rows,
     )
@@ -46,12 +46,14 @@ loop-i-preserved c =
     let k = c.next_marked-i in
     let t = c.turn-l in
     let few = c.requires.ready.flat.few_rows in
-    let h = c.if-i-rows.false in
-    walk-goes-on (flat_of a.rows.now)
-    (state_of a.costs.now a.ranks.now a.last) (state_of l.costs l.ranks l.l) k.new.marks.rows
-    k.new.marks.blocks k.result
-    (walk-skips (flat_of a.rows.now) (state_of a.costs.now a.ranks.now a.last) (state_of l.costs l.ranks l.l) l.marks.rows l.marks.blocks l.i l.invariant k.new.marks.rows k.new.marks.blocks k.result k.ensures.found k.ensures.rows_kept k.ensures.blocks_len)
-    (omega (arith, rows-length a.rows.now.outputs.now a.rows.now.heads.now a.rows.now.starts.now a.rows.now.children.now))
-    (omega arith)
-    (state_of t.new.costs t.new.ranks t.result) t.new.marks.rows t.new.marks.blocks t.ensures
-    t.auto.costs t.auto.ranks
+    let h = c.if-i-rows.false in (
+      search,
+      walk-goes-on (flat_of a.rows.now)
+          (state_of a.costs.now a.ranks.now a.last) (state_of l.costs l.ranks l.l) l.marks.rows.now
+          k.new.blocks k.result
+          (walk-skips (flat_of a.rows.now) (state_of a.costs.now a.ranks.now a.last) (state_of l.costs l.ranks l.l) l.marks.rows.now l.marks.blocks.now l.i l.invariant.1 k.new.blocks k.result k.ensures k.auto.blocks)
+          (omega (arith, rows-length a.rows.now.outputs.now a.rows.now.heads.now a.rows.now.starts.now a.rows.now.children.now))
+          (omega arith)
+          (state_of t.new.costs t.new.ranks t.result) t.new.marks.rows.now t.new.marks.blocks.now t.ensures.turned
+          t.auto.costs t.auto.ranks,
+    )

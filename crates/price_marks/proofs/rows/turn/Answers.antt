@@ -14,14 +14,14 @@ relax_row-m-requires c =
     (state_of a.costs.now a.ranks.now a.last) a.i c.requires.i_in_bounds c.requires.costs_len refl c.requires.last_lt_top in
     record { last_lt_top = all-asked.0; costs_len = all-asked.1.0; output_in_bounds = all-asked.1.1.0; children_in = all-asked.1.1.1 }
 
-pub returns-then-m-last : goal.returns-then-m-last
-returns-then-m-last c =
+pub returns-then-m-last-clause-turned : goal.returns-then-m-last-clause-turned
+returns-then-m-last-clause-turned c =
     let a = c.args in
     let r = c.relax_row-m in
     turn-still (length a.ranks.now) a.rows.now
     a.users.now c.requires.ready
-    (state_of a.costs.now a.ranks.now a.last) a.i c.requires.i_in_bounds c.requires.costs_len refl a.marks.now.rows
-    a.marks.now.blocks c.requires.room c.requires.covered
+    (state_of a.costs.now a.ranks.now a.last) a.i c.requires.i_in_bounds c.requires.costs_len refl a.marks.now.rows.now
+    a.marks.now.blocks.now c.requires.room c.requires.covered
     (state_of r.new.costs r.new.ranks r.result) r.ensures c.if-m-last.true
 
 pub mark_from-requires : goal.mark_from-requires
@@ -29,19 +29,19 @@ mark_from-requires c =
     let a = c.args in
     let room = c.requires.room in
     record {
-      room = record { marks_room = length-set a.marks.now.rows a.i 0 ∙ room.marks_room; blocks_room = room.blocks_room };
+      room = record { marks_room = length-set a.marks.now.rows.now a.i 0 ∙ room.marks_room; blocks_room = room.blocks_room };
       links_ok = rw c.from.ensures (mark-asks (length a.ranks.now) a.rows.now a.users.now c.requires.ready
           (state_of a.costs.now a.ranks.now a.last) a.i c.requires.i_in_bounds c.requires.costs_len refl);
     }
 
-pub returns : goal.returns
-returns c =
+pub returns-clause-turned : goal.returns-clause-turned
+returns-clause-turned c =
     let a = c.args in
     let r = c.relax_row-m in
     let m = c.mark_from in
     turn-marks (length a.ranks.now) a.rows.now
     a.users.now c.requires.ready
-    (state_of a.costs.now a.ranks.now a.last) a.i c.requires.i_in_bounds c.requires.costs_len refl a.marks.now.rows
-    a.marks.now.blocks c.requires.room c.requires.covered
-    (state_of r.new.costs r.new.ranks r.result) r.ensures m.new.marks.rows m.new.marks.blocks
+    (state_of a.costs.now a.ranks.now a.last) a.i c.requires.i_in_bounds c.requires.costs_len refl a.marks.now.rows.now
+    a.marks.now.blocks.now c.requires.room c.requires.covered
+    (state_of r.new.costs r.new.ranks r.result) r.ensures m.new.marks.rows.now m.new.marks.blocks.now
     (rw c.from.ensures at m.ensures.marked) m.ensures.room

@@ -12,7 +12,7 @@ pub loop-l-init : goal.loop-l-init
 loop-l-init c =
     let a = c.args in
     going-begins (flat_of a.rows.now) a.costs.now
-    a.ranks.now a.marks.now.rows a.marks.now.blocks c.requires.fresh c.requires.covered c.requires.room
+    a.ranks.now a.marks.now.rows.now a.marks.now.blocks.now c.requires.fresh c.requires.covered c.requires.room
 
 pub one_pass-m-requires : goal.one_pass-m-requires
 one_pass-m-requires c =
@@ -20,7 +20,7 @@ one_pass-m-requires c =
     let l = c.loop-l in
     let all-asked = going-asks (length a.ranks.now) a.rows.now
     a.users.now
-    c.requires.ready (state_of l.costs l.ranks l.l) l.p l.marks.rows l.marks.blocks l.invariant in
+    c.requires.ready (state_of l.costs l.ranks l.l) l.p l.marks.rows.now l.marks.blocks.now l.invariant in
     record { outputs_bound = all-asked.0; costs_len = all-asked.1.0; ready = all-asked.1.1.0; room = all-asked.1.1.1.0; covered = all-asked.1.1.1.1 }
 
 pub overflow_add-p : goal.overflow_add-p
@@ -38,8 +38,8 @@ returns-then-m-l c =
     let r = c.one_pass-m in
     going-ends (length a.ranks.now) a.rows.now
     a.users.now
-    c.requires.ready (state_of l.costs l.ranks l.l) l.p l.marks.rows l.marks.blocks l.invariant
-    (state_of r.new.costs r.new.ranks r.result) r.new.marks.rows r.new.marks.blocks r.ensures
+    c.requires.ready (state_of l.costs l.ranks l.l) l.p l.marks.rows.now l.marks.blocks.now l.invariant
+    (state_of r.new.costs r.new.ranks r.result) r.new.marks.rows.now r.new.marks.blocks.now r.ensures.passed
     c.if-m-l.true
 
 pub loop-l-smaller : goal.loop-l-smaller
@@ -50,8 +50,8 @@ loop-l-smaller c =
     let ok = c.requires.ready in
     let t = state_of r.new.costs r.new.ranks r.result in
     let v = going-goes-on (length a.ranks.now) a.rows.now a.users.now ok (state_of l.costs l.ranks l.l)
-    l.p l.marks.rows l.marks.blocks l.invariant
-    t r.new.marks.rows r.new.marks.blocks r.ensures r.auto.costs r.auto.ranks c.if-m-l.false in
+    l.p l.marks.rows.now l.marks.blocks.now l.invariant
+    t r.new.marks.rows.now r.new.marks.blocks.now r.ensures.passed r.auto.costs r.auto.ranks c.if-m-l.false in
     let few = repeat-few (length a.ranks.now) a.rows.now ok.flat t (l.p + 1) v.repeated in
     omega arith
 
@@ -62,6 +62,6 @@ loop-l-preserved c =
     let r = c.one_pass-m in
     going-goes-on (length a.ranks.now) a.rows.now
     a.users.now
-    c.requires.ready (state_of l.costs l.ranks l.l) l.p l.marks.rows l.marks.blocks l.invariant
-    (state_of r.new.costs r.new.ranks r.result) r.new.marks.rows r.new.marks.blocks r.ensures
+    c.requires.ready (state_of l.costs l.ranks l.l) l.p l.marks.rows.now l.marks.blocks.now l.invariant
+    (state_of r.new.costs r.new.ranks r.result) r.new.marks.rows.now r.new.marks.blocks.now r.ensures.passed
     r.auto.costs r.auto.ranks c.if-m-l.false

@@ -20,6 +20,7 @@ use Rattle.text_counts.proofs.bindings.TableLaws.{
   turning-end,
 }
 use native.Mathlib.Omega.{arith}
+use Rattle.std.proofs.Common.{rules}
 use Rattle.text_counts.proofs.bindings.+meet.Goals as goal
 
 module _ {rs ws places terms indents : List ℕ} {n m i t : ℕ} (r : Ready rs ws places terms indents n m i t) where
@@ -96,23 +97,14 @@ meet-requires t c =
     (omega (arith, c.loop-k-test.true, ap length l.invariant.0)) in
     rw l.invariant.0 (
       omega (arith, k),
-      (
-        record {
-          linked = c.requires.ready.linked;
-          in_wanted = c.requires.ready.in_wanted;
-          in_places = omega (arith, c.requires.ready.in_places, l.invariant.1.places_long);
-          known = omega (arith, k, c.requires.ready.known);
-          deep = omega (arith, k, c.requires.ready.deep);
-          met = l.invariant.1.met;
-        },
-        (
-          l.invariant.1.places_long ∙ c.requires.long.0,
-          (
-            l.invariant.1.terms_long ∙ c.requires.long.1.0,
-            l.invariant.1.indents_long ∙ c.requires.long.1.1,
-          ),
-        ),
-      ),
+      record {
+        linked = c.requires.ready.linked;
+        in_wanted = c.requires.ready.in_wanted;
+        in_places = omega (arith, c.requires.ready.in_places, l.invariant.1.0.places_long);
+        known = omega (arith, k, c.requires.ready.known);
+        deep = omega (arith, k, c.requires.ready.deep);
+        met = l.invariant.1.0.met;
+      },
     )
 
 pub loop-k-preserved : goal.loop-k-preserved
@@ -124,24 +116,27 @@ loop-k-preserved t c =
     let q = c.meet in
     let d = rw l.invariant.0 at q.ensures.done in (
       l.invariant.0,
-      turning-again (kids_at c.args.records.now) (wanted_at c.args.wanted.now) c.args.n
-          c.requires.ready.linked.lower c.args.i c.args.t (kids c.requires.ready) c.args.found.now.places
-          c.args.found.now.terms
-          c.args.found.now.indents c.args.found.now.count l.found.places l.found.terms l.found.indents l.found.count
-          l.k-index l.invariant.1
-          q.new.found.places q.new.found.terms q.new.found.indents q.new.found.count low k c.requires.ready.known
-          (q.ensures.long.0 ∙ sym (l.invariant.1.places_long ∙ c.requires.long.0))
-          (q.ensures.long.1.0 ∙ sym (l.invariant.1.terms_long ∙ c.requires.long.1.0))
-          (q.ensures.long.1.1 ∙ sym (l.invariant.1.indents_long ∙ c.requires.long.1.1)) d.met d.same,
+      (
+        turning-again (kids_at c.args.records.now) (wanted_at c.args.wanted.now) c.args.n
+            c.requires.ready.linked.lower c.args.i c.args.t (kids c.requires.ready) c.args.found.now.places.now
+            c.args.found.now.terms.now c.args.found.now.indents.now c.args.found.now.count
+            l.found.places.now l.found.terms.now l.found.indents.now l.found.count
+            l.k-index l.invariant.1.0
+            q.new.found.places.now q.new.found.terms.now q.new.found.indents.now q.new.found.count
+            low k c.requires.ready.known
+            q.ensures.long.places q.ensures.long.terms q.ensures.long.indents d.met d.same,
+        search rules,
+      ),
     )
 
 pub returns-then-wanted-t-eq0-clause-done : goal.returns-then-wanted-t-eq0-clause-done
 returns-then-wanted-t-eq0-clause-done t c =
     let l = c.loop-k in
     record {
-      met = l.invariant.1.met;
+      met = l.invariant.1.0.met;
       same =
-          turned c.requires.ready l.found.places l.found.terms l.found.indents l.found.count l.k-index l.invariant.1
+          turned c.requires.ready l.found.places.now l.found.terms.now l.found.indents.now l.found.count l.k-index
+          l.invariant.1.0
           (omega (arith, c.loop-k-test.false, ap length l.invariant.0))
           ∙ sym (is-unwanted c.requires.ready c.if-found-t-gt0.false c.if-wanted-t-eq0.true);
     }
@@ -151,9 +146,9 @@ bounds-found-b t c =
     let l = c.loop-k in
     omega (
       arith,
-      room c.requires.ready l.found.places l.found.terms l.found.indents l.found.count l.k-index l.invariant.1,
-      l.invariant.1.terms_long,
-      c.requires.long.1.0,
+      room c.requires.ready l.found.places.now l.found.terms.now l.found.indents.now l.found.count l.k-index
+          l.invariant.1.0,
+      l.invariant.1.0.terms_long,
     )
 
 pub bounds-found-b-2 : goal.bounds-found-b-2
@@ -161,25 +156,25 @@ bounds-found-b-2 t c =
     let l = c.loop-k in
     omega (
       arith,
-      room c.requires.ready l.found.places l.found.terms l.found.indents l.found.count l.k-index l.invariant.1,
-      l.invariant.1.terms_long,
-      c.requires.long.1.0,
+      room c.requires.ready l.found.places.now l.found.terms.now l.found.indents.now l.found.count l.k-index
+          l.invariant.1.0,
+      l.invariant.1.0.terms_long,
     )
 
 pub returns-clause-done : goal.returns-clause-done
 returns-clause-done t c =
     let l = c.loop-k in
-    let k : c.args.t < length l.found.places =
-    omega (arith, c.requires.ready.known, c.requires.ready.in_places, l.invariant.1.places_long) in
+    let k : c.args.t < length l.found.places.now =
+    omega (arith, c.requires.ready.known, c.requires.ready.in_places, l.invariant.1.0.places_long) in
     record {
       met =
-          met-more l.found.places l.found.terms l.found.indents l.found.count c.args.t c.args.i l.invariant.1.met k
-          l.invariant.1.out;
+          met-more l.found.places.now l.found.terms.now l.found.indents.now l.found.count c.args.t c.args.i
+          l.invariant.1.0.met k l.invariant.1.0.out;
       same =
-          bounds-more l.found.places l.found.terms l.found.indents l.found.count c.args.t c.args.i
-          l.invariant.1.met k l.invariant.1.out
+          bounds-more l.found.places.now l.found.terms.now l.found.indents.now l.found.count c.args.t c.args.i
+          l.invariant.1.0.met k l.invariant.1.0.out
           ∙ (ap (λ (x : List Bound). x ++ one c.args.t c.args.i)
-          (turned c.requires.ready l.found.places l.found.terms l.found.indents l.found.count l.k-index
-          l.invariant.1 (omega (arith, c.loop-k-test.false, ap length l.invariant.0)))
+          (turned c.requires.ready l.found.places.now l.found.terms.now l.found.indents.now l.found.count l.k-index
+          l.invariant.1.0 (omega (arith, c.loop-k-test.false, ap length l.invariant.0)))
           ∙ sym (is-wanted c.requires.ready c.if-found-t-gt0.false c.if-wanted-t-eq0.false));
     }

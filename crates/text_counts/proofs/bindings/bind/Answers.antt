@@ -2,30 +2,33 @@
 use Prim.Native.Nat.{◌-◌, ◌<◌}
 use mathlib.Core.Path.{ap, ◌∙◌}
 use Rattle.term_rules.specs.Lent.{kids_at}
-use Rattle.text_counts.specs.Met.{bounds, wanted_at, met_at}
+use Rattle.text_counts.specs.Met.{wanted_at, met_at}
 use Rattle.text_counts.proofs.bindings.TableLaws.{bounds-none}
 use Rattle.text_counts.proofs.bindings.WantedLaws.{wanted-of-marked, bindings-of-met, met-none}
 use native.Mathlib.Omega.{arith}
 use Rattle.text_counts.proofs.bindings.bind.Goals as goal
 
-pub meet-requires-clause-ready : goal.meet-requires-clause-ready
-meet-requires-clause-ready c =
+pub meet-requires : goal.meet-requires
+meet-requires c =
     let b = c.requires.blank in
     record {
-      linked = c.requires.linked;
-      in_wanted =
-          omega (
-            arith,
-            b.in_counts,
-            c.count.auto.counts,
-            c.mark.auto.counts,
-          );
-      in_places = b.in_places;
-      known = omega (arith, c.requires.n_nonzero);
-      deep = omega (arith, c.requires.linked.few);
-      met =
-          met-none c.args.found.now.places c.args.found.now.terms c.args.found.now.indents b.places_zero b.in_terms
-          b.in_indents;
+      ready = record {
+        linked = c.requires.linked;
+        in_wanted =
+            omega (
+              arith,
+              b.in_counts,
+              c.count.auto.counts,
+              c.mark.auto.counts,
+            );
+        in_places = b.in_places;
+        known = omega (arith, c.requires.n_nonzero);
+        deep = omega (arith, c.requires.linked.few);
+        met =
+            met-none c.args.found.now.places.now c.args.found.now.terms.now c.args.found.now.indents.now b.places_zero
+            b.in_terms
+            b.in_indents;
+      };
     }
 
 pub returns-clause-all_met : goal.returns-clause-all_met
@@ -48,7 +51,7 @@ returns-clause-all_met c =
           (met_at (kids_at c.args.records.now)
           (wanted_at
           c.mark.new.counts) 0 (c.args.n - 1))
-          (bounds-none c.args.found.now.terms c.args.found.now.indents)
+          (bounds-none c.args.found.now.terms.now c.args.found.now.indents.now)
           ∙ bindings-of-met (kids_at c.args.records.now) c.args.n c.requires.linked.lower (c.args.n - 1) k
           (wanted_at
           c.mark.new.counts) w);

@@ -1,4 +1,10 @@
 -- `row::child_term` meets its contract: a class by the builder, a literal by itself. Assumes nothing.
+use Prim.Native.Nat.{◌-◌}
+use lib.IntN.{ℤ, pos}
+use lib.ListN.{get_or}
+use mir.Syntax.{w64}
+use mir.ValLaws.{to_z-of_z}
+use Rattle.std.proofs.Common.{rules}
 use Rattle.term_add.specs.Held.{held}
 use Rattle.build.proofs.OwnLaws.{added-of-gains}
 use Rattle.variant_terms.proofs.row.ChildLaws.{kid-of-class, kid-of-value}
@@ -35,20 +41,19 @@ returns-then-x-lt512-clause-made c =
     c.if-x-lt512.true
     c.build.ensures.built
 
-pub literal_term-requires : goal.literal_term-requires
-literal_term-requires c =
-    let p = c.requires in
-    record {
-      sound = p.builder.tracks.formed;
-      i_in_bounds = p.kid.known c.if-x-lt512.false;
-    }
+pub intern_literal-requires : goal.intern_literal-requires
+intern_literal-requires c = c.requires.builder.tracks.formed
 
 pub returns-clause-made : goal.returns-clause-made
 returns-clause-made c =
     let a = c.args in
     let p = c.requires in
+    let z : ℤ = get_or a.plan.now.values.now (a.x - 512) (pos 0) in
+    let g = rw (to_z-of_z w64 z (record {
+      sfits = search rules;
+    })) at c.intern_literal.ensures.gains in
     kid-of-value p.rank a.plan.now.rows.now a.plan.now.edges.now a.ranks.now a.plan.now.labels.now
     a.plan.now.values.now a.memo.now
     (held a.store.now) p.builder a.x p.kid
     _
-    c.if-x-lt512.false (added-of-gains a.memo.now (held a.store.now) _ _ _ c.literal_term.ensures.gains)
+    c.if-x-lt512.false (added-of-gains a.memo.now (held a.store.now) _ _ _ g)

@@ -9,8 +9,8 @@ use Rattle.term_add.proofs.AppendLaws.{add-new-literal}
 use Rattle.term_add.proofs.HeldLaws.{gains-as, gains-there, literal-gains-none, literal-gains}
 use Rattle.term_add.proofs.store_mut.StoreMut.intern_literal.Goals as goal
 
-pub returns-in-Some-clause-gains : goal.returns-in-Some-clause-gains
-returns-in-Some-clause-gains c =
+pub returns-clause-gains : goal.returns-clause-gains
+returns-clause-gains c =
     let e = to_z-of_z w64 c.args.literal c.ranges.literal in
     gains-there (held c.args.self.now) (literal c.args.literal)
     (sym (rw (e, c.read.ensures) at c.find_literal.ensures) ∙ c.in-Some.is)
@@ -23,8 +23,8 @@ returns-then-not-has_room-clause-gains c =
     (sym (rw (e, c.read.ensures) at c.find_literal.ensures) ∙ c.in_default.is))
     (literal-gains-none (held c.args.self.now) c.args.literal (sym c.has_room.ensures ∙ c.if-not-has_room.true))
 
-pub returns-clause-gains : goal.returns-clause-gains
-returns-clause-gains c =
+pub returns-in_default-clause-gains : goal.returns-in_default-clause-gains
+returns-in_default-clause-gains c =
     let e = to_z-of_z w64 c.args.literal c.ranges.literal in
     gains-as
     (add-new-literal (held c.args.self.now) c.args.literal

@@ -19,8 +19,8 @@ use Rattle.term_add.proofs.store_mut.StoreMut.symbol_for.Goals as goal
 found : (n : List ℕ) {r : Option ℕ} {s t : Store} → r ≡ find_symbol s n → s ≡ t → r ≡ find_symbol t n
 found n e d = e ∙ ap (λ (x : Store). find_symbol x n) d
 
-pub returns-in-Some-clause-named : goal.returns-in-Some-clause-named
-returns-in-Some-clause-named c =
+pub returns-clause-named : goal.returns-clause-named
+returns-clause-named c =
     names-old (held c.args.self.now) c.args.name.now _ (sym (found c.args.name.now c.find_symbol.ensures c.read.ensures) ∙ c.in-Some.is)
 
 pub returns-then-not-has_name_room-clause-named : goal.returns-then-not-has_name_room-clause-named
@@ -35,8 +35,8 @@ put-requires-clause-has_entry c =
     (sym c.has_name_room.ensures ∙ c.if-not-has_name_room.false) in
     omega (arith, r.1)
 
-pub returns-clause-named : goal.returns-clause-named
-returns-clause-named c =
+pub returns-in_default-clause-named : goal.returns-in_default-clause-named
+returns-in_default-clause-named c =
     rw c.put.ensures (
     names-new (held c.args.self.now) c.args.name.now
     (sym (found c.args.name.now c.find_symbol.ensures c.read.ensures) ∙ c.in_default.is)

@@ -1,10 +1,10 @@
--- `row::row_term` meets its contract. The loop's invariant is `Turn`: the children before place j are built as
+-- `row::grow_row` meets its contract. The loop's invariant is `Turn`: the children before place j are built as
 -- the definition builds them. Assumes nothing.
 use Rattle.term_add.specs.Held.{held, SameLoans}
 use Rattle.build.specs.Plan.{plan_in}
 use Rattle.build.specs.Building.{state}
 use Rattle.variant_terms.proofs.row.TurnLaws.{Turn}
-use Rattle.variant_terms.proofs.row.row_term.Given as goal
+use Rattle.variant_terms.proofs.row.grow_row.Given as goal
 
 abbrev pub invariant-loop-j : goal.invariant-loop-j
 invariant-loop-j l = SameLoans l.initial.store l.store

@@ -1,7 +1,10 @@
--- `build::build` meets its contract. It calls itself on each child class at a level one lower: the level is the
+-- `build::grow_class` meets its contract. It calls itself on each child class at a level one lower: the level is the
 -- measure. The loop's invariant is `Turn`: the children before j are built as the definition builds them. Assumes
 -- nothing.
 use native.Mathlib.Omega.{arith}
+use Rattle.std.proofs.Common.{rules}
+use mir.Syntax.{w64}
+use mir.ValLaws.{to_z-of_z}
 use Prim.Native.Nat.{ℕ, ◌-◌, ◌<◌, ◌≤◌}
 use mathlib.Core.Path.{◌≡◌, refl, sym, ap, ◌∙◌}
 use mathlib.Core.List.{List}
@@ -15,8 +18,8 @@ use Rattle.build.specs.Building.{State, state}
 use Rattle.build.proofs.OwnLaws.{added-of-gains, same-loans}
 use Rattle.build.proofs.PlanLaws.{child_of-class, child_of-value, children-few, ranked-of-planned}
 use Rattle.build.proofs.TurnLaws.{Arrives, exact-of-kept, made-of-class, made-of-value, turn-go, turn-stop, turn_end}
-use Rattle.build.proofs.+build.Goals as goal
-use Rattle.build.proofs.+build.Goals.{Joined-x-lt512, then-x-lt512, else-x-lt512}
+use Rattle.build.proofs.+grow_class.Goals as goal
+use Rattle.build.proofs.+grow_class.Goals.{Joined-x-lt512, then-x-lt512, else-x-lt512}
 
 -- the child came, by either arm
 build-child :
@@ -54,8 +57,8 @@ build-child t c =
           (record {
             made =
                 made-of-class q ready.rank ranked a.level at l.invariant.1.1.1.tracks _ x (d.ranked u)
-                (omega (arith, d.falls u, ready.enough)) (rw e at w.build-built.ensures.built);
-            memo = w.build-built.auto.memo;
+                (omega (arith, d.falls u, ready.enough)) (rw e at w.grow_class-built.ensures.built);
+            memo = w.grow_class-built.auto.memo;
           })
       | else-x-lt512 w ↦
           let u : 512 ≤ x = rw e at w.if-x-lt512.false in
@@ -64,7 +67,13 @@ build-child t c =
             made =
                 made-of-value q ready.rank ranked a.level at l.invariant.1.1.1.tracks _
                 (get_or a.plan.now.values.now (x - 512) (pos 0))
-                (added-of-gains l.memo (held l.store) _ _ _ (rw e at w.literal_term-built.ensures.gains));
+                (added-of-gains l.memo (held l.store) _ _ _
+                (rw (
+                  e,
+                  to_z-of_z w64 (get_or a.plan.now.values.now (x - 512) (pos 0)) (record {
+                    sfits = search rules;
+                  }),
+                ) at w.intern_literal-built.ensures.gains));
             memo = refl;
           })
     ]
@@ -72,8 +81,8 @@ build-child t c =
 -- the same slices are lent after it
 child-loans : (t : ℕ) (c : Joined-x-lt512 t) → SameLoans c.loop-j.store c.if-x-lt512.store
 child-loans t c = elim c.if-x-lt512.branch [
-  | then-x-lt512 w ↦ rw w.store-is w.build-built.ensures.loans
-  | else-x-lt512 w ↦ rw w.store-is w.literal_term-built.ensures.loans
+  | then-x-lt512 w ↦ rw w.store-is w.grow_class-built.ensures.loans
+  | else-x-lt512 w ↦ rw w.store-is w.intern_literal-built.ensures.loans
 ]
 
 pub returns-in_err-term-clause-loans : goal.returns-in_err-term-clause-loans
@@ -158,8 +167,8 @@ overflow_sub-level t c =
     let u = rw e at c.if-x-lt512.true in
     omega (arith, d.falls u, c.requires.enough)
 
-pub build-built-requires : goal.build-built-requires
-build-built-requires t c =
+pub grow_class-built-requires : goal.grow_class-built-requires
+grow_class-built-requires t c =
     let a = c.args in
     let p = c.requires.planned _ c.requires.ranked in
     let l = c.loop-j in
@@ -183,22 +192,8 @@ build-built-requires t c =
           }),
     )
 
-pub literal_term-built-requires : goal.literal_term-built-requires
-literal_term-built-requires t c =
-    let a = c.args in
-    let p = c.requires.planned _ c.requires.ranked in
-    let l = c.loop-j in
-    let h : l.j < length (children_at a.plan.now.rows.now (get_or a.plan.now.edges.now a.c 0)) = omega (
-      arith,
-      c.loop-j-test.true,
-      ap length l.invariant.1.0,
-    ) in
-    let e = c.from-x.ensures ∙ ap (λ (ks : List ℕ). get_or ks l.j 0) l.invariant.1.0 in
-    let d = p.child l.j h in
-    record {
-      sound = l.invariant.1.1.1.tracks.formed;
-      i_in_bounds = rw e (d.known (rw e at c.if-x-lt512.false));
-    }
+pub intern_literal-built-requires : goal.intern_literal-built-requires
+intern_literal-built-requires t c = c.loop-j.invariant.1.1.1.tracks.formed
 
 pub returns-in_err-term-clause-built : goal.returns-in_err-term-clause-built
 returns-in_err-term-clause-built t c =

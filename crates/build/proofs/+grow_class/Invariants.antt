@@ -1,4 +1,4 @@
--- `build::build` meets its contract. It calls itself on each child class at a level one lower: the level is the
+-- `build::grow_class` meets its contract. It calls itself on each child class at a level one lower: the level is the
 -- measure. The loop's invariant is `Turn`: the children before j are built as the definition builds them. Assumes
 -- nothing.
 use mathlib.Core.Path.{◌≡◌}
@@ -8,7 +8,7 @@ use Rattle.term_add.specs.Held.{held, SameLoans}
 use Rattle.build.specs.Plan.{plan_in}
 use Rattle.build.specs.Building.{state}
 use Rattle.build.proofs.TurnLaws.{Turn}
-use Rattle.build.proofs.+build.Given as goal
+use Rattle.build.proofs.+grow_class.Given as goal
 
 abbrev pub invariant-loop-j : goal.invariant-loop-j
 invariant-loop-j l = (l.i ≡ get_or l.plan.edges.now l.c 0)
@@ -18,5 +18,5 @@ invariant-loop-j l = (l.i ≡ get_or l.plan.edges.now l.c 0)
     (state l.initial.memo (held l.initial.store)) (state l.memo (held l.store))
     l.children l.j))
 
-abbrev pub decreases-build : goal.decreases-build
-decreases-build l = l.level
+abbrev pub decreases-grow_class : goal.decreases-grow_class
+decreases-grow_class l = l.level
