@@ -99,11 +99,11 @@ enum needlevale_refusal {
  * 1,024 deep, a table 512 classes deep, the longest file, a full store), a tenth more, and 12 KiB for the thread
  * itself. Measured and tested, not proved: scripts/stacks measures and writes these lines, and holds them to the
  * library. A call from a thread that goes on needs as much of its stack to be free. */
-#define NEEDLEVALE_STACK_ANSWER 688128
+#define NEEDLEVALE_STACK_ANSWER 618496
 #define NEEDLEVALE_STACK_READ 139264
 #define NEEDLEVALE_STACK_ADD_LITERAL_FLAT 32768
-#define NEEDLEVALE_STACK_BEST 749568
-#define NEEDLEVALE_STACK_VARIANTS 778240
+#define NEEDLEVALE_STACK_BEST 716800
+#define NEEDLEVALE_STACK_VARIANTS 585728
 #define NEEDLEVALE_STACK_PLAIN_TEXT 307200
 #define NEEDLEVALE_STACK_LET_TEXT 344064
 #define NEEDLEVALE_STACK_SIZE 147456
@@ -118,7 +118,7 @@ enum needlevale_refusal {
 #define NEEDLEVALE_STACK_ADD_APPLICATION 258048
 
 /* The same for every call. */
-#define NEEDLEVALE_STACK 778240
+#define NEEDLEVALE_STACK 716800
 
 /* ---- The program */
 

@@ -37,7 +37,7 @@ use Rattle.extract.proofs.VariantFacts.ToldLaws.{
   literal-told,
 }
 use Rattle.extract.specs.Promises.{ClassRoot, BaseRoot, BaseOutcome, PassCount, Promises}
-use Rattle.extract.proofs.RootLaws.{best-fault}
+use Rattle.table_roots.proofs.RootLaws.{best-fault}
 use Rattle.extract.proofs.VerdictLaws.{
   no-term-then,
   no-term-when,

@@ -45,7 +45,7 @@ use Rattle.answer_rules.proofs.BestLaws.{DemandThree, demand_three}
 use Rattle.extract.proofs.LiteralLaws.{literal-fits, literal-full}
 use Rattle.extract.proofs.VariantFacts.OutcomeLaws.{not-refused, same_number, same-value}
 use Rattle.extract.specs.Promises.{Holding, ClassRoot, BaseRoot, PassCount, BaseOutcome}
-use Rattle.extract.proofs.RootLaws.{sort-below, value-in-sort, root_in, best-fault, best-bad, best-rooted}
+use Rattle.table_roots.proofs.RootLaws.{sort-below, value-in-sort, root_in, best-fault, best-bad, best-rooted}
 use Rattle.best_root.proofs.SingleLaws.{unformed-refuses, formed-is}
 use Rattle.extract.proofs.VerdictLaws.{found-then, number-told}
 

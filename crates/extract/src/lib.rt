@@ -100,63 +100,28 @@ pub fn variants(
         (lending (held store.old)
         costs.old found.old) }
 {
-    let mut table = Table::empty();
-    let mut order: [u64; 1024] = [0; 1024];
-    let mut flat: [u64; 1024] = [0; 1024];
-    let mut heads: [u64; 1024] = [0; 1024];
-    let mut starts: [usize; 1025] = [0; 1025];
-    let mut children: [u64; 8192] = [0; 8192];
-    let loaded = table_rows::load(
+    let mut rows = [0u16; table_layout::ROWS];
+    let mut ranks = [0u64; 512];
+    let mut edges = [0u16; 512];
+    let mut prices = [0u64; 1024];
+    let mut list = [0u64; 1024];
+    let mut labels = [0u8; name::TABLE];
+    let mut values = [0i64; 512];
+    let root = table_roots::choose_rows(
         file,
         sort,
         value,
-        &mut table,
-        &mut order,
-        &mut flat,
-        &mut heads,
-        &mut starts,
-        &mut children,
+        most,
+        &store.lent(),
+        &mut rows,
+        &mut ranks,
+        &mut edges,
+        &mut prices,
+        &mut list,
+        &mut labels,
+        &mut values,
     )?;
-    match loaded {
-        Loaded::Literal(i) => {
-            let terms = store.terms;
-            let symbols = store.symbols;
-            let records = &mut *store.records;
-            let literals = &mut *store.literals;
-            let names = &mut *store.names;
-            let counted = variants_root::of_literal(
-                &table.literals,
-                i,
-                records,
-                literals,
-                names,
-                terms,
-                symbols,
-                costs,
-                found,
-            )?;
-            store.terms = counted.terms;
-            store.symbols = counted.symbols;
-            Ok(counted.kept)
-        }
-        Loaded::Class { class, flat: laid } => variants_root::of_class(
-            &flat,
-            &heads,
-            &starts,
-            &children,
-            &order,
-            &table.rows.functions,
-            &table.functions.names,
-            &table.literals,
-            &table.rows.cells,
-            class,
-            laid.rows,
-            laid.children,
-            laid.classes,
-            most,
-            store,
-            costs,
-            found,
-        ),
-    }
+    table_roots::answer_rows(
+        root, &rows, &ranks, &edges, &prices, &list, &labels, &values, store, costs, found,
+    )
 }

@@ -1,7 +1,8 @@
 // Names and symbol tables: which names are valid, where a name stands, and how one is put there.
 #![tactic(auto)]
 
-ghost use Rattle.std.specs.Prelude.{◌≡◌, true, false, ℕ, ◌≤◌, length, get_or};
+ghost use Rattle.std.specs.Prelude.{◌≡◌, true, false, ℕ, ◌+◌, ◌≤◌, length, get_or, take, drop};
+ghost use Rattle.std.specs.Int.{w64, from_le_bytes};
 ghost use Rattle.name.specs.Name.{allowed, all_allowed, valid, same};
 ghost use Rattle.name.specs.Entries.{
   entries_length,
@@ -86,8 +87,17 @@ pub fn padding_of(table: &[u8], k: usize) -> &[u8]
     &table[at + 1 + length_of(table, k)..at + WIDTH]
 }
 
-// Whether `a` and `b` have the same bytes. Names often begin alike and differ at the end, so the last two bytes come
-// first.
+// The eight bytes of `s` from `at` on, as one number.
+fn word_at(s: &[u8], at: usize) -> u64
+    requires { at + 8 ≤ length s.now }
+    ensures { result ≡ from_le_bytes w64 (take 8 (drop at s.now)) }
+{
+    let b = &s[at..at + 8];
+    u64::from_le_bytes([b[0], b[1], b[2], b[3], b[4], b[5], b[6], b[7]])
+}
+
+// Whether `a` and `b` have the same bytes. Names often begin alike and differ at the end, or the other way round: short
+// ones are compared from the end on, and of long ones the last eight bytes, the first eight, and then all.
 pub fn are_same(a: &[u8], b: &[u8]) -> bool
     ensures { result ≡ same a.now b.now }
 {
@@ -95,10 +105,18 @@ pub fn are_same(a: &[u8], b: &[u8]) -> bool
     if n != b.len() {
         return false;
     }
-    if 0 < n && a[n - 1] != b[n - 1] {
+    if n < 8 {
+        for i in (0..n).rev() {
+            if a[i] != b[i] {
+                return false;
+            }
+        }
+        return true;
+    }
+    if word_at(a, n - 8) != word_at(b, n - 8) {
         return false;
     }
-    if 1 < n && a[n - 2] != b[n - 2] {
+    if word_at(a, 0) != word_at(b, 0) {
         return false;
     }
     a == b

@@ -4,11 +4,15 @@ use mathlib.Core.Path.{◌≡◌, sym, ap, subst, ◌∙◌}
 use mathlib.Core.Bool.{true}
 use mathlib.Core.List.{List}
 use Prim.Native.Nat.{ℕ}
+use native.Mathlib.Omega.{arith}
+use borrow.Author.Tests.{le-leb}
+use lib.IntN.{ℤ, pos}
 use lib.ListN.{length, replicate}
+use Rattle.name.specs.Entries.{table_length}
 use Rattle.refusal.specs.declared.Refusal.{Refusal}
 use Rattle.refusal.specs.Numbers.{refusal_no}
-use Rattle.term_rules.specs.Lent.{Store}
-use Rattle.term_rules.specs.WellFormed.{well_formed}
+use Rattle.term_rules.specs.Lent.{Store, store, records_length, term_room, symbol_room}
+use Rattle.term_rules.specs.WellFormed.{well_formed, every}
 use Rattle.answer_rules.specs.Answers.{Answer, value, refusal}
 use Rattle.answer_rules.specs.Variants.{VariantsAfter, Lending, variants_at}
 use Rattle.program.specs.Replies.{Within}
@@ -38,6 +42,16 @@ kept_as k p s paid found =
 
 abbrev pub refused_as : Refusal → Store → List ℕ → List ℕ → VariantsAfter
 refused_as r s paid found = record { answer = refusal (refusal_no r); store = s; costs = paid; terms = found }
+
+-- a store without a term and without a name is well formed, whatever is lent
+pub none-formed : (rs : List ℕ) (ls : List ℤ) (ns : List ℕ) → well_formed (store rs ls ns 0 0) ≡ true
+unfolding well_formed every
+none-formed rs ls ns =
+    let s : Store = store rs ls ns 0 0 in
+    rw (le-leb 0 (term_room s) (omega arith), le-leb 0 (symbol_room s) (omega arith))
+
+pub start-formed : well_formed start ≡ true
+start-formed = none-formed (replicate (records_length 1024) 0) (replicate 1024 (pos 0)) (replicate table_length 0)
 
 module _ (file : List ℕ) (sort v n : ℕ) (out : List ℕ) where
   told-by :

@@ -3,3 +3,4 @@ pub mod Replies
 pub mod BestReply
 pub mod VariantsReply
 pub mod Promises
+pub mod Chosen

@@ -6,17 +6,20 @@ ghost use Rattle.decimal.specs.Written.{Wrote};
 ghost use Rattle.program_rules.specs.Query.{asked};
 ghost use Rattle.program_rules.specs.Reply.{best_call, variants_call, call_of, reply, replied, responded, in_room, put_in};
 ghost use Rattle.program_rules.specs.Seen.{seen};
+ghost use Rattle.program.specs.Chosen.{FileChosen, FileTold};
 
 use program_rules::{headlines, queries};
 use refusal::Refusal;
+use table_roots::Chosen;
 use term_add::store_mut::StoreMut;
+use term_layout::lent::Lent;
 
 mod variant_lines; // variant_lines.rt: the answers of variants, one after the other: their length, and their bytes
 mod best_reply; // best_reply.rt: the text of an answer of best in a lent buffer: the line, the term's text, a newline
 mod variants_reply; // variants_reply.rt: the text of an answer of variants in a lent buffer: its length first, then its bytes
 
-// Best of a file into a store that starts empty, and its text. Like `variants_of` it stays a function of its own in what is
-// built: in one frame the arrays of both would stand beside each other.
+// Best of a file into a store that starts empty, and its text. Like `variants_of` it stays a function of its own in what
+// is built: in one frame the arrays of both would stand beside each other.
 #[inline(never)]
 fn best_of(
     plain: bool,
@@ -42,18 +45,23 @@ fn best_of(
     best_reply::put(plain, out, &store.read(), best.cost, best.term, best.passes)
 }
 
-// Variants of a file into a store and lists that start empty, and their texts.
+// The texts of the variants that were chosen, over a store and lists that start empty. They are this function's own, so
+// that they do not stand beside the arrays that a table is read into.
 #[inline(never)]
-fn variants_of(
-    file: &[u8],
-    sort: u64,
-    value: u64,
-    most: u64,
+fn put_chosen(
+    root: Chosen,
+    rows: &[u16; table_layout::ROWS],
+    ranks: &[u64; 512],
+    edges: &[u16; 512],
+    prices: &[u64; 1024],
+    list: &[u64; 1024],
+    labels: &[u8; name::TABLE],
+    values: &[i64; 512],
     out: &mut [u8],
 ) -> Result<usize, Refusal>
-    ensures { seen result out.new
-        ≡ put_in (in_room (length out.old) (variants_call file.now sort value most))
-        out.old }
+    requires { FileChosen root rows.now edges.now ranks.now labels.now values.now prices.now list.now }
+    ensures { FileTold root rows.now edges.now ranks.now labels.now values.now prices.now list.now out.old
+        (seen result out.new) }
 {
     let mut records = [0u64; term_layout::RECORDS];
     let mut literals = [0i64; 1024];
@@ -67,16 +75,56 @@ fn variants_of(
         terms: 0,
         symbols: 0,
     };
-    let kept = extract::variants(
+    let kept = table_roots::answer_rows(
+        root, rows, ranks, edges, prices, list, labels, values, &mut store, &mut paid, &mut found,
+    )?;
+    variants_reply::put(out, &store.read(), &paid, &found, kept.count, kept.passes)
+}
+
+// Variants of a file, and their texts. Its rows are chosen for a store without a term.
+#[inline(never)]
+fn variants_of(
+    file: &[u8],
+    sort: u64,
+    value: u64,
+    most: u64,
+    out: &mut [u8],
+) -> Result<usize, Refusal>
+    ensures { seen result out.new
+        ≡ put_in (in_room (length out.old) (variants_call file.now sort value most))
+        out.old }
+{
+    let mut rows = [0u16; table_layout::ROWS];
+    let mut ranks = [0u64; 512];
+    let mut edges = [0u16; 512];
+    let mut prices = [0u64; 1024];
+    let mut list = [0u64; 1024];
+    let mut labels = [0u8; name::TABLE];
+    let mut values = [0i64; 512];
+    let none = Lent {
+        records: &[],
+        literals: &[],
+        names: &[],
+        terms: 0,
+        symbols: 0,
+    };
+    let root = table_roots::choose_rows(
         file,
         sort,
         value,
         most as usize,
-        &mut store,
-        &mut paid,
-        &mut found,
+        &none,
+        &mut rows,
+        &mut ranks,
+        &mut edges,
+        &mut prices,
+        &mut list,
+        &mut labels,
+        &mut values,
     )?;
-    variants_reply::put(out, &store.read(), &paid, &found, kept.count, kept.passes)
+    put_chosen(
+        root, &rows, &ranks, &edges, &prices, &list, &labels, &values, out,
+    )
 }
 
 // The call that the mode asks for.

@@ -32,7 +32,7 @@ module _ (p : Plan) (d : ℕ) (name : ℕ → List ℕ) (kids : ℕ → List Chi
       later s'.lent h (rows_in p d name kids s' (ts ++ (u ∷ [])) rows) (on s' (ts ++ (u ∷ [])))
   next-long rows s ts on (full me rs ls ns) h = h
 
-  rows-long : (rows : List ℕ) (s : State) (ts : List ℕ) → LongOut s.lent (rows_in p d name kids s ts rows)
+  pub rows-long : (rows : List ℕ) (s : State) (ts : List ℕ) → LongOut s.lent (rows_in p d name kids s ts rows)
   unfolding rows_in
   rows-long [] s ts = same s.lent
   rows-long (i ∷ rows) s ts =

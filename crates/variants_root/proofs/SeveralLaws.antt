@@ -1,14 +1,16 @@
 -- Each answer of the code is the definition's. Assumes nothing.
-use mathlib.Core.Path.{◌≡◌, refl, ap, sym, ◌∙◌, subst}
+use mathlib.Core.Path.{◌≡◌, refl, ap, sym, ◌∙◌}
 use mathlib.Core.Bool.{true, false}
 use mathlib.Core.List.{List, [], ◌∷◌}
 use Prim.Native.Nat.{ℕ, ◌<◌, ◌≤◌}
 use native.Mathlib.Omega.{arith}
 use borrow.Author.Tests.{le-leb, lt-leb}
 use lib.IntN.{ℤ}
-use lib.ListN.{length, set}
+use lib.ListN.{length, set, take}
 use lib.Seq.{paste}
 use Rattle.refusal.specs.declared.Refusal.TheVariants.{NoRoom, BadStore}
+use Rattle.price.specs.Solved.{Blank}
+use Rattle.price.proofs.ZeroLaws.{zeros, take-zeros-length, blank-lists}
 use Rattle.term_rules.specs.Lent.{Store, store}
 use Rattle.term_rules.specs.WellFormed.{well_formed}
 use Rattle.term_rules.specs.Nodes.{literal}
@@ -25,8 +27,9 @@ use Rattle.answer_rules.specs.Variants.{
   room_for_results,
 }
 use Rattle.variant_answers.specs.Kept.{lending}
-use Rattle.variants_root.specs.Flat.{VariantsReady}
-use Rattle.variants_root.specs.Several.{seen_variants, if_formed, literal_answer}
+use Rattle.variants_root.specs.Several.{seen_variants, if_formed, literal_answer, LaidTable}
+use Rattle.variants_root.specs.Chosen.{Picks, ZeroRanks}
+use Rattle.variants_root.specs.declared.Choice.{Choice}
 
 -- "17": by what the store is.
 module _ (l : Lending) (a : VariantsAfter) where
@@ -111,20 +114,41 @@ module _ (s : Store) (ws ts : List ℕ) (z : ℤ) (formed : well_formed s ≡ tr
         ∙ ap (variant_literal l) a
         ∙ formed-is l (variant_literal l (add s (literal z))) formed
 
-pub few_classes :
-    {outputs heads starts children order functions labels : List ℕ} {values : List ℤ} {cells : List ℕ} {n : ℕ}
-    {s : Store} →
-    VariantsReady outputs heads starts children order functions labels values cells n s →
-    n ≤ 512
-few_classes r = omega (arith, r.classes, r.is.is.known.few_classes)
+-- A table has at most 512 classes.
+pub laid-few :
+    {n m w : ℕ} {order flat heads starts children functions labels cells : List ℕ} →
+    LaidTable n m w order flat heads starts children functions labels cells →
+    w ≤ 512
+laid-few r = omega (arith, r.is.classes_are, r.is.is.is.known.few_classes)
 
--- The same lists with their own length for the number of classes.
-pub ready_with :
-    {outputs heads starts children order functions labels : List ℕ} {values : List ℤ} {cells : List ℕ} {n m :
-    ℕ}
-    {s : Store} →
-    n ≡ m →
-    VariantsReady outputs heads starts children order functions labels values cells n s →
-    VariantsReady outputs heads starts children order functions labels values cells m s
-ready_with {outputs} {heads} {starts} {children} {order} {functions} {labels} {values} {cells} {s = s} e r =
-    subst (λ (k : ℕ). VariantsReady outputs heads starts children order functions labels values cells k s) e r
+-- The costs of the call's own are zeros before, and so are the ranks.
+pub blank-ranks :
+    (n : ℕ) (costs ranks edges : List ℕ) →
+    costs ≡ take (length ranks) (zeros n) →
+    length ranks ≤ n →
+    ZeroRanks ranks →
+    length edges ≡ length ranks →
+    Blank (length ranks) costs ranks edges
+blank-ranks n costs ranks edges e h z l = record {
+  fresh = record {
+    long = ap length e ∙ sym (take-zeros-length (length ranks) n h);
+    costs_zero = (blank-lists (length ranks) n costs e h).fresh.costs_zero;
+    ranks_zero = z;
+  };
+  ranks_length = refl;
+  edges_length = l;
+}
+
+-- What is told of a store that is well formed is told after it is checked too.
+pub picks-formed :
+    (rows edges ranks labels : List ℕ) (values : List ℤ) (prices list : List ℕ) (k : Choice) (s : Store)
+    (told : Lending → VariantsAfter) →
+    well_formed s ≡ true →
+    Picks rows edges ranks labels values prices list k s told →
+    Picks rows edges ranks labels values prices list k s (λ (l : Lending). if_formed l (told l))
+picks-formed rows edges ranks labels values prices list k s told formed p = record {
+  room = p.room;
+  ready = p.ready;
+  answers = λ ws ts a x.
+      p.answers ws ts a x ∙ formed-is (lending s ws ts) (told (lending s ws ts)) formed;
+}

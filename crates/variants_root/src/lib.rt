@@ -1,21 +1,29 @@
-// The variants of a root, once a table is laid flat: a literal's one, or a class's, over a lent store.
-// A refusal leaves all that is lent as it was. (src/extract.rs, extract_variants_with_sort)
+// The variants of a root, once a table is laid flat: a literal's one, over a lent store, or what is chosen of a class,
+// which `variant_answers` answers by. A refusal leaves what is lent of the store as it was. (src/extract.rs,
+// extract_variants_with_sort)
 #![tactic(auto)]
 
-ghost use Rattle.std.specs.Prelude.{◌≡◌, ◌<◌, pos, length, get_or};
+ghost use Rattle.std.specs.Prelude.{◌≡◌, ◌<◌, ◌≤◌, pos, length, get_or};
 ghost use Rattle.term_rules.specs.Lent.{store};
-ghost use Rattle.term_add.specs.Held.{held, SameLoans};
+ghost use Rattle.term_rules.specs.WellFormed.{well_formed};
+ghost use Rattle.term_layout.specs.Sound.{lent_of};
 ghost use Rattle.variant_answers.specs.Kept.{lending};
-ghost use Rattle.variants_root.specs.Flat.{VariantsReady, VariantsAnswers};
-ghost use Rattle.variants_root.specs.Several.{seen_variants, seen_counted, literal_answer, SomeTable, ClassAnswers};
+ghost use Rattle.variants_root.specs.Several.{seen_counted, literal_answer, LaidTable};
+ghost use Rattle.variants_root.specs.Chosen.{ZeroRanks, ClassChosen};
 
 use refusal::Refusal;
 use table_layout::pack;
-use term_add::store_mut::StoreMut;
 use term_layout::lent::Lent;
 pub use variant_answers::Kept;
 
-pub mod kept_rows; // kept_rows.rt: the variants of a class, over flat rows: costs and choice, the rows that are kept, then their terms
+pub mod kept_rows; // kept_rows.rt: the rows of a class that are kept, over flat rows: costs and choice, then the rows
+
+// How many rows are kept of a class, and the passes.
+#[derive(Clone, Copy)]
+pub struct Choice {
+    pub count: usize,
+    pub passes: u64,
+}
 
 // What is kept, and how many terms and symbols the store has then.
 #[derive(Clone, Copy)]
@@ -76,64 +84,9 @@ pub fn of_literal(
     })
 }
 
-// The first `most` variants of class `c` of `w`, over flat rows and a well-formed store, on lists of the call's own.
-fn choose(
-    outputs: &[u64],
-    heads: &[u64],
-    starts: &[usize],
-    children: &[u64],
-    order: &[u64],
-    functions: &[u64],
-    labels: &[u8],
-    values: &[i64],
-    cells: &[u64],
-    c: usize,
-    w: usize,
-    most: usize,
-    store: &mut StoreMut,
-    paid: &mut [u64],
-    found: &mut [u64],
-) -> Result<Kept, Refusal>
-    requires { VariantsReady outputs.now heads.now starts.now children.now order.now functions.now
-        labels.now values.now cells.now w
-        (held store.old) }
-    ensures loans { SameLoans store.old store.new }
-    ensures variants { VariantsAnswers outputs.now heads.now starts.now
-        children.now order.now functions.now labels.now
-        values.now cells.now w c most
-        (lending (held store.old)
-        paid.old found.old)
-        (seen_variants result (held store.new)
-        paid.new found.new) }
-{
-    let mut rows = [0u16; table_layout::ROWS];
-    pack::fill(&mut rows, order, functions, outputs, starts, children);
-    let mut costs: [u64; 512] = [0; 512];
-    let mut ranks: [u64; 512] = [0; 512];
-    let mut edges: [u16; 512] = [0; 512];
-    crate::kept_rows::decide(
-        outputs,
-        heads,
-        starts,
-        children,
-        &rows,
-        labels,
-        values,
-        cells,
-        c,
-        most,
-        &mut costs[..w],
-        &mut ranks[..w],
-        &mut edges[..w],
-        store,
-        paid,
-        found,
-    )
-}
-
-// The first `most` variants of class `c`, over the lists that a table was laid in: `n` rows with `m` children, over
-// `w` classes.
-pub fn of_class(
+// What is chosen of class `c` for at most `most` variants, over the lists that a table was laid in: `n` rows with `m`
+// children. A store that is not well formed is refused. `ranks` and `edges` have a place for each class.
+pub fn choose_class(
     flat: &[u64],
     heads: &[u64],
     starts: &[usize],
@@ -141,46 +94,57 @@ pub fn of_class(
     order: &[u64],
     functions: &[u64],
     labels: &[u8],
-    values: &[i64],
     cells: &[u64],
     c: u64,
     n: usize,
     m: usize,
-    w: usize,
     most: usize,
-    store: &mut StoreMut,
-    paid: &mut [u64],
-    found: &mut [u64],
-) -> Result<Kept, Refusal>
-    requires { SomeTable n m w order.now flat.now heads.now starts.now children.now functions.now
-        labels.now values.now cells.now }
-    ensures loans { SameLoans store.old store.new }
-    ensures variants { ClassAnswers n m w order.now flat.now heads.now
-        starts.now children.now functions.now labels.now
-        values.now cells.now c most
-        (lending (held store.old)
-        paid.old found.old)
-        (seen_variants result (held store.new)
-        paid.new found.new) }
+    store: &Lent,
+    rows: &mut [u16],
+    ranks: &mut [u64],
+    edges: &mut [u16],
+    prices: &mut [u64],
+    list: &mut [u64],
+) -> Result<Choice, Refusal>
+    requires table { LaidTable n m (length ranks.old) order.now flat.now heads.now starts.now children.now
+        functions.now labels.now cells.now }
+    requires ranks_zero { ZeroRanks ranks.old }
+    requires as_many_edges { length edges.old ≡ length ranks.old }
+    requires rows_room { length rows.old ≡ 12288 }
+    requires prices_room { 1024 ≤ length prices.old }
+    requires list_room { length list.old ≡ 1024 }
+    ensures { ClassChosen n m (length ranks.old) order.now flat.now heads.now starts.now children.now
+        functions.now labels.now cells.now c most
+        (well_formed (lent_of store.now))
+        result rows.new edges.new ranks.new prices.new list.new }
 {
-    if !term_record::check(&store.lent()) {
+    if !term_record::check(store) {
         return Err(Refusal::BadStore);
     }
-    choose(
+    let w = ranks.len();
+    let mut costs: [u64; 512] = [0; 512];
+    pack::fill(
+        rows,
+        &order[..n],
+        functions,
+        &flat[..n],
+        &starts[..n + 1],
+        &children[..m],
+    );
+    Ok(kept_rows::keep(
         &flat[..n],
         &heads[..n],
         &starts[..n + 1],
         &children[..m],
-        &order[..n],
-        functions,
+        rows,
         labels,
-        values,
         cells,
         c as usize,
-        w,
         most,
-        store,
-        paid,
-        found,
-    )
+        &mut costs[..w],
+        ranks,
+        edges,
+        prices,
+        list,
+    ))
 }

@@ -24,11 +24,11 @@ pub const MOST_NAMES: usize = 128;
 /// The stack of a thread that is to make a call, in bytes, by the call's name: the header's `NEEDLEVALE_STACK_`.
 /// Measured and tested, not proved; `scripts/stacks write` writes these lines.
 pub mod stack {
-    pub const ANSWER: usize = 688128;
+    pub const ANSWER: usize = 618496;
     pub const READ: usize = 139264;
     pub const ADD_LITERAL_FLAT: usize = 32768;
-    pub const BEST: usize = 749568;
-    pub const VARIANTS: usize = 778240;
+    pub const BEST: usize = 716800;
+    pub const VARIANTS: usize = 585728;
     pub const PLAIN_TEXT: usize = 307200;
     pub const LET_TEXT: usize = 344064;
     pub const SIZE: usize = 147456;

@@ -2,7 +2,7 @@
 use mathlib.Core.Path.{ap}
 use lib.ListN.{length}
 use Rattle.decimal.proofs.DigitLaws.{digits-length-low}
-use Rattle.decimal.proofs.SignLaws.{literal_text-of-negative, literal_text-of-nonneg}
+use Rattle.decimal.proofs.SignLaws.{told-negative, told-nonneg}
 use native.Mathlib.Omega.{arith}
 use Rattle.decimal.proofs.literal_length.Goals as goal
 
@@ -15,10 +15,10 @@ returns-then-z-lt0 c =
     omega (
       arith,
       c.digits_length-n.ensures,
-      ap length (literal_text-of-negative c.args.z _ c.ranges.z c.unsigned_abs.ensures.value c.if-z-lt0.true),
+      ap length (told-negative c.args.z _ c.ranges.z c.unsigned_abs.ensures.value c.if-z-lt0.true),
     )
 
 pub returns-else-z-lt0 : goal.returns-else-z-lt0
 returns-else-z-lt0 c =
-    rw (literal_text-of-nonneg c.args.z _ c.ranges.z c.unsigned_abs.ensures.value c.if-z-lt0.false)
+    rw (told-nonneg c.args.z _ c.ranges.z c.unsigned_abs.ensures.value c.if-z-lt0.false)
     c.digits_length-n.ensures

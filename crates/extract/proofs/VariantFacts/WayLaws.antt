@@ -30,19 +30,12 @@ use Rattle.answer_rules.specs.Variants.{
   variants_at,
 }
 use Rattle.table_rules.specs.Rules.Choosing.{prices_for, run_of}
+pub use Rattle.table_roots.proofs.VariantRootLaws.{at-fault, at-bad}
 use Rattle.extract.proofs.VariantFacts.RootLaws.{sort-below}
 use Rattle.extract.proofs.VariantFacts.OutcomeLaws.{Outcome, outcome, LiteralOutcome, literal-outcome}
 
 module _ (file : List ℕ) (root v n : ℕ) (l : Lending) where
-  pub at-fault : (x : Refusal) → table_at file ≡ fault x → variants_at file root v n l ≡ variants_refused x l
-  unfolding variants_at
-  at-fault x e = rw (e, variants_at)
-
   module _ (t : Table) (p : ℕ) (e : table_at file ≡ got t p) where
-    pub at-bad : is_root t root v ≡ false → variants_at file root v n l ≡ variants_refused BadRoot l
-    unfolding variants_at
-    at-bad q = rw (e, q, variants_at)
-
     module _ (q : is_root t root v ≡ true) where
       pub at-unformed : well_formed l.store ≡ false → variants_at file root v n l ≡ variants_refused BadStore l
       unfolding variants_at
@@ -95,7 +88,7 @@ module _ (file : List ℕ) (root v n : ℕ) (l : Lending) where
   way = go (table_at file) refl
     where
       go : (g : Got Table) → table_at file ≡ g → Way
-      go (fault x) e = by_fault x e (at-fault x e)
+      go (fault x) e = by_fault x e (at-fault file root v n l x e)
       go (got t p) e =
           cases (is_root t root v)
           (λ q.
@@ -105,4 +98,4 @@ module _ (file : List ℕ) (root v n : ℕ) (l : Lending) where
           (λ b.
           by_class t (known-of-accepted t (accepted-of file e)) (sort-below t root v q) f (at-class t p e q f b)))
           (λ f. by_store (at-unformed t p e q f)))
-          (λ q. by_root (at-bad t p e q))
+          (λ q. by_root (at-bad file root v n l t p e q))

@@ -5,7 +5,7 @@ use Rattle.std.proofs.lemmas.Result.{err_from_is_err_and}
 use native.Mathlib.Omega.{arith}
 use Rattle.term_add.specs.Held.{held}
 use Rattle.table_rows.proofs.LoadLaws.{blank-of-empty}
-use Rattle.extract.proofs.CallLaws.{space-of, refused-answer, literal-inside, literal-answer, some-class, class-answer}
+use Rattle.table_roots.proofs.CallLaws.{space-of, refused-answer, literal-inside, literal-answer, some-class, class-answer}
 use Rattle.extract.proofs.best.Goals as goal
 
 pub load-requires : goal.load-requires

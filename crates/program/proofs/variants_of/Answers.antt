@@ -1,40 +1,38 @@
--- `program::variants_of` meets its contract: the call's refusal, or the texts of what it kept. Assumes nothing.
-use mathlib.Core.Path.{ap, ◌∙◌}
-use lib.ListN.{length}
+-- `program::variants_of` meets its contract: the refusal of what is chosen, or the texts of it. Assumes nothing.
+use mathlib.Core.Path.{sym, ◌∙◌}
+use lib.ListN.{replicate}
 use Rattle.std.proofs.lemmas.Result.{err_from_is_err_and}
-use Rattle.refusal.specs.Answer.{value}
-use Rattle.term_rules.specs.Lent.{Store}
-use Rattle.program_rules.specs.Reply.{variants_text, in_room, put_in}
-use Rattle.program.proofs.VariantLaws.{variants-refused, variants_kept, variants-return}
+use Rattle.table_roots.proofs.ChosenLaws.{ranks-zero, told-refused}
+use Rattle.program.proofs.CallLaws.{start}
+use Rattle.program.proofs.VariantLaws.{start-formed, none-formed, variants-refused}
 use Rattle.program.proofs.variants_of.Goals as goal
 
-pub read-requires : goal.read-requires
-read-requires c =
-    (variants-return c.args.file.now c.args.sort c.args.value c.args.most _ _ _
-    c.variants.new.costs c.variants.new.found c.in_ok-kept.ensures.variants).0
+pub choose_rows-requires : goal.choose_rows-requires
+choose_rows-requires c = ranks-zero 512
 
-pub put-requires : goal.put-requires
-put-requires c =
-    let all-asked = variants-return c.args.file.now c.args.sort c.args.value c.args.most _ _ _
-    c.variants.new.costs c.variants.new.found c.in_ok-kept.ensures.variants in
-    let n = ap (λ (s : Store). s.terms) c.read.ensures in
-    record { within = rw (← n) at all-asked.1 }
-
-pub returns-in_err-kept : goal.returns-in_err-kept
-returns-in_err-kept c =
+pub returns-in_err-root : goal.returns-in_err-root
+returns-in_err-root c =
+    let g = c.args in
+    let d = c.choose_rows in
     let p = err_from_is_err_and c.from_residual.result c.from_residual.ensures.1 in
     rw (p.1, p.2)
-    (variants-refused c.args.file.now c.args.sort c.args.value c.args.most c.args.out.now _ _ c.variants.new.costs
-    c.variants.new.found c.in_err-kept.ensures.variants)
+    (variants-refused g.file.now g.sort g.value g.most g.out.now _ start (replicate 256 0) (replicate 256 0)
+    (told-refused d.result _ _ _ _ _ _ _ _ _ (d.ensures start (start-formed ∙ sym (none-formed _ _ _))) _
+    c.in_err-root.was (replicate 256 0) (replicate 256 0)))
+
+pub put_chosen-requires : goal.put_chosen-requires
+put_chosen-requires c =
+    let g = c.args in
+    record {
+      file = g.file.now;
+      sort = g.sort;
+      value = g.value;
+      most = g.most;
+      is = λ s f. rw c.in_ok-root.was at (c.choose_rows.ensures s (f ∙ sym (none-formed _ _ _)));
+    }
 
 pub returns : goal.returns
 returns c =
     let g = c.args in
-    let k = c.in_ok-kept.kept in
-    let paid = c.variants.new.costs in
-    let found = c.variants.new.found in
-    variants_kept g.file.now g.sort g.value g.most g.out.now _ _ _ paid found c.put.result c.put.new.out
-    c.in_ok-kept.ensures.variants
-    (c.put.ensures
-    ∙ ap (λ (s : Store). put_in (in_room (length g.out.now) (value (variants_text s paid found k.count k.passes))) g.out.now)
-    c.read.ensures)
+    c.put_chosen.ensures g.file.now g.sort g.value g.most
+    (λ s f. rw c.in_ok-root.was at (c.choose_rows.ensures s (f ∙ sym (none-formed _ _ _))))

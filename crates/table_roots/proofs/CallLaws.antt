@@ -24,8 +24,8 @@ use Rattle.answer_rules.specs.Answers.{After, refused}
 use Rattle.answer_rules.specs.Best.{BestTerm, best_at}
 use Rattle.price.proofs.ZeroLaws.{zeros, zeros-room}
 use Rattle.best_root.specs.Single.{literal_answer, FlatClass, SomeClass, ClassAnswers}
-use Rattle.extract.proofs.TableLaws.{functions-length, labels_length, values_length, value-is, flat-class}
-use Rattle.extract.proofs.RootLaws.{LiteralRoot, ClassRoot, best-refuses, literal-root, class-root}
+use Rattle.table_roots.proofs.TableLaws.{functions-length, labels_length, values_length, value-is, flat-class}
+use Rattle.table_roots.proofs.RootLaws.{LiteralRoot, ClassRoot, best-refuses, literal-root, class-root}
 
 -- Lists of zeros have room for 1,024 rows.
 pub space-of :

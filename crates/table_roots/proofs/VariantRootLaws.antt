@@ -28,12 +28,19 @@ use Rattle.answer_rules.specs.Variants.{
 }
 use Rattle.table_rules.specs.Rules.Choosing.{prices_for, run_of}
 use Rattle.variants_root.specs.Several.{if_formed, literal_answer, class_answer}
-use Rattle.extract.proofs.VariantFacts.WayLaws.{at-fault, at-bad}
-use Rattle.extract.proofs.RootLaws.{differ, root-bad, root-literal, root-class, sort-below, literal-below}
+use Rattle.table_roots.proofs.RootLaws.{differ, root-bad, root-literal, root-class, sort-below, literal-below}
 
 -- What variants answer, by the file, the root and its kind.
 module _ (file : List ℕ) (s v most : ℕ) (l : Lending) where
+  pub at-fault : (x : Refusal) → table_at file ≡ fault x → variants_at file s v most l ≡ variants_refused x l
+  unfolding variants_at
+  at-fault x e = rw (e, variants_at)
+
   module _ (t : Table) (k : ℕ) (e : table_at file ≡ got t k) where
+    pub at-bad : is_root t s v ≡ false → variants_at file s v most l ≡ variants_refused BadRoot l
+    unfolding variants_at
+    at-bad q = rw (e, q, variants_at)
+
     module _ (p : is_root t s v ≡ true) where
       at-root : variants_at file s v most l ≡ if_formed l (variants_of t s v most l)
       unfolding variants_at if_formed

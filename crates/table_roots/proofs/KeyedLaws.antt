@@ -22,7 +22,7 @@ use Rattle.table_rows.specs.declared.Loaded.TheVariants.{Class}
 use Rattle.variant_order.specs.Arrays.{cells_in}
 use Rattle.variants_root.specs.Flat.{VariantTable}
 use Rattle.variants_root.specs.Several.{KeyedTable}
-use Rattle.extract.proofs.TableLaws.{functions-length, laid, flat-table}
+use Rattle.table_roots.proofs.TableLaws.{functions-length, laid, flat-table}
 
 module _
     (t : Table) (known : Known t) (root : ℕ) (r : Result Loaded Refusal) (values : List ℤ)

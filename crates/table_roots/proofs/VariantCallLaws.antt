@@ -1,7 +1,7 @@
 -- Each answer of `variants` is the definition's, by what was loaded. Assumes nothing.
 use mathlib.Core.Path.{◌≡◌, ap, sym, ◌∙◌}
 use mathlib.Core.List.{List}
-use Prim.Native.Nat.{ℕ}
+use Prim.Native.Nat.{ℕ, ◌≤◌}
 use lib.IntN.{ℤ, pos}
 use lib.ListN.{length, get_or}
 use Rattle.refusal.specs.declared.Refusal.{Refusal}
@@ -14,11 +14,18 @@ use Rattle.table_rows.specs.declared.Loaded.TheVariants.{Class, Literal}
 use Rattle.std.specs.Prelude.{Result, Ok, Err}
 use Rattle.table_rows.proofs.LoadLaws.{accepted-of}
 use Rattle.answer_rules.specs.Variants.{VariantsAfter, Lending, variants_refused, variants_at}
-use Rattle.variants_root.specs.Several.{literal_answer, KeyedTable, SomeTable, ClassAnswers}
-use Rattle.extract.proofs.TableLaws.{value-is}
-use Rattle.extract.proofs.KeyedLaws.{cells-length, keyed-table}
-use Rattle.extract.proofs.VariantRootLaws.{LiteralRoot, ClassRoot, variants-refuse, literal-root, class-root}
-use Rattle.extract.proofs.CallLaws.{standing}
+use Rattle.variant_answers.specs.Kept.{lending}
+use Rattle.variants_root.specs.Several.{literal_answer, class_answer, KeyedTable, LaidTable}
+use Rattle.variants_root.specs.Chosen.{PicksOr, ClassChosen}
+use Rattle.variants_root.specs.declared.Choice.{Choice}
+use Rattle.term_rules.specs.Lent.{Store}
+use Rattle.term_rules.specs.WellFormed.{well_formed}
+use mathlib.Core.Bool.{Bool}
+use native.Mathlib.Omega.{arith}
+use Rattle.table_roots.proofs.TableLaws.{value-is}
+use Rattle.table_roots.proofs.KeyedLaws.{cells-length, keyed-table}
+use Rattle.table_roots.proofs.VariantRootLaws.{LiteralRoot, ClassRoot, variants-refuse, literal-root, class-root}
+use Rattle.table_roots.proofs.CallLaws.{standing}
 
 module _
     (file : List ℕ) (s v : ℕ) (r : Result Loaded Refusal) (values : List ℤ)
@@ -65,7 +72,8 @@ module _
     stands-class :
         Standing root-class.table s r values labels arities functions cells order flat heads starts children
     stands-class =
-        standing file s v r values labels arities functions cells order flat heads starts children l root-class.table root-class.place root-class.is
+        standing file s v r values labels arities functions cells order flat heads starts children l root-class.table
+        root-class.place root-class.is
 
     pub class-cells : 9216 ≡ length cells
     class-cells =
@@ -78,11 +86,31 @@ module _
         keyed-table root-class.table known-class s r values labels arities functions cells order flat heads starts
         children stands-class c n m w e root-class.sort
 
-    pub some-table : SomeTable n m w order flat heads starts children functions labels values cells
-    some-table = record { table = root-class.table; root = s; is = is-keyed }
+    pub laid-table : LaidTable n m w order flat heads starts children functions labels cells
+    laid-table = record { table = root-class.table; root = s; values = values; is = is-keyed }
 
-    pub variants-of-class :
-        (most : ℕ) (lent : Lending) (a : VariantsAfter) →
-        ClassAnswers n m w order flat heads starts children functions labels values cells c most lent a →
-        a ≡ variants_at file s v most lent
-    variants-of-class most lent a q = q root-class.table s is-keyed ∙ root-class.answer most lent
+    pub few-classes : w ≤ 512
+    few-classes = omega (arith, is-keyed.classes_are, is-keyed.is.is.known.few_classes)
+
+    -- What is told of the class's table is told of the file.
+    pub picks-of-class :
+        (most : ℕ) (rows edges ranks prices list : List ℕ) (r : Result Choice Refusal) (formed : Bool) (lent : Store) →
+        well_formed lent ≡ formed →
+        ClassChosen n m w order flat heads starts children functions labels cells c most formed r rows edges ranks
+        prices list →
+        PicksOr rows edges ranks labels values prices list r lent (variants_at file s v most)
+    unfolding PicksOr
+    picks-of-class most rows edges ranks prices list r formed lent is p =
+        go r (p lent is values root-class.table s is-keyed)
+      where
+        go :
+            (r : Result Choice Refusal) →
+            PicksOr rows edges ranks labels values prices list r lent
+            (λ (l : Lending). class_answer root-class.table s c most l) →
+            PicksOr rows edges ranks labels values prices list r lent (variants_at file s v most)
+        go (Ok k) q = record {
+          room = q.room;
+          ready = q.ready;
+          answers = λ ws ts a x. q.answers ws ts a x ∙ root-class.answer most (lending lent ws ts);
+        }
+        go (Err x) q = λ ws ts. q ws ts ∙ root-class.answer most (lending lent ws ts)

@@ -1,0 +1,2 @@
+-- The definitions of the crate `table_roots`.
+pub mod Chosen
