@@ -43,6 +43,11 @@ fn told_counts(r: Result<Counts, Refusal>) -> Shape
 pub fn told_file(file: &[u8]) -> Shape
     ensures { result ≡ shape_of (table_at file.now) }
 {
-    let mut table = Table::empty();
-    told_counts(file_reader::read_into(file, &mut table))
+    let Table {
+        mut sorts,
+        mut literals,
+        mut functions,
+        mut rows,
+    } = Table::empty();
+    told_counts(file_reader::read_parts(file, &mut sorts, &mut literals, &mut functions, &mut rows))
 }

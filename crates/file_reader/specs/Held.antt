@@ -1,9 +1,11 @@
 -- The reading of the rows against the structs of sorts and functions, and a function put into the struct of functions.
 -- Assumes nothing: definitions.
-use Rattle.std.specs.Prelude.{ℕ, List}
+use Rattle.std.specs.Prelude.{ℕ, List, ℤ}
 use Rattle.bits.specs.Got.{Got}
 use Rattle.file_rules.specs.declared.Sorts.{Sorts}
 use Rattle.file_rules.specs.declared.Functions.{Functions}
+use Rattle.file_rules.specs.declared.Rows.{Rows}
+use Rattle.file_rules.specs.declared.Table.{Table}
 use Rattle.file_rules.specs.Table.{Function, Row}
 use Rattle.file_reader.specs.Parts.{rows_part_in, tail_in}
 use Rattle.file_reader.specs.Put.{PutFunction}
@@ -22,3 +24,8 @@ put_function i before after =
     before.hidden before.outputs before.arities before.arguments
     after.names after.declared after.costs after.unextractable
     after.hidden after.outputs after.arities after.arguments
+
+-- The table of four parts.
+abbrev pub table_of : Sorts → List ℤ → Functions → Rows → Table
+table_of sorts literals functions rows =
+    record { sorts = sorts; literals = literals; functions = functions; rows = rows }

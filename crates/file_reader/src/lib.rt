@@ -7,7 +7,7 @@ ghost use Rattle.file_rules.specs.Held.{holds, holds_rows, empty};
 ghost use Rattle.file_rules.specs.Reading.{Counts as ReadsSome};
 ghost use Rattle.file_rows.specs.Held.{sound};
 ghost use Rattle.file_reader.specs.Outcome.{Answers};
-ghost use Rattle.file_reader.specs.Held.{tail_of};
+ghost use Rattle.file_reader.specs.Held.{tail_of, table_of};
 
 use file_rules::{Counted, Counts, Functions, Rows, Sorts, Table};
 use refusal::Refusal;
@@ -40,34 +40,49 @@ fn read_tail(
     })
 }
 
-// The table file `s` into arrays of zeros: how many sorts, literals, functions and rows it has.
+// The table file `s` into the parts of a table, which are arrays of zeros: how many sorts, literals, functions and rows
+// it has. They are lent one by one, so that a caller who reads none of an array again need not have it.
+pub fn read_parts(
+    s: &[u8],
+    sorts: &mut Sorts,
+    literals: &mut [i64; 512],
+    functions: &mut Functions,
+    rows: &mut Rows,
+) -> Result<Counts, Refusal>
+    requires { table_of sorts.old literals.old functions.old rows.old ≡ empty }
+    ensures { Answers (table_at s.now) result (holds (table_of sorts.new literals.new functions.new rows.new)) }
+{
+    let version = parts::read_version(s)?;
+    let sorted = parts::read_sorts(s, version, sorts)?;
+    let constants = parts::read_literals(s, sorted.next, literals)?;
+    let symbols = parts::read_functions(s, constants.next, sorted.count, sorts, functions)?;
+    let read = read_tail(
+        s,
+        symbols.next,
+        sorts,
+        constants.count as u64,
+        symbols.count as u64,
+        functions,
+        rows,
+    )?;
+    Ok(Counts {
+        sorts: sorted.count,
+        literals: constants.count,
+        functions: symbols.count,
+        rows: read.count,
+    })
+}
+
+// The same into a table of zeros.
 pub fn read_into(s: &[u8], table: &mut Table) -> Result<Counts, Refusal>
     requires table_value { table.old ≡ empty }
     ensures { Answers (table_at s.now) result (holds table.new) }
 {
-    let version = parts::read_version(s)?;
-    let sorts = parts::read_sorts(s, version, &mut table.sorts)?;
-    let constants = parts::read_literals(s, sorts.next, &mut table.literals)?;
-    let symbols = parts::read_functions(
-        s,
-        constants.next,
-        sorts.count,
-        &table.sorts,
-        &mut table.functions,
-    )?;
-    let rows = read_tail(
-        s,
-        symbols.next,
-        &table.sorts,
-        constants.count as u64,
-        symbols.count as u64,
-        &table.functions,
-        &mut table.rows,
-    )?;
-    Ok(Counts {
-        sorts: sorts.count,
-        literals: constants.count,
-        functions: symbols.count,
-        rows: rows.count,
-    })
+    let Table {
+        sorts,
+        literals,
+        functions,
+        rows,
+    } = table;
+    read_parts(s, sorts, literals, functions, rows)
 }

@@ -3,4 +3,4 @@ use Rattle.c_told.proofs.files.FileLaws.{file-told}
 use Rattle.c_told.proofs.files.told_file.Goals as goal
 
 pub returns : goal.returns
-returns c = file-told _ c.read_into.ensures c.told_counts.ensures
+returns c = file-told _ c.read_parts.ensures c.told_counts.ensures
