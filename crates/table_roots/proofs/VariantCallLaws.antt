@@ -15,7 +15,14 @@ use Rattle.std.specs.Prelude.{Result, Ok, Err}
 use Rattle.table_rows.proofs.LoadLaws.{accepted-of}
 use Rattle.answer_rules.specs.Variants.{VariantsAfter, Lending, variants_refused, variants_at}
 use Rattle.variant_answers.specs.Kept.{lending}
-use Rattle.variants_root.specs.Several.{literal_answer, class_answer, KeyedTable, LaidTable}
+use Rattle.variants_root.specs.Several.{
+  literal_answer,
+  class_answer,
+  KeyedTable,
+  SomeTable,
+  LaidTable,
+  ClassAnswers,
+}
 use Rattle.variants_root.specs.Chosen.{PicksOr, ClassChosen}
 use Rattle.variants_root.specs.declared.Choice.{Choice}
 use Rattle.term_rules.specs.Lent.{Store}
@@ -85,6 +92,15 @@ module _
     is-keyed =
         keyed-table root-class.table known-class s r values labels arities functions cells order flat heads starts
         children stands-class c n m w e root-class.sort
+
+    pub some-table : SomeTable n m w order flat heads starts children functions labels values cells
+    some-table = record { table = root-class.table; root = s; is = is-keyed }
+
+    pub variants-of-class :
+        (most : ℕ) (lent : Lending) (a : VariantsAfter) →
+        ClassAnswers n m w order flat heads starts children functions labels values cells c most lent a →
+        a ≡ variants_at file s v most lent
+    variants-of-class most lent a q = q root-class.table s is-keyed ∙ root-class.answer most lent
 
     pub laid-table : LaidTable n m w order flat heads starts children functions labels cells
     laid-table = record { table = root-class.table; root = s; values = values; is = is-keyed }

@@ -2,3 +2,4 @@
 pub mod Tallies
 pub mod Met
 pub mod Loans
+pub mod Long

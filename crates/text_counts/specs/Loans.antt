@@ -9,7 +9,7 @@ pub record SameLoans (a b : Found) : Type 0 where
   pub indents : b.indents.ghost_name ≡ a.indents.ghost_name
 
 -- each table is as long as it was
-pub record Long (a b : Found) : Type 0 where
+pub record SameLengths (a b : Found) : Type 0 where
   pub places : length b.places.now ≡ length a.places.now
   pub terms : length b.terms.now ≡ length a.terms.now
   pub indents : length b.indents.now ≡ length a.indents.now

@@ -2,7 +2,7 @@
 ghost use Rattle.std.specs.Prelude.{◌≡◌, ◌<◌, ◌≤◌, length};
 ghost use Rattle.text_counts.specs.Tallies.{Linked};
 ghost use Rattle.text_counts.specs.Met.{Ready, Done, flag_of, Marked, Blank, AllMet};
-ghost use Rattle.text_counts.specs.Loans.{SameLoans, Long};
+ghost use Rattle.text_counts.specs.Loans.{SameLoans, SameLengths};
 
 // What has been bound so far, in tables that are lent: the first `count` bindings by term and indent, and for each term
 // its place, which is 0 without a binding, else one more than the binding's number.
@@ -20,7 +20,7 @@ pub fn meet(records: &[u64], wanted: &[u64], found: &mut Found, n: usize, i: usi
     requires ready { Ready records.now wanted.now found.old.places.now found.old.terms.now found.old.indents.now
         n found.old.count i t }
     ensures loans { SameLoans found.old found.new }
-    ensures long { Long found.old found.new }
+    ensures long { SameLengths found.old found.new }
     ensures done { Done records.now wanted.now found.old.terms.now found.old.indents.now found.old.count i t
         found.new.places.now found.new.terms.now found.new.indents.now found.new.count }
 {
@@ -72,7 +72,7 @@ pub fn bind(records: &[u64], counts: &mut [u64], sizes: &mut [u64], found: &mut 
     requires n_nonzero { 0 < n }
     requires blank { Blank counts.old sizes.old found.old.places.now found.old.terms.now found.old.indents.now n }
     ensures loans { SameLoans found.old found.new }
-    ensures long { Long found.old found.new }
+    ensures long { SameLengths found.old found.new }
     ensures all_met { AllMet records.now found.new.places.now found.new.terms.now found.new.indents.now
         n found.new.count }
 {

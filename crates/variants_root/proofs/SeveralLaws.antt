@@ -1,5 +1,5 @@
 -- Each answer of the code is the definition's. Assumes nothing.
-use mathlib.Core.Path.{◌≡◌, refl, ap, sym, ◌∙◌}
+use mathlib.Core.Path.{◌≡◌, refl, ap, sym, ◌∙◌, subst}
 use mathlib.Core.Bool.{true, false}
 use mathlib.Core.List.{List, [], ◌∷◌}
 use Prim.Native.Nat.{ℕ, ◌<◌, ◌≤◌}
@@ -27,6 +27,7 @@ use Rattle.answer_rules.specs.Variants.{
   room_for_results,
 }
 use Rattle.variant_answers.specs.Kept.{lending}
+use Rattle.variants_root.specs.Flat.{VariantsReady}
 use Rattle.variants_root.specs.Several.{seen_variants, if_formed, literal_answer, LaidTable}
 use Rattle.variants_root.specs.Chosen.{Picks, ZeroRanks}
 use Rattle.variants_root.specs.declared.Choice.{Choice}
@@ -115,11 +116,30 @@ module _ (s : Store) (ws ts : List ℕ) (z : ℤ) (formed : well_formed s ≡ tr
         ∙ formed-is l (variant_literal l (add s (literal z))) formed
 
 -- A table has at most 512 classes.
+pub few_classes :
+    {outputs heads starts children order functions labels : List ℕ} {values : List ℤ} {cells : List ℕ} {n : ℕ}
+    {s : Store} →
+    VariantsReady outputs heads starts children order functions labels values cells n s →
+    n ≤ 512
+few_classes r = omega (arith, r.classes, r.is.is.known.few_classes)
+
+-- So has one that is laid.
 pub laid-few :
     {n m w : ℕ} {order flat heads starts children functions labels cells : List ℕ} →
     LaidTable n m w order flat heads starts children functions labels cells →
     w ≤ 512
 laid-few r = omega (arith, r.is.classes_are, r.is.is.is.known.few_classes)
+
+-- The same lists with their own length for the number of classes.
+pub ready_with :
+    {outputs heads starts children order functions labels : List ℕ} {values : List ℤ} {cells : List ℕ} {n m :
+    ℕ}
+    {s : Store} →
+    n ≡ m →
+    VariantsReady outputs heads starts children order functions labels values cells n s →
+    VariantsReady outputs heads starts children order functions labels values cells m s
+ready_with {outputs} {heads} {starts} {children} {order} {functions} {labels} {values} {cells} {s = s} e r =
+    subst (λ (k : ℕ). VariantsReady outputs heads starts children order functions labels values cells k s) e r
 
 -- The costs of the call's own are zeros before, and so are the ranks.
 pub blank-ranks :

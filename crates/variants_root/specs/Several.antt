@@ -60,6 +60,13 @@ pub record KeyedTable
       VariantTable t root (take n flat) (take n heads) (take (n + 1) starts) (take m children) (take n order) functions
       labels values cells
 
+-- There is a table and a root of which `KeyedTable` holds.
+pub record SomeTable
+    (n m w : ℕ) (order flat heads starts children functions labels : List ℕ) (values : List ℤ) (cells : List ℕ) : Type 0 where
+  pub table : Table
+  pub root : ℕ
+  pub is : KeyedTable table root n m w order flat heads starts children functions labels values cells
+
 -- There is a table, with its literals, and a root of which `KeyedTable` holds.
 pub record LaidTable
     (n m w : ℕ) (order flat heads starts children functions labels cells : List ℕ) : Type 0 where
@@ -67,3 +74,27 @@ pub record LaidTable
   pub root : ℕ
   pub values : List ℤ
   pub is : KeyedTable table root n m w order flat heads starts children functions labels values cells
+
+-- For every table that the lists can be of, the answer for class c and at most `most` variants is the definition's.
+abbrev pub ClassAnswers :
+    ℕ →
+    ℕ →
+    ℕ →
+    List ℕ →
+    List ℕ →
+    List ℕ →
+    List ℕ →
+    List ℕ →
+    List ℕ →
+    List ℕ →
+    List ℤ →
+    List ℕ →
+    ℕ →
+    ℕ →
+    Lending →
+    VariantsAfter →
+    Type 0
+ClassAnswers n m w order flat heads starts children functions labels values cells c most l a =
+    (t : Table) (root : ℕ) →
+    KeyedTable t root n m w order flat heads starts children functions labels values cells →
+    a ≡ class_answer t root c most l

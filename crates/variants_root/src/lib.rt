@@ -1,22 +1,26 @@
-// The variants of a root, once a table is laid flat: a literal's one, over a lent store, or what is chosen of a class,
-// which `variant_answers` answers by. A refusal leaves what is lent of the store as it was. (src/extract.rs,
-// extract_variants_with_sort)
+// The variants of a root, once a table is laid flat: a literal's one, or a class's, over a lent store; or what is
+// chosen of a class alone, which `variant_answers` answers by. A refusal leaves what is lent of the store as it was.
+// (src/extract.rs, extract_variants_with_sort)
 #![tactic(auto)]
 
 ghost use Rattle.std.specs.Prelude.{◌≡◌, ◌<◌, ◌≤◌, pos, length, get_or};
 ghost use Rattle.term_rules.specs.Lent.{store};
 ghost use Rattle.term_rules.specs.WellFormed.{well_formed};
 ghost use Rattle.term_layout.specs.Sound.{lent_of};
+ghost use Rattle.term_add.specs.Held.{held, SameLoans};
 ghost use Rattle.variant_answers.specs.Kept.{lending};
-ghost use Rattle.variants_root.specs.Several.{seen_counted, literal_answer, LaidTable};
+ghost use Rattle.variants_root.specs.Several.{seen_variants, seen_counted, literal_answer, LaidTable};
+ghost use Rattle.variants_root.specs.Several.{SomeTable, ClassAnswers};
 ghost use Rattle.variants_root.specs.Chosen.{ZeroRanks, ClassChosen};
 
+use build::plan::Plan;
 use refusal::Refusal;
 use table_layout::pack;
+use term_add::store_mut::StoreMut;
 use term_layout::lent::Lent;
 pub use variant_answers::Kept;
 
-pub mod kept_rows; // kept_rows.rt: the rows of a class that are kept, over flat rows: costs and choice, then the rows
+pub mod kept_rows; // kept_rows.rt: the rows of a class that are kept, over flat rows, and the variants by them
 
 // How many rows are kept of a class, and the passes.
 #[derive(Clone, Copy)]
@@ -147,4 +151,82 @@ pub fn choose_class(
         prices,
         list,
     ))
+}
+
+// The first `most` variants of class `c`, over the lists that a table was laid in: `n` rows with `m` children, over
+// `w` classes. It is `choose_class` and `variant_answers::answer` in one, for a caller that has its store while it
+// chooses.
+pub fn of_class(
+    flat: &[u64],
+    heads: &[u64],
+    starts: &[usize],
+    children: &[u64],
+    order: &[u64],
+    functions: &[u64],
+    labels: &[u8],
+    values: &[i64],
+    cells: &[u64],
+    c: u64,
+    n: usize,
+    m: usize,
+    w: usize,
+    most: usize,
+    store: &mut StoreMut,
+    paid: &mut [u64],
+    found: &mut [u64],
+) -> Result<Kept, Refusal>
+    requires { SomeTable n m w order.now flat.now heads.now starts.now children.now functions.now
+        labels.now values.now cells.now }
+    ensures loans { SameLoans store.old store.new }
+    ensures variants { ClassAnswers n m w order.now flat.now heads.now
+        starts.now children.now functions.now labels.now
+        values.now cells.now c most
+        (lending (held store.old)
+        paid.old found.old)
+        (seen_variants result (held store.new)
+        paid.new found.new) }
+{
+    let mut rows = [0u16; table_layout::ROWS];
+    let mut all_ranks: [u64; 512] = [0; 512];
+    let mut all_edges: [u16; 512] = [0; 512];
+    let mut prices = [0u64; 1024];
+    let mut list = [0u64; 1024];
+    let ranks = &mut all_ranks[..w];
+    let edges = &mut all_edges[..w];
+    let choice = choose_class(
+        flat,
+        heads,
+        starts,
+        children,
+        order,
+        functions,
+        labels,
+        cells,
+        c,
+        n,
+        m,
+        most,
+        &store.lent(),
+        &mut rows,
+        ranks,
+        edges,
+        &mut prices,
+        &mut list,
+    )?;
+    let plan = Plan {
+        rows: &rows,
+        edges,
+        labels,
+        values,
+    };
+    variant_answers::answer(
+        &plan,
+        ranks,
+        &prices,
+        &list[..choice.count],
+        choice.passes,
+        store,
+        paid,
+        found,
+    )
 }

@@ -14,8 +14,15 @@ use Rattle.text_rules.specs.Counts.{in_turn}
 use Rattle.text_rules.specs.Bindings.{Bound, nowhere, find}
 use Rattle.text_pieces.specs.Readable.{Inside}
 use Rattle.text_counts.specs.Met.{bounds, place_no, zeros, Met, met_at}
+use Rattle.text_counts.specs.Loans.{SameLengths}
+use Rattle.text_counts.specs.Long.{Long}
+use Rattle.text_counts.specs.declared.bindings.Found.{Found}
 use Rattle.text_counts.proofs.bindings.FindLaws.{one, find-last, find-other}
 use Rattle.text_counts.proofs.bindings.MeetLaws.{turn_step, turn-none, met-above}
+
+-- Tables that are 1,024 long and keep their lengths are so after.
+pub long-kept : (a b : Found) → SameLengths a b → Long a → Long b
+long-kept a b s l = (s.places ∙ l.0, (s.terms ∙ l.1.0, s.indents ∙ l.1.1))
 
 pub bounds-step :
     (terms indents : List ℕ) (m : ℕ) →
