@@ -1,4 +1,4 @@
--- The tables of the bindings found are as long as a store has records. Assumes nothing: definitions.
+-- The tables of the bindings found have a place for each record of the longest store. Assumes nothing: definitions.
 use Rattle.std.specs.Prelude.{◌≡◌, length}
 use Rattle.text_counts.specs.declared.bindings.Found.{Found}
 

@@ -1,6 +1,6 @@
--- What is chosen of a class, by its case, and over lists with another number for that of the classes. Assumes
--- nothing.
+-- What is chosen of a class, by its case: of packed rows, and of the lists of a table. Assumes nothing.
 use mathlib.Core.Path.{◌≡◌, subst}
+use mathlib.Core.Bool.{Bool}
 use mathlib.Core.List.{List}
 use Prim.Native.Nat.{ℕ, ◌≤◌}
 use native.Mathlib.Omega.{arith}
@@ -8,15 +8,18 @@ use lib.IntN.{ℤ}
 use Rattle.std.specs.Prelude.{Result, Ok, Err}
 use Rattle.refusal.specs.declared.Refusal.{Refusal}
 use Rattle.term_rules.specs.Lent.{Store}
+use Rattle.term_rules.specs.WellFormed.{well_formed}
 use Rattle.file_rules.specs.Table.{Table}
-use Rattle.answer_rules.specs.Variants.{VariantsAfter, Lending, variants_refused}
+use Rattle.table_rules.specs.Rules.Choosing.{run_of, prices_for}
+use Rattle.answer_rules.specs.Variants.{VariantsAfter, Lending, kept_rows, variants_of_rows, variants_refused}
 use Rattle.variant_answers.specs.Kept.{lending}
-use Rattle.variants_root.specs.Several.{KeyedTable, SomeTable, LaidTable}
-use Rattle.variants_root.specs.Chosen.{Picks, PicksOr}
+use Rattle.variants_root.specs.Flat.{KeyedReady}
+use Rattle.variants_root.specs.Several.{KeyedTable, SomeTable, LaidTable, class_answer}
+use Rattle.variants_root.specs.Chosen.{Picks, PicksOr, PackedChosen, ClassChosen}
 use Rattle.variants_root.specs.declared.Choice.{Choice}
 
 -- Another number for the number of classes, which is equal.
-pub keyed-with :
+keyed-with :
     (t : Table) (root n m : ℕ) (order flat heads starts children functions labels : List ℕ) (values : List ℤ)
     (cells : List ℕ) (w v : ℕ) →
     w ≡ v →
@@ -47,18 +50,44 @@ laid-of-some {n} {m} {w} {order} {flat} {heads} {starts} {children} {functions} 
       is = keyed-with r.table r.root n m order flat heads starts children functions labels values cells w v e r.is;
     }
 
--- What is chosen, or the refusal.
+-- What is kept by packed rows, over a well-formed store.
+pub picks-of-keyed :
+    {outputs heads starts children rows labels : List ℕ} {values : List ℤ} {cells : List ℕ} {n : ℕ} {s : Store}
+    {k : Choice} {edges ranks prices list : List ℕ} (c most : ℕ)
+    (r : KeyedReady outputs heads starts children rows labels values cells n s) →
+    PackedChosen outputs heads starts children rows labels cells n c most k edges ranks prices list →
+    Picks rows edges ranks labels values prices list k s
+    (λ (l : Lending).
+    variants_of_rows r.is.table (prices_for r.is.table r.is.root) (run_of r.is.table r.is.root).passes l
+    (kept_rows r.is.table (prices_for r.is.table r.is.root) c most))
+picks-of-keyed {values = values} {s = s} c most r p =
+    p r.order r.functions values r.packed r.is.table r.is.root r.is.is r.is.classes s r.is.formed
+
+-- What is chosen over the lists of a table, or the refusal.
 module _
-    (rows edges ranks labels : List ℕ) (values : List ℤ) (prices list : List ℕ) (r : Result Choice Refusal) (s : Store)
-    (told : Lending → VariantsAfter) (h : PicksOr rows edges ranks labels values prices list r s told) where
-  abbrev of : Result Choice Refusal → Type 0
-  of x = PicksOr rows edges ranks labels values prices list x s told
+    {n m w : ℕ} {order flat heads starts children functions labels : List ℕ} {values : List ℤ} {cells : List ℕ}
+    {formed : Bool} (t : Table) (root : ℕ)
+    (h : KeyedTable t root n m w order flat heads starts children functions labels values cells)
+    (v : ℕ) (e : w ≡ v) (c most : ℕ) (q : Result Choice Refusal) (rows edges ranks prices list : List ℕ)
+    (p : ClassChosen n m v order flat heads starts children functions labels cells c most formed q rows edges ranks
+    prices list)
+    (s : Store) (is : well_formed s ≡ formed) where
+  abbrev told : Lending → VariantsAfter
+  told l = class_answer t root c most l
 
-  pub picked : (k : Choice) → r ≡ Ok k → Picks rows edges ranks labels values prices list k s told
-  unfolding PicksOr
-  picked k e = subst of e h
+  abbrev chosen : Result Choice Refusal → Type 0
+  chosen x = PicksOr rows edges ranks labels values prices list x s told
 
-  pub not-picked :
-      (x : Refusal) → r ≡ Err x → (ws ts : List ℕ) → variants_refused x (lending s ws ts) ≡ told (lending s ws ts)
+  is-chosen : chosen q
+  is-chosen =
+      p s is values t root
+      (keyed-with t root n m order flat heads starts children functions labels values cells w v e h)
+
+  pub picks-of-table : (k : Choice) → q ≡ Ok k → Picks rows edges ranks labels values prices list k s told
   unfolding PicksOr
-  not-picked x e = subst of e h
+  picks-of-table k d = subst chosen d is-chosen
+
+  pub refused-of-table :
+      (x : Refusal) → q ≡ Err x → (ws ts : List ℕ) → variants_refused x (lending s ws ts) ≡ told (lending s ws ts)
+  unfolding PicksOr
+  refused-of-table x d = subst chosen d is-chosen

@@ -62,7 +62,8 @@ pub record KeyedTable
 
 -- There is a table and a root of which `KeyedTable` holds.
 pub record SomeTable
-    (n m w : ℕ) (order flat heads starts children functions labels : List ℕ) (values : List ℤ) (cells : List ℕ) : Type 0 where
+    (n m w : ℕ) (order flat heads starts children functions labels : List ℕ) (values : List ℤ)
+    (cells : List ℕ) : Type 0 where
   pub table : Table
   pub root : ℕ
   pub is : KeyedTable table root n m w order flat heads starts children functions labels values cells

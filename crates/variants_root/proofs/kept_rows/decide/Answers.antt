@@ -4,6 +4,7 @@ use Prim.Native.Nat.{ℕ}
 use lib.ListN.{length-replicate}
 use lib.Seq.{length-take-le}
 use Rattle.term_add.specs.Held.{held}
+use Rattle.variants_root.proofs.PicksLaws.{picks-of-keyed}
 use native.Mathlib.Omega.{arith}
 use Rattle.variants_root.proofs.kept_rows.decide.Goals as goal
 
@@ -28,31 +29,19 @@ keep-choice-requires c =
     }
 
 pub slice_bounds-list-end : goal.slice_bounds-list-end
-slice_bounds-list-end c =
-    let k = c.requires.keyed_ready in
-    let p =
-    c.keep-choice.ensures k.order k.functions c.args.values.now k.packed k.is.table k.is.root k.is.is k.is.classes
-    (held c.args.store.now) k.is.formed in
-    p.room
+slice_bounds-list-end c = (picks-of-keyed _ _ c.requires.keyed_ready c.keep-choice.ensures).room
 
 pub slice_bounds-answer-end-2 : goal.slice_bounds-answer-end-2
 slice_bounds-answer-end-2 c =
-    let k = c.requires.keyed_ready in
-    let p =
-    c.keep-choice.ensures k.order k.functions c.args.values.now k.packed k.is.table k.is.root k.is.is k.is.classes
-    (held c.args.store.now) k.is.formed in
+    let p = picks-of-keyed _ _ c.requires.keyed_ready c.keep-choice.ensures in
     sym (length-take-le c.keep-choice.result.count c.keep-choice.new.list p.room)
 
 pub answer-requires : goal.answer-requires
-answer-requires c =
-    let k = c.requires.keyed_ready in
-    let p =
-    c.keep-choice.ensures k.order k.functions c.args.values.now k.packed k.is.table k.is.root k.is.is k.is.classes
-    (held c.args.store.now) k.is.formed in
-    p.ready
+answer-requires c = (picks-of-keyed _ _ c.requires.keyed_ready c.keep-choice.ensures).ready
 
 pub returns-clause-variants : goal.returns-clause-variants
 returns-clause-variants c order functions pk t root v e =
     let a = c.args in
-    (c.keep-choice.ensures order functions a.values.now pk t root v e (held a.store.now)
-    c.requires.keyed_ready.is.formed).answers a.paid.now a.found.now _ c.answer.ensures.variants
+    let formed = c.requires.keyed_ready.is.formed in
+    (c.keep-choice.ensures order functions a.values.now pk t root v e (held a.store.now) formed).answers a.paid.now
+    a.found.now _ c.answer.ensures.variants
